@@ -1,0 +1,3 @@
+pub mod LockTextLaws
+pub mod LockTexts
+pub mod Spelling

@@ -1,0 +1,129 @@
+ghost use Rattle.std.specs.Prelude.{◌≡◌, ℕ, ◌+◌, ◌<◌, ◌≤◌, [], ◌∷◌, ◌++◌, IsOk, IsTrue, OnOk, OnErr, IfSome, IfNone};
+
+use std::alloc::{AllocError, Global};
+use std::marker::Model;
+use vst_base::Node;
+
+/// The outputs and sends that an event makes, in order. Contracts see both lists, and how many of
+/// each can still be added without taking memory.
+#[derive(Drop)]
+pub struct Effects<O, M> {
+    outputs: Vec<O>,
+    sends: Vec<(Node, M)>,
+}
+
+impl<O, M> Model for Effects<O, M> {
+    ghost use Rattle.std.specs.Prelude.{◌-◌, vec_len, vec_capacity};
+    ghost use Rattle.handler_trait.specs.Gathering.{Gathered};
+
+    ghost Value = { Gathered O M };
+
+    ghost view = { λ e. record {
+      outputs = e.outputs.items;
+      sends = e.sends.items;
+      output_places = vec_capacity e.outputs - vec_len e.outputs;
+      send_places = vec_capacity e.sends - vec_len e.sends;
+    } };
+}
+
+impl<O: Drop, M: Drop> Effects<O, M> {
+    ghost use Rattle.handler_trait.specs.Gathering.{Gathered};
+
+    /// No outputs and no sends. It takes no memory.
+    pub fn new(alloc: Global) -> Self
+        ensures outputs { result.outputs ≡ [] }
+        ensures sends { result.sends ≡ [] }
+    {
+        Effects {
+            outputs: Vec::new(alloc),
+            sends: Vec::new(alloc),
+        }
+    }
+
+    /// Makes room for so many more outputs and sends. What is there stays, whatever the result.
+    pub fn reserve(&mut self, outputs: usize, sends: usize) -> Result<(), AllocError>
+        ensures output_places { OnOk result (outputs ≤ self.new.output_places) }
+        ensures send_places { OnOk result (sends ≤ self.new.send_places) }
+        ensures outputs { self.new.outputs ≡ self.old.outputs }
+        ensures sends { self.new.sends ≡ self.old.sends }
+    {
+        self.outputs.reserve(outputs)?;
+        self.sends.reserve(sends)
+    }
+
+    /// Adds an output. It takes no memory where a place is left.
+    pub fn output(&mut self, output: O) -> Result<(), AllocError>
+        ensures added { OnOk result (self.new.outputs ≡ self.old.outputs ++ output ∷ []) }
+        ensures err { OnErr result (self.new.outputs ≡ self.old.outputs) }
+        ensures succeeds { 0 < self.old.output_places → IsOk result }
+        ensures output_places { self.old.output_places ≤ self.new.output_places + 1 }
+        ensures sends { self.new.sends ≡ self.old.sends }
+        ensures send_places { self.new.send_places ≡ self.old.send_places }
+    {
+        self.outputs.push(output)?;
+        Ok(())
+    }
+
+    /// Adds a packet to send, with its destination.
+    pub fn send(&mut self, to: Node, message: M)
+        requires { 0 < self.old.send_places }
+        ensures added { self.new.sends ≡ self.old.sends ++ (to, message) ∷ [] }
+        ensures send_places { self.old.send_places ≤ self.new.send_places + 1 }
+        ensures outputs { self.new.outputs ≡ self.old.outputs }
+        ensures output_places { self.new.output_places ≡ self.old.output_places }
+    {
+        self.sends.push((to, message)).unwrap();
+    }
+
+    /// The outputs, in order.
+    pub fn outputs(&self) -> &[O]
+        ensures { result.now ≡ self.now.outputs }
+    {
+        &self.outputs
+    }
+
+    /// The packets to send with their destinations, in order.
+    pub fn sends(&self) -> &[(Node, M)]
+        ensures { result.now ≡ self.now.sends }
+    {
+        &self.sends
+    }
+
+    /// Moves the first output out. `None` comes where none is left.
+    pub fn next_output(&mut self) -> Option<O>
+        ensures some { IfSome result (λ first. self.old.outputs ≡ first ∷ self.new.outputs) }
+        ensures none { IfNone result ((self.old.outputs ≡ []) × (self.new ≡ self.old)) }
+        ensures sends { self.new.sends ≡ self.old.sends }
+        ensures send_places { self.new.send_places ≡ self.old.send_places }
+    {
+        if self.outputs.is_empty() {
+            return None;
+        }
+        Some(self.outputs.remove(0))
+    }
+
+    /// Moves the first packet to send out, with its destination. `None` comes where none is left.
+    pub fn next_send(&mut self) -> Option<(Node, M)>
+        ensures some { IfSome result (λ first. self.old.sends ≡ first ∷ self.new.sends) }
+        ensures none { IfNone result ((self.old.sends ≡ []) × (self.new ≡ self.old)) }
+        ensures outputs { self.new.outputs ≡ self.old.outputs }
+        ensures output_places { self.new.output_places ≡ self.old.output_places }
+        ensures send_places { self.old.send_places ≤ self.new.send_places }
+    {
+        if self.sends.is_empty() {
+            return None;
+        }
+        Some(self.sends.remove(0))
+    }
+
+    /// Drops all outputs and sends. The room stays.
+    pub fn clear(&mut self)
+        ensures outputs { self.new.outputs ≡ [] }
+        ensures sends { self.new.sends ≡ [] }
+        ensures output_places { self.old.output_places ≤ self.new.output_places }
+        ensures send_places { self.old.send_places ≤ self.new.send_places }
+    {
+        self.outputs.clear();
+        self.sends.clear();
+    }
+}

@@ -1,0 +1,20 @@
+ghost use Rattle.std.specs.Prelude.{◌≡◌, [], ◌∷◌, true, false};
+ghost use Rattle.lock_server.specs.Locks.{lock_server};
+
+use crate::LockState;
+use vst_base::{LockInput, LockMsg, LockOutput};
+
+/// The rules, on a server and two clients.
+pub fn worked()
+    ensures first_states { ((lock_server 3).init 0 ≡ LockState.Server []) × ((lock_server 3).init 2 ≡ LockState.Client false) }
+    ensures lock_asks_the_server { (lock_server 3).input 1 (LockState.Client false) LockInput.Lock ≡ record { state = LockState.Client false; outputs = []; sends = (0, LockMsg.Lock) ∷ [] } }
+    ensures unlock_gives_back { (lock_server 3).input 1 (LockState.Client true) LockInput.Unlock ≡ record { state = LockState.Client false; outputs = []; sends = (0, LockMsg.Unlock) ∷ [] } }
+    ensures unlock_of_nothing { (lock_server 3).input 1 (LockState.Client false) LockInput.Unlock ≡ record { state = LockState.Client false; outputs = []; sends = [] } }
+    ensures locked_is_told { (lock_server 3).message 1 (LockState.Client false) 0 LockMsg.Locked ≡ record { state = LockState.Client true; outputs = LockOutput.Locked ∷ []; sends = [] } }
+    ensures first_gets_it { (lock_server 3).message 0 (LockState.Server []) 1 LockMsg.Lock ≡ record { state = LockState.Server (1 ∷ []); outputs = []; sends = (1, LockMsg.Locked) ∷ [] } }
+    ensures second_waits { (lock_server 3).message 0 (LockState.Server (1 ∷ [])) 2 LockMsg.Lock ≡ record { state = LockState.Server (1 ∷ 2 ∷ []); outputs = []; sends = [] } }
+    ensures next_gets_it { (lock_server 3).message 0 (LockState.Server (1 ∷ 2 ∷ [])) 1 LockMsg.Unlock ≡ record { state = LockState.Server (2 ∷ []); outputs = []; sends = (2, LockMsg.Locked) ∷ [] } }
+    ensures nobody_waits { (lock_server 3).message 0 (LockState.Server (2 ∷ [])) 2 LockMsg.Unlock ≡ record { state = LockState.Server []; outputs = []; sends = [] } }
+    ensures nothing_to_take_back { (lock_server 3).message 0 (LockState.Server []) 2 LockMsg.Unlock ≡ record { state = LockState.Server []; outputs = []; sends = [] } }
+    ensures tick { (lock_server 3).timeout 0 (LockState.Server (1 ∷ [])) ≡ record { state = LockState.Server (1 ∷ []); outputs = []; sends = [] } }
+{}

@@ -1,0 +1,4 @@
+pub mod Places
+pub mod Eventful
+pub mod Showing
+pub mod Taken

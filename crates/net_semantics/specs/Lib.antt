@@ -1,0 +1,9 @@
+pub mod Worlds
+pub mod Steps
+pub mod Runs
+pub mod Shown
+pub mod Kept
+pub mod Taking
+pub mod RunLaws
+pub mod Echo
+pub mod EchoLaws

@@ -1,0 +1,40 @@
+ghost use Rattle.std.specs.Prelude.{◌≡◌, nat_lt, MatchResult, Ok, Err, if◌then◌else◌};
+
+use handler_trait::Handlers;
+use std::alloc::AllocError;
+use vst_base::{Node, StepRefusal};
+
+/// Node `n`, which has to exist.
+pub fn existing_node<H: Handlers>(handlers: &H, n: u32) -> Result<Node, StepRefusal>
+    ensures { result ≡ (if nat_lt n (H.meaning handlers.now).nodes then Ok n else Err StepRefusal.NoSuchNode) }
+{
+    let nodes = handlers.nodes();
+    let Ok(number) = u8::try_from(n) else {
+        return Err(StepRefusal::NoSuchNode);
+    };
+    match Node::new(number, nodes) {
+        Some(node) => Ok(node),
+        None => Err(StepRefusal::NoSuchNode),
+    }
+}
+
+/// Node `n`, which has to exist and to take input.
+pub fn input_node<H: Handlers>(handlers: &H, n: u32) -> Result<Node, StepRefusal>
+    ensures { result ≡ (if nat_lt n (H.meaning handlers.now).nodes then (if (H.meaning handlers.now).takes_input n then Ok n else Err StepRefusal.NoInputHere) else Err StepRefusal.NoSuchNode) }
+{
+    let node = existing_node(handlers, n)?;
+    if !handlers.takes_input(node) {
+        return Err(StepRefusal::NoInputHere);
+    }
+    Ok(node)
+}
+
+/// Want of memory as a refusal.
+pub fn or_memory<T>(outcome: Result<T, AllocError>) -> Result<T, StepRefusal>
+    ensures { MatchResult outcome (λ x. result ≡ Ok x) (λ _. result ≡ Err StepRefusal.Memory) }
+{
+    match outcome {
+        Ok(value) => Ok(value),
+        Err(AllocError) => Err(StepRefusal::Memory),
+    }
+}

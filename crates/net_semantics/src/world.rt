@@ -1,0 +1,292 @@
+ghost use Rattle.std.specs.Prelude.{◌≡◌, ◌≢◌, ℕ, ◌+◌, ◌<◌, [], ◌++◌, length, IsTrue, IsOk, IfOk, IfErr, OnOk, OnErr, Some, None, Ok, Err, slice_get};
+ghost use Rattle.net_semantics.specs.Worlds.{World as DefinedWorld, first_world, copies, ends};
+ghost use Rattle.net_semantics.specs.Steps.{next, refusal_of, items_of, IsAnswer};
+ghost use Rattle.net_semantics.specs.Runs.{no_recovery};
+ghost use Rattle.net_semantics.specs.Shown.{Shows, IsSound};
+ghost use Rattle.net_semantics.specs.Kept.{kept_copies};
+ghost use Rattle.net_semantics.specs.Taking.{Takes, Answers};
+ghost use Rattle.vst_base.specs.Nets.{has_kind};
+
+use crate::Trace;
+use crate::events::{first_states, input_event, message_event, publish, timeout_event};
+use crate::packets::Packets;
+use crate::refusals::{existing_node, input_node, or_memory};
+use handler_trait::{Effects, Handlers};
+use std::alloc::{AllocError, Global};
+use std::marker::Model;
+use vst_base::{Item, Net, Node, Step, StepKind, StepRefusal};
+
+/// The greatest number of steps that a world takes.
+pub const MAX_STEPS: u32 = 1_000_000;
+
+/// A network without crashes: a bag of packets, which `Dup` steps may copy.
+#[derive(Drop)]
+pub struct World<H: Handlers> {
+    alloc: Global,
+    handlers: H,
+    net: Net,
+    states: Vec<H::State>,
+    packets: Packets<H::Msg>,
+    trace: Trace<H::Input, H::Output>,
+    effects: Effects<H::Output, H::Msg>,
+    taken: u32,
+}
+
+impl<H: Handlers> Model for World<H> {
+    ghost use Rattle.std.specs.Prelude.{◌≢◌};
+    ghost use Rattle.vst_base.specs.declared.net.Net.TheVariants.{Fail};
+    ghost use Rattle.net_semantics.specs.Shown.{WorldView};
+
+    ghost Value = { WorldView H H.State H.Input H.Output H.Msg };
+
+    ghost view = { λ w. record {
+      handlers = w.handlers;
+      net = w.net;
+      states = w.states.items;
+      packets = w.packets;
+      trace = w.trace;
+      taken = w.taken;
+    } };
+
+    ghost invariant = { λ w. w.net ≢ Fail };
+}
+
+impl<H: Handlers> World<H> {
+    /// The first world of these handlers on a network without crashes.
+    pub fn new(alloc: Global, handlers: H, net: Net) -> Result<Self, AllocError>
+        requires { net ≢ Net.Fail }
+        ensures handlers { IfOk result (λ world. world.handlers ≡ handlers) }
+        ensures net { IfOk result (λ world. world.net ≡ net) }
+        ensures first { IfOk result (λ world. Shows (H.meaning handlers).nodes world (first_world {K = H.State} (H.meaning handlers))) }
+        ensures trace { IfOk result (λ world. world.trace ≡ []) }
+        ensures taken { IfOk result (λ world. world.taken ≡ 0) }
+        ensures sound { IfOk result (λ world. IsSound (H.meaning handlers) (H.sound handlers) (H.spent handlers) world) }
+    {
+        let states = first_states(alloc, &handlers)?;
+        Ok(World {
+            alloc,
+            handlers,
+            net,
+            states,
+            packets: Packets::new(alloc),
+            trace: Trace::new(alloc),
+            effects: Effects::new(alloc),
+            taken: 0,
+        })
+    }
+
+    /// Takes one step, or says why not: the first refusal that applies. A refused step changes nothing.
+    /// After want of memory the world is given up.
+    pub fn step(&mut self, step: &Step<H::Input>) -> Result<(), StepRefusal>
+        requires sound { IsSound (H.meaning self.old.handlers) (H.sound self.old.handlers) (H.spent self.old.handlers) self.old }
+        requires steps { self.old.taken < 1000000 }
+        ensures refused { (w : DefinedWorld H.State H.State H.Msg) → Shows (H.meaning self.old.handlers).nodes self.old w
+            → IsAnswer result (refusal_of self.old.net (H.meaning self.old.handlers) w step.now) }
+        ensures unchanged { IfErr result (λ why. why ≢ StepRefusal.Memory → self.new ≡ self.old) }
+        ensures next { OnOk result ((w : DefinedWorld H.State H.State H.Msg) → Shows (H.meaning self.old.handlers).nodes self.old w
+            → Shows (H.meaning self.old.handlers).nodes self.new (next (H.meaning self.old.handlers) no_recovery w step.now)) }
+        ensures trace { OnOk result ((w : DefinedWorld H.State H.State H.Msg) → Shows (H.meaning self.old.handlers).nodes self.old w
+            → self.new.trace ≡ self.old.trace ++ items_of (H.meaning self.old.handlers) w step.now) }
+        ensures taken { OnOk result (self.new.taken ≡ self.old.taken + 1) }
+        ensures handlers { self.new.handlers ≡ self.old.handlers }
+        ensures net { self.new.net ≡ self.old.net }
+        ensures sound { OnOk result (IsSound (H.meaning self.old.handlers) (H.sound self.old.handlers) (H.spent self.old.handlers) self.new) }
+        ensures dup_takes_no_memory { (k : ℕ) → step.now ≡ Step.Dup k → result ≢ Err StepRefusal.Memory }
+    {
+        if !self.net.has(step.kind()) {
+            return Err(StepRefusal::NotThisNet);
+        }
+        match step {
+            Step::In(n, input) => self.take_input(*n, input),
+            Step::Deliver(k) => self.take_deliver(*k),
+            Step::Tick(n) => self.take_tick(*n),
+            Step::Dup(k) => self.take_dup(*k),
+            Step::Lose(_) | Step::Crash(_) | Step::Reboot(_) => unreachable!(),
+        }
+    }
+
+    /// Its handlers.
+    pub fn handlers(&self) -> &H
+        ensures { result.now ≡ self.now.handlers }
+    {
+        &self.handlers
+    }
+
+    /// How many steps it has taken.
+    pub fn taken(&self) -> u32
+        ensures { result ≡ self.now.taken }
+    {
+        self.taken
+    }
+
+    /// Gives up the world for what clients saw.
+    pub fn into_trace(self) -> Trace<H::Input, H::Output>
+        ensures { result ≡ self.trace }
+    {
+        self.trace
+    }
+
+    /// What clients saw so far.
+    pub fn trace(&self) -> &Trace<H::Input, H::Output>
+        ensures { result.now ≡ self.now.trace }
+    {
+        &self.trace
+    }
+
+    /// How many copies of packet `k` are in flight, none of one that was never sent.
+    pub fn copies(&self, k: u32) -> u32
+        ensures { (w : DefinedWorld H.State H.State H.Msg) → Shows (H.meaning self.now.handlers).nodes self.now w → result ≡ copies w k }
+    {
+        self.packets.copies(k)
+    }
+
+    /// The source and the destination of packet `k`, and `None` exactly where it was never sent.
+    pub fn ends(&self, k: u32) -> Option<(Node, Node)>
+        ensures { (w : DefinedWorld H.State H.State H.Msg) → Shows (H.meaning self.now.handlers).nodes self.now w → result ≡ ends w k }
+    {
+        self.packets.ends(k)
+    }
+
+    /// How many packets were sent.
+    pub fn sent(&self) -> u32
+        requires sound { IsSound (H.meaning self.now.handlers) (H.sound self.now.handlers) (H.spent self.now.handlers) self.now }
+        ensures { (w : DefinedWorld H.State H.State H.Msg) → Shows (H.meaning self.now.handlers).nodes self.now w → result ≡ length w.packets }
+    {
+        self.packets.len() as u32
+    }
+
+    /// Whether node `n` is up: on these networks it always is.
+    pub fn is_up(&self, n: Node) -> bool
+        ensures { (w : DefinedWorld H.State H.State H.Msg) → Shows (H.meaning self.now.handlers).nodes self.now w → result ≡ w.is_up n }
+    {
+        true
+    }
+
+    /// The state of node `n`.
+    pub fn state(&self, n: Node) -> &H::State
+        requires sound { IsSound (H.meaning self.now.handlers) (H.sound self.now.handlers) (H.spent self.now.handlers) self.now }
+        requires node { n < (H.meaning self.now.handlers).nodes }
+        ensures { (w : DefinedWorld H.State H.State H.Msg) → Shows (H.meaning self.now.handlers).nodes self.now w → result.now ≡ w.state n }
+    {
+        &self.states[usize::from(n.index())]
+    }
+}
+
+impl<H: Handlers> World<H> {
+    // An input step.
+    fn take_input(&mut self, n: u32, input: &H::Input) -> Result<(), StepRefusal>
+        requires sound { IsSound (H.meaning self.old.handlers) (H.sound self.old.handlers) (H.spent self.old.handlers) self.old }
+        requires steps { self.old.taken < 1000000 }
+        requires kind { IsTrue (has_kind self.old.net StepKind.In) }
+        ensures { Answers (H.meaning self.old.handlers) (H.sound self.old.handlers) (H.spent self.old.handlers) (Step.In n input.now) self.old self.new result }
+    {
+        let node = input_node(&self.handlers, n)?;
+        or_memory(self.input(node, input))
+    }
+
+    // A step of a timer.
+    fn take_tick(&mut self, n: u32) -> Result<(), StepRefusal>
+        requires sound { IsSound (H.meaning self.old.handlers) (H.sound self.old.handlers) (H.spent self.old.handlers) self.old }
+        requires steps { self.old.taken < 1000000 }
+        requires kind { IsTrue (has_kind self.old.net StepKind.Tick) }
+        ensures { Answers (H.meaning self.old.handlers) (H.sound self.old.handlers) (H.spent self.old.handlers) (Step.Tick n) self.old self.new result }
+    {
+        let node = existing_node(&self.handlers, n)?;
+        or_memory(self.tick(node))
+    }
+
+    // A delivery.
+    fn take_deliver(&mut self, k: u32) -> Result<(), StepRefusal>
+        requires sound { IsSound (H.meaning self.old.handlers) (H.sound self.old.handlers) (H.spent self.old.handlers) self.old }
+        requires steps { self.old.taken < 1000000 }
+        requires kind { IsTrue (has_kind self.old.net StepKind.Deliver) }
+        ensures { Answers (H.meaning self.old.handlers) (H.sound self.old.handlers) (H.spent self.old.handlers) (Step.Deliver k) self.old self.new result }
+    {
+        let place = self.packets.in_flight(k)?;
+        or_memory(self.deliver(place))
+    }
+
+    // A step that copies a packet. It takes no memory.
+    fn take_dup(&mut self, k: u32) -> Result<(), StepRefusal>
+        requires sound { IsSound (H.meaning self.old.handlers) (H.sound self.old.handlers) (H.spent self.old.handlers) self.old }
+        requires steps { self.old.taken < 1000000 }
+        requires kind { IsTrue (has_kind self.old.net StepKind.Dup) }
+        ensures answers { Answers (H.meaning self.old.handlers) (H.sound self.old.handlers) (H.spent self.old.handlers) (Step.Dup k) self.old self.new result }
+        ensures no_memory { result ≢ Err StepRefusal.Memory }
+    {
+        let place = self.packets.in_flight(k)?;
+        self.packets.add_copy(place);
+        self.taken += 1;
+        Ok(())
+    }
+
+    // The node takes the input.
+    fn input(&mut self, node: Node, input: &H::Input) -> Result<(), AllocError>
+        requires sound { IsSound (H.meaning self.old.handlers) (H.sound self.old.handlers) (H.spent self.old.handlers) self.old }
+        requires steps { self.old.taken < 1000000 }
+        requires node { node < (H.meaning self.old.handlers).nodes }
+        requires takes { IsTrue ((H.meaning self.old.handlers).takes_input node) }
+        ensures takes { OnOk result (Takes (H.meaning self.old.handlers) (H.sound self.old.handlers) (H.spent self.old.handlers) (Step.In node input.now) self.old self.new) }
+        ensures handlers { self.new.handlers ≡ self.old.handlers }
+        ensures net { self.new.net ≡ self.old.net }
+    {
+        let copy = self.handlers.copy_input(self.alloc, input)?;
+        input_event(
+            &self.handlers,
+            self.alloc,
+            node,
+            &mut self.states,
+            input,
+            &mut self.effects,
+        )?;
+        self.trace.push(Item::Input(node, copy))?;
+        publish(node, &mut self.effects, &mut self.trace, &mut self.packets)?;
+        self.taken += 1;
+        Ok(())
+    }
+
+    // The node's timer fires.
+    fn tick(&mut self, node: Node) -> Result<(), AllocError>
+        requires sound { IsSound (H.meaning self.old.handlers) (H.sound self.old.handlers) (H.spent self.old.handlers) self.old }
+        requires steps { self.old.taken < 1000000 }
+        requires node { node < (H.meaning self.old.handlers).nodes }
+        ensures takes { OnOk result (Takes (H.meaning self.old.handlers) (H.sound self.old.handlers) (H.spent self.old.handlers) (Step.Tick node) self.old self.new) }
+        ensures handlers { self.new.handlers ≡ self.old.handlers }
+        ensures net { self.new.net ≡ self.old.net }
+    {
+        timeout_event(
+            &self.handlers,
+            self.alloc,
+            node,
+            &mut self.states,
+            &mut self.effects,
+        )?;
+        publish(node, &mut self.effects, &mut self.trace, &mut self.packets)?;
+        self.taken += 1;
+        Ok(())
+    }
+
+    // A copy of packet `k` comes to its destination.
+    fn deliver(&mut self, k: usize) -> Result<(), AllocError>
+        requires sound { IsSound (H.meaning self.old.handlers) (H.sound self.old.handlers) (H.spent self.old.handlers) self.old }
+        requires steps { self.old.taken < 1000000 }
+        requires copy { 0 < kept_copies (slice_get self.old.packets k) }
+        ensures takes { OnOk result (Takes (H.meaning self.old.handlers) (H.sound self.old.handlers) (H.spent self.old.handlers) (Step.Deliver k) self.old self.new) }
+        ensures handlers { self.new.handlers ≡ self.old.handlers }
+        ensures net { self.new.net ≡ self.old.net }
+    {
+        let packet = self.packets.at(k);
+        let node = packet.destination;
+        message_event(
+            &self.handlers,
+            self.alloc,
+            packet,
+            &mut self.states,
+            &mut self.effects,
+        )?;
+        self.packets.take_copy(k);
+        publish(node, &mut self.effects, &mut self.trace, &mut self.packets)?;
+        self.taken += 1;
+        Ok(())
+    }
+}

@@ -1,0 +1,4 @@
+pub mod Counting
+pub mod Devices
+pub mod Streams
+pub mod Wholes

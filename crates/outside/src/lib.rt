@@ -1,0 +1,13 @@
+//! The edge: what a program reads from, writes to and runs on, as traits. Each object counts its faults,
+//! and may tell what it holds; a real stream or socket tells none of it.
+#![tactic(auto)]
+
+mod device;
+mod sink;
+mod source;
+mod whole;
+
+pub use device::{Address, Begun, Device};
+pub use sink::{Sink, WriteOutcome};
+pub use source::{ReadOutcome, Source};
+pub use whole::{Reading, WriteFault, read_all, write_all};

@@ -1,0 +1,4 @@
+pub mod Counts
+pub mod Devices
+pub mod Sinks
+pub mod Sources

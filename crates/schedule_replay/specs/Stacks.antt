@@ -1,0 +1,42 @@
+-- Stacks as values: what replay needs of one.
+use Rattle.std.specs.Prelude.{ℕ, Bool, true, List, [], ◌∷◌, map, Option}
+use Rattle.handler_trait.specs.Handling.{Meaning, Recovery}
+use Rattle.vst_base.specs.declared.net.Net.{Net}
+use Rattle.vst_base.specs.declared.step.Step.{Step}
+use Rattle.net_semantics.specs.Runs.{no_recovery}
+use Rattle.schedule_text.specs.declared.header.Header.{Header}
+use Rattle.schedule_text.specs.Headers.{header_text}
+use Rattle.schedule_text.specs.Printing.{step_text}
+
+-- a network and handlers, how inputs and outputs are spelled, which outputs are replies, and the image below a
+-- trace: its header, if it has one, and its lines for a schedule
+pub record Stack (S K I O M : Type 0) : Type 0 where
+  pub net : Net
+  pub meaning : Meaning S I O M
+  pub recovery : Recovery S K
+  pub input_of : List ℕ → Option I
+  pub input_text : I → List ℕ
+  pub output_text : O → List ℕ
+  pub is_reply : O → Bool
+  pub image_header : List (List ℕ)
+  pub image : List (Step I) → List (List ℕ)
+
+-- how an application's inputs and outputs are spelled
+pub record Texts (I O : Type 0) : Type 0 where
+  pub input_of : List ℕ → Option I
+  pub input_text : I → List ℕ
+  pub output_text : O → List ℕ
+
+-- handlers on a network that does no more than they ask for: the image is the schedule itself, and each output a reply
+abbrev pub plain_stack : {S I O M : Type 0} → Header → Meaning S I O M → Texts I O → Stack S S I O M
+plain_stack h m t = record {
+  net = h.net;
+  meaning = m;
+  recovery = no_recovery;
+  input_of = t.input_of;
+  input_text = t.input_text;
+  output_text = t.output_text;
+  is_reply = λ _. true;
+  image_header = header_text h ∷ [];
+  image = λ ss. map (step_text t.input_text) ss
+}

@@ -1,0 +1,35 @@
+ghost use Rattle.std.specs.Prelude.{◌≡◌, [], ◌++◌, Some, None, codes};
+ghost use Rattle.schedule_text.specs.declared.why.Why.TheVariants.{Header, NoCopy, NoInputHere, NoSuchNode, Number, Text, UnknownWord, NotThisNet};
+ghost use Rattle.schedule_replay.specs.Replays.{replayed, replayed_so_far};
+
+/// Worked schedules of the lock server: what is written, and which line is refused.
+pub fn worked()
+    ensures handed_over { (replayed (codes "schedule 1 bag lock 2\nin 1 lock\ndeliver 0\ndeliver 1")).out
+        ≡ codes "in 1 lock\nout 1 locked\nbelow\nschedule 1 bag lock 2\nin 1 lock\ndeliver 0\ndeliver 1\n" }
+    ensures taken_whole { (replayed (codes "schedule 1 bag lock 2\nin 1 lock\ndeliver 0\ndeliver 1")).refused ≡ None }
+    ensures nothing_happens { (replayed (codes "schedule 1 bag lock 2\n")).out ≡ codes "below\nschedule 1 bag lock 2\n" }
+    ensures no_packet { (replayed (codes "schedule 1 bag lock 2\ndeliver 7\n")).refused ≡ Some (2, NoCopy) }
+    ensures no_packet_no_trace { (replayed (codes "schedule 1 bag lock 2\ndeliver 7\n")).out ≡ [] }
+    ensures delivered_twice { (replayed (codes "schedule 1 bag lock 2\nin 1 lock\ndeliver 0\ndeliver 0\n")).refused ≡ Some (4, NoCopy) }
+    ensures trace_before_it { (replayed (codes "schedule 1 bag lock 2\nin 1 lock\ndeliver 0\ndeliver 0\n")).out ≡ codes "in 1 lock\n" }
+    ensures server_takes_no_input { (replayed (codes "schedule 1 bag lock 2\nin 0 lock\n")).refused ≡ Some (2, NoInputHere) }
+    ensures no_node { (replayed (codes "schedule 1 bag lock 2\ntick 5\n")).refused ≡ Some (2, NoSuchNode) }
+    ensures nothing_to_read { (replayed []).refused ≡ Some (1, Header) }
+    ensures leading_zero { (replayed (codes "schedule 1 bag lock 2\ndeliver 01\n")).refused ≡ Some (2, Number) }
+    ensures no_such_input { (replayed (codes "schedule 1 bag lock 2\nin 1 grab\n")).refused ≡ Some (2, Text) }
+    ensures no_copies_on_a_bag { (replayed (codes "schedule 1 bag lock 2\nin 1 lock\ndup 0\n")).refused ≡ Some (3, NotThisNet) }
+    ensures comments_are_no_events { (replayed (codes "# two nodes\n\nschedule 1 bag lock 2\n# nothing\ndeliver 7\n")).refused ≡ Some (5, NoCopy) }
+
+    // Two clients: the second waits until the first gives the lock back.
+    ensures waits { (replayed (codes "schedule 1 bag lock 3\nin 1 lock\nin 2 lock\ndeliver 0\ndeliver 1\ndeliver 2\nin 1 unlock\ndeliver 3\ndeliver 4\n")).out
+        ≡ codes "in 1 lock\nin 2 lock\nout 1 locked\nin 1 unlock\nout 2 locked\nbelow\nschedule 1 bag lock 3\nin 1 lock\nin 2 lock\ndeliver 0\ndeliver 1\ndeliver 2\nin 1 unlock\ndeliver 3\ndeliver 4\n" }
+
+    // Packets overtake one another: the second client's comes first.
+    ensures overtakes { (replayed (codes "schedule 1 bag lock 3\nin 1 lock\nin 2 lock\ndeliver 1\ndeliver 0\ndeliver 2\n")).out
+        ≡ codes "in 1 lock\nin 2 lock\nout 2 locked\nbelow\nschedule 1 bag lock 3\nin 1 lock\nin 2 lock\ndeliver 1\ndeliver 0\ndeliver 2\n" }
+
+    // A text that broke off: its whole lines alone.
+    ensures broken_off { (replayed_so_far (codes "schedule 1 bag lock 2\nin 1 lock\nin 1 lo")).out ≡ codes "in 1 lock\n" }
+    ensures broken_off_in_order { (replayed_so_far (codes "schedule 1 bag lock 2\nin 1 lock\nin 1 lo")).refused ≡ None }
+{
+}

@@ -1,0 +1,5 @@
+pub mod CutLaws
+pub mod FrontLaws
+pub mod LineLaws
+pub mod NumberLaws
+pub mod WholeLaws

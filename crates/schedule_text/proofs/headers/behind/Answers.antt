@@ -1,0 +1,12 @@
+use Rattle.std.proofs.Common.{◌≡◌, refl, Some, None, sym, ◌∙◌, ap, arith, cond, drop, length}
+use Rattle.schedule_text.proofs.FrontLaws.{behind-short, behind-compares}
+use Rattle.schedule_text.proofs.headers.behind.Goals as goal
+
+pub returns-then-line-front : goal.returns-then-line-front
+returns-then-line-front c = sym (behind-short c.args.front.now c.args.line.now (omega arith))
+
+pub returns-then-eq : goal.returns-then-eq
+returns-then-eq c = rw (behind-compares c.args.front.now c.args.line.now c.if-line-front.false, ← c.split_at.ensures.front, ← c.if-eq.ensures) (ap Some c.split_at.ensures.back)
+
+pub returns-else-eq : goal.returns-else-eq
+returns-else-eq c = rw (behind-compares c.args.front.now c.args.line.now c.if-line-front.false, ← c.split_at.ensures.front, ← c.if-eq.ensures) refl

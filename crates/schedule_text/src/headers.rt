@@ -1,0 +1,132 @@
+ghost use Rattle.std.specs.Prelude.{◌≡◌, ◌≤◌, ◌<◌, ◌^◌, ◌++◌, OnOk, OnErr};
+ghost use Rattle.schedule_text.specs.Headers.{behind, header_by, header_front, header_of, header_text, net_word, stack_word, nodes_within, spaced};
+ghost use Rattle.schedule_text.specs.Slices.{one};
+
+use crate::Header;
+use crate::row::Row;
+use crate::numbers::push_number;
+use crate::words::number_of;
+use std::alloc::AllocError;
+use vst_base::{Net, StackId};
+
+const LOCK: Row = Row {
+    net: Net::Bag,
+    stack: StackId::Lock,
+    least: 2,
+    most: 9,
+};
+
+fn net_word(net: Net) -> &'static [u8]
+    ensures { result.now ≡ net_word net }
+{
+    match net {
+        Net::One => b"one",
+        Net::Bag => b"bag",
+        Net::Dup => b"dup",
+        Net::Fail => b"fail",
+    }
+}
+
+fn stack_word(stack: StackId) -> &'static [u8]
+    ensures { result.now ≡ stack_word stack }
+{
+    match stack {
+        StackId::Lock => b"lock",
+        StackId::LockSeq => b"lock/seq",
+        StackId::KvPb => b"kv/pb",
+        StackId::KvPbSeq => b"kv/pb/seq",
+        StackId::KvRaft => b"kv/raft",
+        StackId::TablePbSeq => b"table/pb/seq",
+        StackId::TableRaft => b"table/raft",
+        StackId::Kv => b"kv",
+        StackId::Table => b"table",
+    }
+}
+
+// What stands behind a front.
+fn behind<'a>(front: &[u8], line: &'a [u8]) -> Option<&'a [u8]>
+    ensures { one result ≡ behind front.now line.now }
+{
+    if line.len() < front.len() {
+        return None;
+    }
+    let (start, rest) = line.split_at(front.len());
+    if start == front { Some(rest) } else { None }
+}
+
+// What stands behind a word and its space.
+fn behind_word<'a>(word: &[u8], line: &'a [u8]) -> Option<&'a [u8]>
+    ensures { one result ≡ behind (spaced word.now) line.now }
+{
+    match behind(word, line) {
+        Some(rest) => behind(b" ", rest),
+        None => None,
+    }
+}
+
+// What stands behind the words of a network and a stack.
+fn behind_names(net: Net, stack: StackId, line: &[u8]) -> Option<&[u8]>
+    ensures { one result ≡ behind (spaced (net_word net) ++ spaced (stack_word stack)) line.now }
+{
+    match behind_word(net_word(net), line) {
+        Some(rest) => behind_word(stack_word(stack), rest),
+        None => None,
+    }
+}
+
+// What stands behind a header up to its number of nodes.
+fn behind_front(net: Net, stack: StackId, line: &[u8]) -> Option<&[u8]>
+    ensures { one result ≡ behind (header_front net stack) line.now }
+{
+    match behind(b"schedule 1 ", line) {
+        Some(rest) => behind_names(net, stack, rest),
+        None => None,
+    }
+}
+
+// The number of nodes, if it is in range.
+fn nodes_within(least: u8, most: u8, n: u32) -> Option<u8>
+    ensures { result ≡ nodes_within least most n }
+{
+    if u32::from(least) <= n && n <= u32::from(most) {
+        Some(n as u8)
+    } else {
+        None
+    }
+}
+
+// The header that a line is by this pairing, if it is one.
+fn header_by(row: &Row, line: &[u8]) -> Option<Header>
+    ensures { result ≡ header_by row.now line.now }
+{
+    let digits = behind_front(row.net, row.stack, line)?;
+    let n = number_of(digits)?;
+    let nodes = nodes_within(row.least, row.most, n)?;
+    Some(Header {
+        net: row.net,
+        stack: row.stack,
+        nodes,
+    })
+}
+
+/// The header that a line is: `schedule 1 <net> <stack> <nodes>`, with a pairing and a number of nodes that
+/// there is. `None` comes exactly where it is no header.
+pub fn header_of(line: &[u8]) -> Option<Header>
+    ensures { result ≡ header_of line.now }
+{
+    header_by(&LOCK, line)
+}
+
+impl Header {
+    /// Adds its line at the end, without a newline.
+    pub fn push_text(&self, out: &mut Vec<u8>) -> Result<(), AllocError>
+        ensures added { OnOk result (out.new.items ≡ out.old.items ++ header_text self.now) }
+    {
+        out.extend_from_slice(b"schedule 1 ")?;
+        out.extend_from_slice(net_word(self.net))?;
+        out.extend_from_slice(b" ")?;
+        out.extend_from_slice(stack_word(self.stack))?;
+        out.extend_from_slice(b" ")?;
+        push_number(out, u32::from(self.nodes))
+    }
+}

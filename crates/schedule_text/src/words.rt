@@ -1,0 +1,95 @@
+ghost use Rattle.std.specs.Prelude.{◌≡◌, ◌≤◌};
+ghost use Rattle.std.specs.Option.{SomeIff};
+ghost use Rattle.std.specs.List.{list_all};
+ghost use Rattle.schedule_text.specs.Words.{is_digit, is_numeral, is_text, kind_named, number_up_to, value_from, word_of};
+
+use vst_base::StepKind;
+
+/// The greatest number that a schedule names, of a node or a packet.
+pub const MAX_NUMBER: u64 = 4_294_967_295;
+
+fn is_digit(byte: u8) -> bool
+    ensures { result ≡ is_digit byte }
+{
+    byte >= b'0' && byte <= b'9'
+}
+
+fn are_digits(bytes: &[u8]) -> bool
+    ensures { result ≡ list_all is_digit bytes.now }
+{
+    bytes.iter().all(|b| is_digit(*b))
+}
+
+// Whether bytes are digits without a leading zero.
+fn is_numeral(bytes: &[u8]) -> bool
+    ensures { result ≡ is_numeral bytes.now }
+{
+    match bytes {
+        [] => false,
+        [only] => is_digit(*only),
+        [first, rest @ ..] => *first >= b'1' && is_digit(*first) && are_digits(rest),
+    }
+}
+
+// The number that digits spell, if it is at most `MAX_NUMBER`.
+fn value_of(digits: &[u8]) -> Option<u32>
+    ensures { SomeIff result (value_from 0 digits.now ≤ 4294967295) (value_from 0 digits.now) }
+{
+    let mut value = 0u64;
+    for digit in digits {
+        value = 10 * value + u64::from(digit.saturating_sub(b'0'));
+        if value > MAX_NUMBER {
+            return None;
+        }
+    }
+    Some(value as u32)
+}
+
+/// The number that bytes spell: digits without a sign or a leading zero, at most 4,294,967,295.
+pub fn number_of(bytes: &[u8]) -> Option<u32>
+    ensures { result ≡ number_up_to 4294967295 bytes.now }
+{
+    if is_numeral(bytes) {
+        value_of(bytes)
+    } else {
+        None
+    }
+}
+
+/// The word of a kind of step.
+pub fn word_of(kind: StepKind) -> &'static [u8]
+    ensures { result.now ≡ word_of kind }
+{
+    match kind {
+        StepKind::In => b"in",
+        StepKind::Deliver => b"deliver",
+        StepKind::Tick => b"tick",
+        StepKind::Dup => b"dup",
+        StepKind::Lose => b"lose",
+        StepKind::Crash => b"crash",
+        StepKind::Reboot => b"reboot",
+    }
+}
+
+// The kind of step that has this word.
+pub(crate) fn kind_named(word: &[u8]) -> Option<StepKind>
+    ensures { result ≡ kind_named word.now }
+{
+    if word == word_of(StepKind::In) {
+        Some(StepKind::In)
+    } else if word == word_of(StepKind::Deliver) {
+        Some(StepKind::Deliver)
+    } else if word == word_of(StepKind::Tick) {
+        Some(StepKind::Tick)
+    } else if word == word_of(StepKind::Dup) {
+        Some(StepKind::Dup)
+    } else if word == word_of(StepKind::Lose) {
+        Some(StepKind::Lose)
+    } else if word == word_of(StepKind::Crash) {
+        Some(StepKind::Crash)
+    } else if word == word_of(StepKind::Reboot) {
+        Some(StepKind::Reboot)
+    } else {
+        None
+    }
+}

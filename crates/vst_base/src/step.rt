@@ -1,0 +1,87 @@
+ghost use Rattle.std.specs.Prelude.{◌≡◌};
+ghost use Rattle.vst_base.specs.Nets.{kind_of};
+
+use crate::Node;
+use thiserror::Error;
+
+/// One step of a network. Nodes are named by number, packets by their place in the order of sending,
+/// from 0; a number out of range names none.
+#[derive(Debug, Drop, PartialEq, Eq)]
+pub enum Step<I> {
+    /// A node takes an input.
+    In(u32, I),
+    /// A copy of a packet comes to its destination.
+    Deliver(u32),
+    /// A node's timer fires.
+    Tick(u32),
+    /// A packet in flight is copied.
+    Dup(u32),
+    /// A copy of a packet is lost.
+    Lose(u32),
+    /// A node stops, and keeps what its handlers keep.
+    Crash(u32),
+    /// A node that is down starts again.
+    Reboot(u32),
+}
+
+/// The kinds of step.
+#[derive(Clone, Copy, Debug, PartialEq, Eq)]
+pub enum StepKind {
+    In,
+    Deliver,
+    Tick,
+    Dup,
+    Lose,
+    Crash,
+    Reboot,
+}
+
+impl<I> Step<I> {
+    /// Its kind.
+    pub fn kind(&self) -> StepKind
+        ensures { result ≡ kind_of self.now }
+    {
+        match self {
+            Step::In(_, _) => StepKind::In,
+            Step::Deliver(_) => StepKind::Deliver,
+            Step::Tick(_) => StepKind::Tick,
+            Step::Dup(_) => StepKind::Dup,
+            Step::Lose(_) => StepKind::Lose,
+            Step::Crash(_) => StepKind::Crash,
+            Step::Reboot(_) => StepKind::Reboot,
+        }
+    }
+}
+
+/// What a client sees: an input that a node took, or an output that it gave.
+#[derive(Debug, Drop, PartialEq, Eq)]
+pub enum Item<I, O> {
+    Input(Node, I),
+    Output(Node, O),
+}
+
+/// Why a world does not take a step. The first that applies, in this order, is answered.
+#[derive(Clone, Copy, Debug, PartialEq, Eq, Error)]
+pub enum StepRefusal {
+    /// The network has no steps of this kind.
+    #[error("not this network")]
+    NotThisNet,
+    /// The step names a node that does not exist.
+    #[error("no such node")]
+    NoSuchNode,
+    /// The node takes no input.
+    #[error("no input here")]
+    NoInputHere,
+    /// The node, or the packet's destination, is down.
+    #[error("node down")]
+    NodeDown,
+    /// A node that is up cannot reboot.
+    #[error("node up")]
+    NodeUp,
+    /// The packet was never sent, or no copy of it is in flight.
+    #[error("no copy")]
+    NoCopy,
+    /// Want of memory.
+    #[error("out of memory")]
+    Memory,
+}

@@ -1,0 +1,45 @@
+ghost use Rattle.std.specs.Prelude.{◌≡◌, [], ◌∷◌, ◌++◌, OnOk, OnErr};
+
+use std::alloc::{AllocError, Global};
+use std::marker::Model;
+
+/// What explains a trace, in order: steps of the simpler system, or entries. Contracts see the list.
+#[derive(Drop)]
+pub struct Image<G> {
+    lines: Vec<G>,
+}
+
+impl<G> Model for Image<G> {
+    ghost use Rattle.std.specs.Prelude.{List};
+
+    ghost Value = { List G };
+
+    ghost view = { λ i. i.lines.items };
+}
+
+impl<G: Drop> Image<G> {
+    /// Nothing yet. It takes no memory.
+    pub fn new(alloc: Global) -> Self
+        ensures { result ≡ [] }
+    {
+        Image {
+            lines: Vec::new(alloc),
+        }
+    }
+
+    /// Its lines, in order.
+    pub fn lines(&self) -> &[G]
+        ensures { result.now ≡ self.now }
+    {
+        &self.lines
+    }
+
+    /// Adds a line at the end.
+    pub fn push(&mut self, line: G) -> Result<(), AllocError>
+        ensures added { OnOk result (self.new ≡ self.old ++ line ∷ []) }
+        ensures err { OnErr result (self.new ≡ self.old) }
+    {
+        self.lines.push(line)?;
+        Ok(())
+    }
+}
