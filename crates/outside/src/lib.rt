@@ -11,3 +11,6 @@ pub use device::{Address, Begun, Device};
 pub use sink::{Sink, WriteOutcome};
 pub use source::{ReadOutcome, Source};
 pub use whole::{Reading, WriteFault, read_all, write_all};
+
+#[cfg(test)]
+mod tests;

@@ -1,0 +1,5 @@
+pub mod Deliveries
+pub mod Headers
+pub mod Prefix
+pub mod Progress
+pub mod Reports

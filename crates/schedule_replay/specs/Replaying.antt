@@ -3,6 +3,7 @@
 use Rattle.std.specs.Prelude.{ℕ, zero, suc, Bool, true, false, List, [], ◌∷◌, ◌++◌, map, length, take, count_by, Option, Some, None, if◌then◌else◌, codes}
 use Rattle.std.specs.List.{flat_map}
 use Rattle.handler_trait.specs.Handling.{Meaning, Recovery}
+use Rattle.vst_base.specs.declared.net.Net.{Net}
 use Rattle.vst_base.specs.declared.step.Step.{Step}
 use Rattle.vst_base.specs.declared.step.Item.{Item}
 use Rattle.vst_base.specs.declared.step.Item.TheVariants as item
@@ -46,19 +47,21 @@ abbrev pub taken_at : {I : Type 0} → Script I → Option (ℕ × StepRefusal) 
 taken_at sc None = steps_of sc
 taken_at sc (Some p) = take p.0 (steps_of sc)
 
-module _ {S K I O M : Type 0} (st : Stack S K I O M) where
-  -- the same from a world on, and from the first
+-- the same on a network, from a world on
+module _ {S K I O M : Type 0} (net : Net) (m : Meaning S I O M) (r : Recovery S K) where
   abbrev pub stop_from : World S K M → Script I → Option (ℕ × Why)
-  stop_from w sc = stop_at sc (first_refused_from st.net st.meaning st.recovery w (steps_of sc))
+  stop_from w sc = stop_at sc (first_refused_from net m r w (steps_of sc))
 
   abbrev pub taken_from : World S K M → Script I → List (Step I)
-  taken_from w sc = taken_at sc (first_refused_from st.net st.meaning st.recovery w (steps_of sc))
+  taken_from w sc = taken_at sc (first_refused_from net m r w (steps_of sc))
 
+-- and of a stack, from the first world on
+module _ {S K I O M : Type 0} (st : Stack S K I O M) where
   abbrev pub stop : Script I → Option (ℕ × Why)
-  stop sc = stop_from (first_world st.meaning) sc
+  stop sc = stop_from st.net st.meaning st.recovery (first_world st.meaning) sc
 
   abbrev pub taken : Script I → List (Step I)
-  taken sc = taken_from (first_world st.meaning) sc
+  taken sc = taken_from st.net st.meaning st.recovery (first_world st.meaning) sc
 
   abbrev pub trace_of : List (Step I) → List (Item I O)
   trace_of ss = trace st.meaning st.recovery ss

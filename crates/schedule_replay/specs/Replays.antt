@@ -1,5 +1,5 @@
 -- What replay makes of the bytes of a schedule.
-use Rattle.std.specs.Prelude.{ℕ, Bool, true, false, List, [], Option, Some, None}
+use Rattle.std.specs.Prelude.{ℕ, ◌-◌, Bool, true, false, List, [], Option, Some, None}
 use Rattle.vst_base.specs.declared.lock.LockInput.{LockInput}
 use Rattle.vst_base.specs.declared.lock.LockOutput.{LockOutput}
 use Rattle.vst_base.specs.declared.lock.LockMsg.{LockMsg}
@@ -22,17 +22,17 @@ lock_texts = record { input_of = input_of; input_text = input_text; output_text 
 abbrev pub lock_stack : Header → Stack LockState LockState LockInput LockOutput LockMsg
 lock_stack h = plain_stack h (lock_server h.nodes) lock_texts
 
--- the lines of a stack's schedule behind its header. The other stacks have no header yet
+-- the lines of a stack's schedule behind its header, which stands on the line before them. The other stacks have no header yet
 abbrev pub replayed_stack : Bool → Header → StackId → ℕ → List (List ℕ) → Replayed
 replayed_stack whole h stack.Lock number ls = replayed_script (lock_stack h) whole (script input_of number 0 ls)
-replayed_stack whole h stack.LockSeq number ls = refused_at 1 why.Header
-replayed_stack whole h stack.KvPb number ls = refused_at 1 why.Header
-replayed_stack whole h stack.KvPbSeq number ls = refused_at 1 why.Header
-replayed_stack whole h stack.KvRaft number ls = refused_at 1 why.Header
-replayed_stack whole h stack.TablePbSeq number ls = refused_at 1 why.Header
-replayed_stack whole h stack.TableRaft number ls = refused_at 1 why.Header
-replayed_stack whole h stack.Kv number ls = refused_at 1 why.Header
-replayed_stack whole h stack.Table number ls = refused_at 1 why.Header
+replayed_stack whole h stack.LockSeq number ls = refused_at (number - 1) why.Header
+replayed_stack whole h stack.KvPb number ls = refused_at (number - 1) why.Header
+replayed_stack whole h stack.KvPbSeq number ls = refused_at (number - 1) why.Header
+replayed_stack whole h stack.KvRaft number ls = refused_at (number - 1) why.Header
+replayed_stack whole h stack.TablePbSeq number ls = refused_at (number - 1) why.Header
+replayed_stack whole h stack.TableRaft number ls = refused_at (number - 1) why.Header
+replayed_stack whole h stack.Kv number ls = refused_at (number - 1) why.Header
+replayed_stack whole h stack.Table number ls = refused_at (number - 1) why.Header
 
 -- a text without a header is refused at the line after its last, if that was its end
 abbrev pub replayed_opening : Bool → Opening → Replayed

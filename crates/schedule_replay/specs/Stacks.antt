@@ -27,6 +27,9 @@ pub record Texts (I O : Type 0) : Type 0 where
   pub input_text : I → List ℕ
   pub output_text : O → List ℕ
 
+abbrev pub texts_of : {I O : Type 0} → (List ℕ → Option I) → (I → List ℕ) → (O → List ℕ) → Texts I O
+texts_of input_of input_text output_text = record { input_of = input_of; input_text = input_text; output_text = output_text }
+
 -- handlers on a network that does no more than they ask for: the image is the schedule itself, and each output a reply
 abbrev pub plain_stack : {S I O M : Type 0} → Header → Meaning S I O M → Texts I O → Stack S S I O M
 plain_stack h m t = record {

@@ -18,6 +18,14 @@ pub fn worked()
     ensures leading_zero { (replayed (codes "schedule 1 bag lock 2\ndeliver 01\n")).refused ≡ Some (2, Number) }
     ensures no_such_input { (replayed (codes "schedule 1 bag lock 2\nin 1 grab\n")).refused ≡ Some (2, Text) }
     ensures no_copies_on_a_bag { (replayed (codes "schedule 1 bag lock 2\nin 1 lock\ndup 0\n")).refused ≡ Some (3, NotThisNet) }
+    ensures word_cut_short { (replayed (codes "schedule 1 bag lock 2\ni 1 lock\n")).refused ≡ Some (2, UnknownWord) }
+    ensures word_too_long { (replayed (codes "schedule 1 bag lock 2\nticks 0\n")).refused ≡ Some (2, UnknownWord) }
+    ensures no_second_space { (replayed (codes "schedule 1 bag lock 2\nin 1\n")).refused ≡ Some (2, UnknownWord) }
+    ensures one_node { (replayed (codes "schedule 1 bag lock 1\n")).refused ≡ Some (1, Header) }
+    ensures ten_nodes { (replayed (codes "#\nschedule 1 bag lock 10\n")).refused ≡ Some (2, Header) }
+    ensures only_comments { (replayed (codes "#\n#\n")).refused ≡ Some (3, Header) }
+    ensures counted { (replayed (codes "schedule 1 bag lock 2\nin 1 lock\ndeliver 0\ndeliver 1")).counts
+        ≡ record { events = 3; inputs = 1; outputs = 1; replies = 1; image = 3 } }
     ensures comments_are_no_events { (replayed (codes "# two nodes\n\nschedule 1 bag lock 2\n# nothing\ndeliver 7\n")).refused ≡ Some (5, NoCopy) }
 
     // Two clients: the second waits until the first gives the lock back.

@@ -2,8 +2,23 @@
 //! command lines.
 #![tactic(auto)]
 
+mod bag;
+mod deliver;
 mod done;
 mod examples;
+mod fault;
+mod halt;
+mod halting;
+mod opening;
+mod opens;
+mod play;
+mod outcome;
+mod report;
+mod texts;
 
+pub use deliver::replay;
 pub use done::Done;
 pub use examples::worked;
+pub use fault::ReplayFault;
+pub use outcome::Replayed;
+pub use texts::replayed;

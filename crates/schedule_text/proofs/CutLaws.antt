@@ -1,6 +1,6 @@
 -- The first of some bytes, looked for from the front.
-use Rattle.std.specs.Prelude.{◌≡◌, ℕ, Bool, true, false, ◌==◌, ◌+◌, ◌<◌, List, [], ◌∷◌, ◌++◌, length, take, drop, Option, Some, None, cond, refl}
-use Rattle.std.proofs.Common.{zero, suc, ap, ◌∙◌, sym, arith, get_or, append_assoc, take-append-drop, add-one}
+use Rattle.std.specs.Prelude.{◌≡◌, ℕ, true, false, ◌==◌, ◌+◌, ◌<◌, List, [], ◌∷◌, ◌++◌, length, take, drop, Option, Some, None, cond, refl}
+use Rattle.std.proofs.Common.{zero, suc, ap, ◌∙◌, sym, get_or, append_assoc, add-one}
 use Rattle.std.proofs.Math.Seq.{drop-cons}
 use Rattle.std.proofs.lemmas.List.{take_more, append-nil}
 use Rattle.schedule_text.specs.Words.{cut_at, onto_cut}

@@ -1,7 +1,7 @@
 -- A text's first line, by its first newline.
-use Rattle.std.specs.Prelude.{◌≡◌, ℕ, Bool, true, false, ◌==◌, ◌+◌, ◌<◌, List, [], ◌∷◌, ◌++◌, length, Option, Some, None, cond, refl}
-use Rattle.std.proofs.Common.{ap, ◌∙◌, sym, subst, arith}
-use Rattle.schedule_text.specs.Lines.{split_lines, onto_first, whole_lines, last_line, lines_of}
+use Rattle.std.specs.Prelude.{◌≡◌, ℕ, Bool, true, false, ◌==◌, ◌<◌, List, [], ◌∷◌, ◌++◌, length, Option, Some, None, cond, refl}
+use Rattle.std.proofs.Common.{ap, subst, arith}
+use Rattle.schedule_text.specs.Lines.{split_lines, onto_first, last_line, lines_of}
 use Rattle.schedule_text.specs.Words.{cut_at, onto_cut}
 
 -- the value of a Some

@@ -1,6 +1,6 @@
 -- The numbers that digits spell.
-use Rattle.std.specs.Prelude.{◌≡◌, ℕ, Bool, true, false, ◌+◌, ◌-◌, ◌*◌, ◌<◌, ◌≤◌, nat_le, List, [], ◌∷◌, length, drop, Option, Some, None, cond, refl}
-use Rattle.std.proofs.Common.{suc, ap, ◌∙◌, sym, get_or, arith, add-one}
+use Rattle.std.specs.Prelude.{◌≡◌, ℕ, ◌+◌, ◌-◌, ◌*◌, ◌<◌, ◌≤◌, List, [], ◌∷◌, length, drop, refl}
+use Rattle.std.proofs.Common.{ap, ◌∙◌, get_or, arith, add-one}
 use Rattle.std.proofs.Math.Seq.{drop-cons}
 use Rattle.schedule_text.specs.Words.{value_from}
 

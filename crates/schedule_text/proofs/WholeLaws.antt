@@ -1,8 +1,8 @@
 -- Whole lines at the end of a text.
 use Rattle.std.specs.Prelude.{◌≡◌, ℕ, Bool, true, false, ◌==◌, ◌+◌, ◌-◌, ◌<◌, ◌≤◌, List, [], ◌∷◌, ◌++◌, length, take, cond, refl}
-use Rattle.std.proofs.Common.{zero, suc, ap, ◌∙◌, sym, subst, arith, get_or, add-one}
+use Rattle.std.proofs.Common.{ap, ◌∙◌, sym, subst, arith, get_or}
 use Rattle.std.proofs.lemmas.List.{take_more, append-nil}
-use Rattle.schedule_text.specs.Lines.{split_lines, onto_first, whole_lines, last_line, lines_of}
+use Rattle.schedule_text.specs.Lines.{split_lines, onto_first, last_line, lines_of}
 
 -- whole lines with a byte in front of the first depend on them alone
 onto_first-whole : (b : ℕ) (s t : List (List ℕ) × List ℕ) → s.0 ≡ t.0 → (onto_first b s).0 ≡ (onto_first b t).0

@@ -54,7 +54,7 @@ nodes_within least most n = if nat_le least n && nat_le n most then Some n else 
 abbrev pub header_by : Row → List ℕ → Option Header
 header_by r line =
     option_and_then (λ digits. option_and_then (λ n. option_and_then (λ m. Some (record { net = r.net; stack = r.stack; nodes = m })) (nodes_within r.least r.most n))
-      (number_up_to 4294967295 digits)) (behind (header_front r.net r.stack) line)
+    (number_up_to 4294967295 digits)) (behind (header_front r.net r.stack) line)
 
 abbrev pub or_else : Option Header → Option Header → Option Header
 or_else None h = h

@@ -5,4 +5,5 @@ pub mod Headers
 pub mod Schedules
 pub mod Printing
 pub mod Slices
+pub mod Spellable
 pub mod PartViews

@@ -4,12 +4,9 @@ use Rattle.std.specs.List.{flat_map}
 use Rattle.std.specs.Fmt.{decimal}
 use Rattle.vst_base.specs.declared.step.Step.{Step}
 use Rattle.vst_base.specs.declared.step.Step.TheVariants as step
-use Rattle.vst_base.specs.declared.step.StepKind.{StepKind}
 use Rattle.vst_base.specs.declared.step.StepKind.TheVariants as kind
 use Rattle.vst_base.specs.declared.step.Item.{Item}
 use Rattle.vst_base.specs.declared.step.Item.TheVariants as item
-use Rattle.vst_base.specs.declared.step.StepRefusal.{StepRefusal}
-use Rattle.vst_base.specs.declared.step.StepRefusal.TheVariants as refusal
 use Rattle.schedule_text.specs.declared.why.Why.{Why}
 use Rattle.schedule_text.specs.declared.why.Why.TheVariants as why
 use Rattle.schedule_text.specs.Words.{word_of}

@@ -1,5 +1,5 @@
 -- What a line of a schedule behind its header says, and why it may be refused.
-use Rattle.std.specs.Prelude.{ℕ, Bool, true, false, ◌==◌, nat_lt, nat_le, List, [], ◌∷◌, length, Option, Some, None, is_none, option_map, option_and_then, if◌then◌else◌}
+use Rattle.std.specs.Prelude.{ℕ, Bool, nat_lt, nat_le, List, [], ◌∷◌, length, Option, Some, None, is_none, option_map, option_and_then, if◌then◌else◌}
 use Rattle.vst_base.specs.Firsts.{first_of}
 use Rattle.vst_base.specs.declared.step.Step.{Step}
 use Rattle.vst_base.specs.declared.step.Step.TheVariants as step
@@ -83,5 +83,5 @@ line_unless None l = l
 abbrev pub read_line : {I : Type 0} → (List ℕ → Option I) → ℕ → ℕ → List ℕ → Line I
 read_line input_of number events line =
     line_unless (first_of (line_refusals number line))
-      (if is_skipped line then Skipped
-       else step_or_refusal (first_of (step_refusals input_of events line)) (step_of input_of line))
+    (if is_skipped line then Skipped
+    else step_or_refusal (first_of (step_refusals input_of events line)) (step_of input_of line))

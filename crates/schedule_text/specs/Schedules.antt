@@ -30,7 +30,7 @@ abbrev pub opening : ℕ → List (List ℕ) → Opening
 opening number [] = EndedAt number
 opening number (l ∷ ls) =
     opening_unless (first_of (line_refusals number l)) number
-      (if is_skipped l then opening (number + 1) ls else opened (header_of l) number ls)
+    (if is_skipped l then opening (number + 1) ls else opened (header_of l) number ls)
 
 -- the steps of a text behind its header, each with its line, up to the first line that is refused, if one is
 pub record Script (I : Type 0) : Type 0 where

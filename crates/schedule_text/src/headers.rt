@@ -3,8 +3,8 @@ ghost use Rattle.schedule_text.specs.Headers.{behind, header_by, header_front, h
 ghost use Rattle.schedule_text.specs.Slices.{one};
 
 use crate::Header;
-use crate::row::Row;
 use crate::numbers::push_number;
+use crate::row::Row;
 use crate::words::number_of;
 use std::alloc::AllocError;
 use vst_base::{Net, StackId};

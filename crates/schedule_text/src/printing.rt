@@ -49,10 +49,7 @@ pub fn push_step<A: AppText>(out: &mut Vec<u8>, step: &Step<A::Input>) -> Result
 }
 
 /// Adds the lines of steps, in order.
-pub fn push_steps<A: AppText>(
-    out: &mut Vec<u8>,
-    steps: &[Step<A::Input>],
-) -> Result<(), AllocError>
+pub fn push_steps<A: AppText>(out: &mut Vec<u8>, steps: &[Step<A::Input>]) -> Result<(), AllocError>
     ensures { OnOk result (out.new.items ≡ out.old.items ++ steps_text A.input_text steps.now) }
 {
     for step in steps {

@@ -1,1 +1,12 @@
+//! The top call of the program: from its words and its input to what it writes and its status.
 #![tactic(auto)]
+
+mod answers;
+mod examples;
+mod refuse;
+mod say;
+mod status;
+mod words;
+
+pub use answers::run;
+pub use examples::worked;

@@ -1,3 +1,42 @@
+//! The program `vst`: it hands the words, the standard streams and the device of the process to the top call,
+//! and ends with its status.
 #![tactic(auto)]
 
-fn main() {}
+use outside::{Sink, WriteOutcome};
+use outside_real::{RealDevice, ReaderSource, WriterSink};
+use std::env;
+use std::io::{self, ErrorKind};
+use std::process::ExitCode;
+use std::rt::Env;
+use top_call::run;
+
+// The words that the program was called with, its name first.
+fn words(rt: &(impl Env + AllocGlobal)) -> io::Result<Vec<String>> {
+    let words = env::args(rt)?.collect(rt.alloc())?;
+    Ok(words)
+}
+
+fn main(rt: HostRuntime) -> ExitCode {
+    let mut err = WriterSink::new(rt.stderr());
+    let words = match words(&rt) {
+        Ok(words) => words,
+        // Words that are no UTF-8 name no command.
+        Err(fault) if fault.kind() == ErrorKind::InvalidData => Vec::new(rt.alloc()),
+        Err(_) => {
+            let _: WriteOutcome = err.write(b"memory\n");
+            return ExitCode::from(8);
+        }
+    };
+    let mut input = ReaderSource::new(rt.stdin());
+    let mut out = WriterSink::new(rt.stdout());
+    let mut device = RealDevice::new();
+    let status = run(
+        rt.alloc(),
+        &words,
+        &mut input,
+        &mut out,
+        &mut err,
+        &mut device,
+    );
+    ExitCode::from(status)
+}

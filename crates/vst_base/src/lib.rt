@@ -3,6 +3,7 @@
 //! in flight, texts or bytes.
 #![tactic(auto)]
 
+mod examples;
 mod lock;
 mod machine;
 mod net;
@@ -10,9 +11,13 @@ mod node;
 mod stack;
 mod step;
 
+pub use examples::worked;
 pub use lock::{LockInput, LockMsg, LockOutput};
 pub use machine::Machine;
 pub use net::Net;
 pub use node::Node;
 pub use stack::StackId;
 pub use step::{Item, Step, StepKind, StepRefusal};
+
+#[cfg(test)]
+mod tests;

@@ -37,11 +37,11 @@ has_run-more {H} {S} {I} {O} {M} m ss s v u had not_refused shows traced net cou
     record {
       shows = rw (run_from-append m no_recovery w ss (s ∷ [])) shows;
       traced = traced ∙ (ap (λ xs. xs ++ items_of m (run m (no_recovery {S = S}) ss) s) had.traced
-        ∙ sym (trace_from-append m no_recovery w ss (s ∷ []) ∙ ap (λ xs. trace m (no_recovery {S = S}) ss ++ xs) (append-nil (items_of m (run m (no_recovery {S = S}) ss) s))));
+          ∙ sym (trace_from-append m no_recovery w ss (s ∷ []) ∙ ap (λ xs. trace m (no_recovery {S = S}) ss ++ xs) (append-nil (items_of m (run m (no_recovery {S = S}) ss) s))));
       allowed = rw net (first_refused_from-append m no_recovery v.world.net w ss (s ∷ []) had.allowed
-        ∙ (ap (later (length ss)) (place_and_why-both (refusal_of v.world.net m (run m (no_recovery {S = S}) ss) s) not_refused) ∙ later-none (length ss)));
+          ∙ (ap (later (length ss)) (place_and_why-both (refusal_of v.world.net m (run m (no_recovery {S = S}) ss) s) not_refused) ∙ later-none (length ss)));
       counted = omega (arith, counted, had.counted, length-append ss (s ∷ []));
-      imaged = imaged ∙ ap (λ xs. xs ++ s ∷ []) had.imaged
+      imaged = imaged ∙ ap (λ xs. xs ++ s ∷ []) had.imaged;
     }
 
 later-first : (n : ℕ) (why : StepRefusal) → later n (Some (0, why)) ≡ Some (n, why)

@@ -1,4 +1,4 @@
-use Rattle.std.proofs.Common.{◌≡◌, Some, take, drop, sym, ◌∙◌, ap, eq-eqb}
+use Rattle.std.proofs.Common.{drop, sym, ◌∙◌, ap, eq-eqb}
 use Rattle.schedule_text.proofs.CutLaws.{cut-found, drop-one}
 use Rattle.schedule_text.proofs.cuts.cut_at.Goals as goal
 

@@ -1,4 +1,4 @@
-use Rattle.std.proofs.Common.{◌≡◌, ◌++◌, take, drop}
+use Rattle.std.proofs.Common.{◌≡◌, take, drop}
 use Rattle.schedule_text.specs.Words.{cut_at}
 use Rattle.schedule_text.proofs.CutLaws.{behind_front}
 use Rattle.schedule_text.proofs.cuts.cut_at.Given as goal

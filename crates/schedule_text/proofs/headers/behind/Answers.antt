@@ -1,4 +1,4 @@
-use Rattle.std.proofs.Common.{◌≡◌, refl, Some, None, sym, ◌∙◌, ap, arith, cond, drop, length}
+use Rattle.std.proofs.Common.{refl, Some, sym, ap, arith}
 use Rattle.schedule_text.proofs.FrontLaws.{behind-short, behind-compares}
 use Rattle.schedule_text.proofs.headers.behind.Goals as goal
 

@@ -1,4 +1,4 @@
-use Rattle.std.proofs.Common.{◌≡◌, ◌∷◌, sym, ◌∙◌, ap, arith}
+use Rattle.std.proofs.Common.{◌∷◌, sym, ◌∙◌, ap, arith}
 use Rattle.std.proofs.lemmas.List.{take_all, drop_all}
 use Rattle.schedule_text.proofs.LineLaws.{lines-cut, lines-whole, cut-shorter}
 use Rattle.schedule_text.specs.Lines.{lines_of}

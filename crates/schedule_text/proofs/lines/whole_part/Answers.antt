@@ -1,4 +1,4 @@
-use Rattle.std.proofs.Common.{◌≡◌, ℕ, subst, ◌∙◌, ap, arith, length, take}
+use Rattle.std.proofs.Common.{◌≡◌, ℕ, subst, ◌∙◌, ap, arith, take}
 use Rattle.std.proofs.lemmas.Bool.{ne_eqb}
 use Rattle.schedule_text.specs.Lines.{lines_of, split_lines}
 use Rattle.schedule_text.proofs.WholeLaws.{front-unended, front-ended}
@@ -21,7 +21,8 @@ returns-clause-lines c =
     let inv = c.loop-end.invariant in
     ap lines_of c.split_at.ensures.front ∙
     (elim c.loop-end-test.branch as (λ _. lines_of (take end bs) ≡ (split_lines bs).0) [
-      else-loop-end-test w ↦
-        let none : end ≡ 0 = omega (arith, w.loop-end-test.false) in
-        ap (λ (e : ℕ). lines_of (take e bs)) none ∙ subst (λ (e : ℕ). (split_lines (take e bs)).0 ≡ (split_lines bs).0) none inv.lines
-    | then-loop-end-test+then-bytes-end-eq-NEWLINE w ↦ front-ended end bs w.loop-end-test.true inv.within w.if-bytes-end-eq-NEWLINE.true ∙ inv.lines ])
+      | else-loop-end-test w ↦
+          let none : end ≡ 0 = omega (arith, w.loop-end-test.false) in
+          ap (λ (e : ℕ). lines_of (take e bs)) none ∙ subst (λ (e : ℕ). (split_lines (take e bs)).0 ≡ (split_lines bs).0) none inv.lines
+      | then-loop-end-test+then-bytes-end-eq-NEWLINE w ↦ front-ended end bs w.loop-end-test.true inv.within w.if-bytes-end-eq-NEWLINE.true ∙ inv.lines
+    ])

@@ -1,5 +1,4 @@
-use Rattle.std.proofs.Common.{◌≡◌, ◌+◌, ◌*◌, ◌-◌, ◌≤◌, drop, get_or, arith}
-use Rattle.schedule_text.specs.Words.{value_from}
+use Rattle.std.proofs.Common.{◌+◌, ◌*◌, ◌-◌, drop, get_or, arith}
 use Rattle.schedule_text.proofs.NumberLaws.{value_from-grows, value_from-next}
 use Rattle.schedule_text.proofs.words.value_of.Goals as goal
 

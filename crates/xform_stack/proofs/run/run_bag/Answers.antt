@@ -46,7 +46,7 @@ returns-in_err-step-clause-refused g c =
     let r = no_recovery {S = g.row.H-State.Denot} in
     let allowed = subst (λ (n : Net). first_refused n m r (take i xs) ≡ None) inv.net inv.run.allowed in
     let refused = subst (λ (v : g.row.H.Denot). (ss : List (Step g.row.H-Input.Denot)) → HasRun (h.meaning v) ss old
-        → IsRunAnswer {A = Unit {0}} (Err y) (refusal_of old.world.net (h.meaning v) (run (h.meaning v) r ss) x) (length ss)) inv.handlers c.in_err-step.ensures.refused in
+    → IsRunAnswer {A = Unit {0}} (Err y) (refusal_of old.world.net (h.meaning v) (run (h.meaning v) r ss) x) (length ss)) inv.handlers c.in_err-step.ensures.refused in
     let at = subst (λ (n : Net). IsRunAnswer {A = Unit {0}} (Err y) (refusal_of n m (run m r (take i xs)) x) (length (take i xs))) inv.net (refused (take i xs) inv.run) in
     let found = refused_next Bag m (take i xs) (drop (i + 1) xs) x y allowed at in
     rw (p.1, p.2) (subst (λ ss. IsRunRefusal y (first_refused Bag m r ss)) (sym (at_item xs i x below c.step-item.is)) found)

@@ -10,9 +10,9 @@ returns-clause-next g c = λ ss had.
     let m = g.H.Handlers.meaning world.handlers in
     let w = run m (no_recovery {S = g.row.H-State.Denot}) ss in
     rw (← c.self.view_is) (has_run-more m ss c.args.step.now _ _ before
-      (c.in-Ok.ensures.refused w before.shows)
-      (c.in-Ok.ensures.next w before.shows)
-      (c.in-Ok.ensures.trace w before.shows)
-      c.step.ensures.net
-      c.in-Ok.ensures.taken
-      (grind arith))
+    (c.in-Ok.ensures.refused w before.shows)
+    (c.in-Ok.ensures.next w before.shows)
+    (c.in-Ok.ensures.trace w before.shows)
+    c.step.ensures.net
+    c.in-Ok.ensures.taken
+    (grind arith))

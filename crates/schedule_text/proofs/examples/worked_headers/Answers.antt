@@ -1,0 +1,8 @@
+-- The text of a header, computed through its digits.
+use Rattle.std.specs.Prelude.{refl}
+use Rattle.std.specs.Fmt.{digits}
+use Rattle.schedule_text.proofs.examples.worked_headers.Goals as goal
+
+pub returns-clause-text : goal.returns-clause-text
+unfolding digits
+returns-clause-text c = refl

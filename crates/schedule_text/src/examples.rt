@@ -1,0 +1,110 @@
+ghost use Rattle.std.specs.Prelude.{◌≡◌, List, [], ◌∷◌, None, Some, codes, replicate};
+ghost use Rattle.app_text.specs.LockTexts.{input_of, input_text, output_text};
+ghost use Rattle.schedule_text.specs.Headers.{header_of, header_text};
+ghost use Rattle.schedule_text.specs.Lines.{lines_of, whole_lines};
+ghost use Rattle.schedule_text.specs.Printing.{item_text, refusal_line, step_text, steps_text, trace_text, why_text};
+ghost use Rattle.schedule_text.specs.Reading.{number_of, read_line, step_of};
+ghost use Rattle.schedule_text.specs.Schedules.{opening, script, Opened, RefusedAt, EndedAt};
+ghost use Rattle.schedule_text.specs.Words.{kind_named};
+
+use crate::{Header, Line, Why};
+use vst_base::{Item, LockInput, LockOutput, Net, StackId, Step, StepKind};
+
+/// The lines of a text, and the words and numbers of a line, on examples.
+pub fn worked_lines()
+    ensures no_line { lines_of (codes "") ≡ [] }
+    ensures last_line { lines_of (codes "a") ≡ codes "a" ∷ [] }
+    ensures ended_line { lines_of (codes "a\n") ≡ codes "a" ∷ [] }
+    ensures empty_line_between { lines_of (codes "a\n\nb") ≡ codes "a" ∷ [] ∷ codes "b" ∷ [] }
+    ensures empty_lines { lines_of (codes "\n\n") ≡ [] ∷ [] ∷ [] }
+    ensures whole { whole_lines (codes "a\nb") ≡ codes "a" ∷ [] }
+    ensures zero { number_of (codes "0") ≡ Some 0 }
+    ensures leading_zero { number_of (codes "01") ≡ None }
+    ensures no_number { number_of (codes "") ≡ None }
+    ensures greatest { number_of (codes "4294967295") ≡ Some 4294967295 }
+    ensures too_great { number_of (codes "4294967296") ≡ None }
+    ensures signed { number_of (codes "+5") ≡ None }
+    ensures two_digits { number_of (codes "12") ≡ Some 12 }
+    ensures front_of_a_word { kind_named (codes "i") ≡ None }
+    ensures no_word { kind_named (codes "inn") ≡ None }
+    ensures longer_word { kind_named (codes "ticks") ≡ None }
+    ensures word { kind_named (codes "in") ≡ Some StepKind.In }
+{}
+
+/// Headers, and how texts open, on examples.
+pub fn worked_headers()
+    ensures least_nodes { header_of (codes "schedule 1 bag lock 2") ≡ Some (record { net = Net.Bag; stack = StackId.Lock; nodes = 2 }) }
+    ensures most_nodes { header_of (codes "schedule 1 bag lock 9") ≡ Some (record { net = Net.Bag; stack = StackId.Lock; nodes = 9 }) }
+    ensures one_node { header_of (codes "schedule 1 bag lock 1") ≡ None }
+    ensures ten_nodes { header_of (codes "schedule 1 bag lock 10") ≡ None }
+    ensures leading_zero { header_of (codes "schedule 1 bag lock 02") ≡ None }
+    ensures space_behind { header_of (codes "schedule 1 bag lock 2 ") ≡ None }
+    ensures no_nodes { (header_of (codes "schedule 1 bag lock ") ≡ None) × (header_of (codes "schedule 1 bag lock") ≡ None) }
+    ensures other_version { header_of (codes "schedule 2 bag lock 2") ≡ None }
+    ensures other_pairing { (header_of (codes "schedule 1 dup lock/seq 2") ≡ None) × (header_of (codes "schedule 1 dup lock 2") ≡ None) }
+    ensures text { header_text (record { net = Net.Bag; stack = StackId.Lock; nodes = 2 }) ≡ codes "schedule 1 bag lock 2" }
+    ensures opens_empty { opening 1 [] ≡ EndedAt 1 }
+    ensures opens_without_header { opening 1 (codes "# none" ∷ []) ≡ EndedAt 2 }
+    ensures opens_behind_comment { opening 1 (codes "# a lock" ∷ codes "schedule 1 bag lock 2" ∷ codes "tick 0" ∷ []) ≡ Opened (record { net = Net.Bag; stack = StackId.Lock; nodes = 2 }) 3 (codes "tick 0" ∷ []) }
+    ensures opens_with_step { opening 1 ([] ∷ codes "tick 0" ∷ []) ≡ RefusedAt 2 Why.Header }
+{}
+
+/// The lines behind a header, on examples.
+pub fn worked_steps()
+    ensures input { read_line input_of 2 0 (codes "in 1 lock") ≡ Line.IsStep (Step.In 1 LockInput.Lock) }
+    ensures delivery { read_line input_of 2 0 (codes "deliver 7") ≡ Line.IsStep (Step.Deliver 7) }
+    ensures tick { read_line input_of 2 0 (codes "tick 0") ≡ Line.IsStep (Step.Tick 0) }
+    ensures copy { read_line input_of 2 0 (codes "dup 0") ≡ Line.IsStep (Step.Dup 0) }
+    ensures loss { read_line input_of 2 0 (codes "lose 12") ≡ Line.IsStep (Step.Lose 12) }
+    ensures crash { read_line input_of 2 0 (codes "crash 3") ≡ Line.IsStep (Step.Crash 3) }
+    ensures reboot { read_line input_of 2 0 (codes "reboot 3") ≡ Line.IsStep (Step.Reboot 3) }
+    ensures comment { read_line input_of 2 0 (codes "#") ≡ Line.Skipped }
+    ensures empty { read_line input_of 2 0 (codes "") ≡ Line.Skipped }
+    ensures too_few_words { (read_line input_of 2 0 (codes "deliver") ≡ Line.Refused Why.UnknownWord) × (read_line input_of 2 0 (codes "in 1") ≡ Line.Refused Why.UnknownWord) }
+    ensures unknown_words { (read_line input_of 2 0 (codes "foo 1") ≡ Line.Refused Why.UnknownWord) × (read_line input_of 2 0 (codes "i 1 lock") ≡ Line.Refused Why.UnknownWord) × (read_line input_of 2 0 (codes "ticks 0") ≡ Line.Refused Why.UnknownWord) }
+    ensures leading_zero { (read_line input_of 2 0 (codes "deliver 01") ≡ Line.Refused Why.Number) × (step_of input_of (codes "deliver 01") ≡ None) }
+    ensures two_spaces { read_line input_of 2 0 (codes "in  1 lock") ≡ Line.Refused Why.Number }
+    ensures space_behind { read_line input_of 2 0 (codes "tick 5 ") ≡ Line.Refused Why.Number }
+    ensures no_input { (read_line input_of 2 0 (codes "in 1 grab") ≡ Line.Refused Why.Text) × (step_of input_of (codes "in 1 grab") ≡ None) }
+    ensures several { script input_of 2 0 (codes "in 1 lock" ∷ codes "# then" ∷ codes "deliver 0" ∷ []) ≡ record { steps = (2, Step.In 1 LockInput.Lock) ∷ (4, Step.Deliver 0) ∷ []; fault = None } }
+    ensures up_to_a_fault { script input_of 2 0 (codes "tick 0" ∷ codes "" ∷ codes "tick" ∷ codes "tick 0" ∷ []) ≡ record { steps = (2, Step.Tick 0) ∷ []; fault = Some (4, Why.UnknownWord) } }
+{}
+
+/// Which of several refusals a line behind a header gets, and the borders of the limits, on examples.
+pub fn worked_limits()
+    ensures word_before_number { read_line input_of 2 0 (codes "foo 01") ≡ Line.Refused Why.UnknownWord }
+    ensures number_before_text { read_line input_of 2 0 (codes "in 01 grab") ≡ Line.Refused Why.Number }
+    ensures word_before_events { read_line input_of 2 1000000 (codes "foo 1") ≡ Line.Refused Why.UnknownWord }
+    ensures number_before_events { read_line input_of 2 1000000 (codes "in 01 grab") ≡ Line.Refused Why.Number }
+    ensures events_before_text { read_line input_of 2 1000000 (codes "in 1 grab") ≡ Line.Refused Why.TooManyEvents }
+    ensures event_too_many { read_line input_of 2 1000000 (codes "tick 0") ≡ Line.Refused Why.TooManyEvents }
+    ensures last_event { read_line input_of 2 999999 (codes "tick 0") ≡ Line.IsStep (Step.Tick 0) }
+    ensures skipped_behind_events { read_line input_of 2 1000000 (codes "#") ≡ Line.Skipped }
+    ensures last_line { read_line input_of 2000000 0 (codes "tick 0") ≡ Line.IsStep (Step.Tick 0) }
+    ensures line_too_many { (read_line input_of 2000001 0 (codes "tick 0") ≡ Line.Refused Why.TooManyEvents) × (read_line input_of 2000001 0 (codes "#") ≡ Line.Refused Why.TooManyEvents) }
+    ensures line_before_word { read_line input_of 2000001 0 (codes "foo 1") ≡ Line.Refused Why.TooManyEvents }
+    ensures longest { read_line input_of 2 0 (replicate 4096 35) ≡ Line.Skipped }
+    ensures too_long { read_line input_of 2 0 (replicate 4097 35) ≡ Line.Refused Why.LineTooLong }
+    ensures length_before_lines { read_line input_of 2000001 0 (replicate 4097 35) ≡ Line.Refused Why.LineTooLong }
+{}
+
+/// How steps, items of a trace and refusals are spelled, on examples.
+pub fn worked_printing()
+    ensures input { step_text input_text (Step.In 1 LockInput.Lock) ≡ codes "in 1 lock" }
+    ensures delivery { step_text input_text (Step.Deliver 4294967295) ≡ codes "deliver 4294967295" }
+    ensures tick { step_text input_text (Step.Tick 0) ≡ codes "tick 0" }
+    ensures copy { step_text input_text (Step.Dup 7) ≡ codes "dup 7" }
+    ensures loss { step_text input_text (Step.Lose 12) ≡ codes "lose 12" }
+    ensures crash { step_text input_text (Step.Crash 3) ≡ codes "crash 3" }
+    ensures reboot { step_text input_text (Step.Reboot 3) ≡ codes "reboot 3" }
+    ensures steps { steps_text input_text (Step.In 1 LockInput.Lock ∷ Step.Deliver 10 ∷ []) ≡ codes "in 1 lock\ndeliver 10\n" }
+    ensures taken { item_text input_text output_text (Item.Input 2 LockInput.Unlock) ≡ codes "in 2 unlock" }
+    ensures given { item_text input_text output_text (Item.Output 1 LockOutput.Locked) ≡ codes "out 1 locked" }
+    ensures trace { trace_text input_text output_text (Item.Input 1 LockInput.Lock ∷ Item.Output 1 LockOutput.Locked ∷ []) ≡ codes "in 1 lock\nout 1 locked\n" }
+    ensures refusal { refusal_line 4 Why.NoCopy ≡ codes "line 4: no copy\n" }
+    ensures late_refusal { refusal_line 2000001 Why.TooManyEvents ≡ codes "line 2000001: too many events\n" }
+    ensures of_lines { (why_text Why.LineTooLong ≡ codes "line too long") × (why_text Why.TooManyEvents ≡ codes "too many events") × (why_text Why.Header ≡ codes "header") }
+    ensures of_words { (why_text Why.UnknownWord ≡ codes "unknown word") × (why_text Why.Number ≡ codes "number") × (why_text Why.Text ≡ codes "text") }
+    ensures of_steps { (why_text Why.NotThisNet ≡ codes "not this network") × (why_text Why.NoSuchNode ≡ codes "no such node") × (why_text Why.NoInputHere ≡ codes "no input here") }
+    ensures of_nodes { (why_text Why.NodeDown ≡ codes "node down") × (why_text Why.NodeUp ≡ codes "node up") × (why_text Why.NoCopy ≡ codes "no copy") }
+{}

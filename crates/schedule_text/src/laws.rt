@@ -1,0 +1,25 @@
+ghost use Rattle.std.specs.Prelude.{◌≡◌, ℕ, ◌<◌, ◌≤◌, List, Some};
+ghost use Rattle.std.specs.Fmt.{decimal};
+ghost use Rattle.schedule_text.specs.Headers.{header_of, header_text};
+ghost use Rattle.schedule_text.specs.Printing.{step_text};
+ghost use Rattle.schedule_text.specs.Reading.{number_of, step_of};
+ghost use Rattle.schedule_text.specs.Spellable.{IsSpellable};
+
+use app_text::AppText;
+use vst_base::{Net, StackId, Step};
+
+/// Each number in range has one spelling, its decimal digits.
+pub fn numbers_have_one_spelling()
+    ensures reads_back { (n : ℕ) → n < 4294967296 → number_of (decimal n) ≡ Some n }
+    ensures one_spelling { (bs : List ℕ) (n : ℕ) → number_of bs ≡ Some n → bs ≡ decimal n }
+{}
+
+/// The text of a step is read as the step, where its number is in range and its input is read back.
+pub fn steps_read_back<A: AppText>()
+    ensures { (s : Step A.Input) → IsSpellable A.input_of A.input_text s → step_of A.input_of (step_text A.input_text s) ≡ Some s }
+{}
+
+/// The text of a header of a lock server on a bag of packets is read as the header, from 2 nodes to 9.
+pub fn headers_read_back()
+    ensures { (nodes : ℕ) → 2 ≤ nodes → nodes ≤ 9 → header_of (header_text (record { net = Net.Bag; stack = StackId.Lock; nodes = nodes })) ≡ Some (record { net = Net.Bag; stack = StackId.Lock; nodes = nodes }) }
+{}

@@ -1,0 +1,46 @@
+-- What a run of the program without faults does, from its words and its input.
+use Rattle.std.specs.Prelude.{ℕ, Bool, true, false, List, [], ◌∷◌, Option, Some, None, if◌then◌else◌, codes}
+use Rattle.schedule_text.specs.declared.why.Why.{Why}
+use Rattle.schedule_text.specs.Words.{is_text}
+use Rattle.schedule_text.specs.Printing.{as_line, refusal_line}
+use Rattle.schedule_replay.specs.Replaying.{Replayed}
+use Rattle.schedule_replay.specs.Replays.{replayed}
+
+-- the words are the program's name and replay
+abbrev pub takes : List (List ℕ) → Bool
+takes [] = false
+takes (name ∷ []) = false
+takes (name ∷ command ∷ []) = is_text command (codes "replay")
+takes (name ∷ command ∷ more ∷ words) = false
+
+-- the status, the text on the output, and the line on the error stream
+pub record Answer : Type 0 where
+  pub status : ℕ
+  pub out : List ℕ
+  pub err : List ℕ
+
+abbrev pub usage_line : List ℕ
+usage_line = as_line (codes "usage")
+
+abbrev pub read_line : List ℕ
+read_line = as_line (codes "read")
+
+abbrev pub memory_line : List ℕ
+memory_line = as_line (codes "memory")
+
+-- the line on the error stream where a line of the input is refused
+abbrev pub refusal_text : Option (ℕ × Why) → List ℕ
+refusal_text None = []
+refusal_text (Some r) = refusal_line r.0 r.1
+
+abbrev pub refusal_status : Option (ℕ × Why) → ℕ
+refusal_status None = 0
+refusal_status (Some r) = 3
+
+abbrev pub answer_of : Replayed → Answer
+answer_of r = record { status = refusal_status r.refused; out = r.out; err = refusal_text r.refused }
+
+abbrev pub answered : List (List ℕ) → List ℕ → Answer
+answered words input =
+    if takes words then answer_of (replayed input)
+    else record { status = 2; out = []; err = usage_line }

@@ -1,0 +1,17 @@
+/// The status of a command that came to its end.
+pub const DONE: u8 = 0;
+
+/// The words are refused.
+pub const WORDS_REFUSED: u8 = 2;
+
+/// A line is refused.
+pub const LINE_REFUSED: u8 = 3;
+
+/// Reading the input failed.
+pub const READ_FAILED: u8 = 4;
+
+/// Writing the output, or a line on the error stream, failed.
+pub const WRITE_FAILED: u8 = 5;
+
+/// Want of memory.
+pub const OUT_OF_MEMORY: u8 = 8;
