@@ -7,7 +7,6 @@ use vst_base::{Item, Net, Step, StepRefusal};
 
 /// Each refusal at its border, in the order in which they are tried.
 pub fn refusals_in_order()
-    ensures one_takes_input { echo_refuses Net.One [] (Step.In 1 5) ≡ None }
     ensures one_has_no_tick { echo_refuses Net.One [] (Step.Tick 0) ≡ Some StepRefusal.NotThisNet }
     ensures one_has_no_deliver { echo_refuses Net.One [] (Step.Deliver 0) ≡ Some StepRefusal.NotThisNet }
     ensures bag_has_tick { echo_refuses Net.Bag [] (Step.Tick 0) ≡ None }

@@ -1,4 +1,4 @@
-ghost use Rattle.std.specs.Prelude.{◌≡◌, ◌≢◌, ◌<◌, refl, length, IfOk};
+ghost use Rattle.std.specs.Prelude.{◌⊎◌, ◌≡◌, ◌≢◌, ◌<◌, refl, length, IfOk};
 ghost use Rattle.net_semantics.specs.Shown.{IsSound};
 ghost use Rattle.net_semantics.specs.Echo.{echo};
 ghost use Rattle.net_semantics.specs.EchoLaws.{echo_modest_input, echo_modest_message, echo_modest_timeout};
@@ -100,7 +100,7 @@ fn after<H: Handlers>(
     net: Net,
     steps: &[Step<H::Input>],
 ) -> Result<World<H>, StepRefusal>
-    requires net { net ≢ Net.Fail }
+    requires net { (net ≡ Net.Bag) ⊎ (net ≡ Net.Dup) }
     requires few { length steps.now < 1000000 }
     ensures handlers { IfOk result (λ world. world.handlers ≡ handlers) }
     ensures taken { IfOk result (λ world. world.taken ≡ length steps.now) }
@@ -122,7 +122,7 @@ fn refusal(
     steps: &[Step<u8>],
     next: &Step<u8>,
 ) -> Result<Option<StepRefusal>, StepRefusal>
-    requires net { net ≢ Net.Fail }
+    requires net { (net ≡ Net.Bag) ⊎ (net ≡ Net.Dup) }
     requires few { length steps.now < 1000000 }
 {
     let mut world = after(alloc, Echo { nodes: 2 }, net, steps)?;

@@ -1,4 +1,4 @@
-ghost use Rattle.std.specs.Prelude.{◌≡◌, ◌≢◌, ℕ, ◌+◌, ◌<◌, [], ◌++◌, length, IsTrue, IsOk, IfOk, IfErr, OnOk, OnErr, Some, None, Ok, Err, slice_get};
+ghost use Rattle.std.specs.Prelude.{◌≡◌, ◌≢◌, ◌⊎◌, ℕ, ◌+◌, ◌<◌, [], ◌++◌, length, IsTrue, IsOk, IfOk, IfErr, OnOk, OnErr, Some, None, Ok, Err, slice_get};
 ghost use Rattle.net_semantics.specs.Worlds.{World as DefinedWorld, first_world, copies, ends};
 ghost use Rattle.net_semantics.specs.Steps.{next, refusal_of, items_of, IsAnswer};
 ghost use Rattle.net_semantics.specs.Runs.{no_recovery};
@@ -52,9 +52,9 @@ impl<H: Handlers> Model for World<H> {
 }
 
 impl<H: Handlers> World<H> {
-    /// The first world of these handlers on a network without crashes.
+    /// The first world of these handlers on a bag, or on a network that copies packets too.
     pub fn new(alloc: Global, handlers: H, net: Net) -> Result<Self, AllocError>
-        requires { net ≢ Net.Fail }
+        requires { (net ≡ Net.Bag) ⊎ (net ≡ Net.Dup) }
         ensures handlers { IfOk result (λ world. world.handlers ≡ handlers) }
         ensures net { IfOk result (λ world. world.net ≡ net) }
         ensures first { IfOk result (λ world. Shows (H.meaning handlers).nodes world (first_world {K = H.State} (H.meaning handlers))) }

@@ -61,9 +61,10 @@ refused-of-whole bytes given rest left' whole now true at_end r out out' is gain
     let same = all-given bytes given rest whole (sym now ∙ at_end refl) in
     (subst (λ (bs : List ℕ). (replayed bs).refused ≡ Some r) same is, subst (λ (bs : List ℕ). Gained out out' (replayed bs).out) same gained)
 refused-of-whole bytes given rest left' whole now false at_end r out out' is gained =
-    let whole_text = so_far-refused given rest r is in
-    (ap (λ (bs : List ℕ). (replayed bs).refused) whole ∙ whole_text.0,
-      subst (λ (t : List ℕ). Gained out out' t) (sym (ap (λ (bs : List ℕ). (replayed bs).out) whole ∙ whole_text.1)) gained)
+    let whole_text = so_far-refused given rest r is in (
+      ap (λ (bs : List ℕ). (replayed bs).refused) whole ∙ whole_text.0,
+      subst (λ (t : List ℕ). Gained out out' t) (sym (ap (λ (bs : List ℕ). (replayed bs).out) whole ∙ whole_text.1)) gained,
+    )
 
 -- why a replay failed, by what was delivered
 pub fails-as : (left left' : Option (List ℕ)) (read read' : ℕ) (out out' : Option (List ℕ)) (write write' : ℕ) (given : List ℕ) (ended : Bool) (why : ReplayFault)
@@ -75,9 +76,11 @@ fails-as None left' read read' out out' write write' given ended fault.Write gav
 fails-as None left' read read' out out' write write' given ended (fault.Refused line why) gave end rose sent = tt
 fails-as None left' read read' out out' write write' given ended fault.Memory gave end rose sent = tt
 fails-as (Some bytes) left' read read' out out' write write' given true fault.Read gave end rose sent = cc
-fails-as (Some bytes) left' read read' out out' write write' given false fault.Read gave end rose sent =
-    (rose refl, (given, gave, record { taken = sent.1; written = sent.2 }),
-      front-of-whole bytes given gave.0 left' gave.1 gave.2 false end out out' (gained-is-front out out' (replayed_so_far given).out sent.2))
+fails-as (Some bytes) left' read read' out out' write write' given false fault.Read gave end rose sent = (
+  rose refl,
+  (given, gave, record { taken = sent.1; written = sent.2 }),
+  front-of-whole bytes given gave.0 left' gave.1 gave.2 false end out out' (gained-is-front out out' (replayed_so_far given).out sent.2),
+)
 fails-as (Some bytes) left' read read' out out' write write' given ended fault.Write gave end rose sent =
     (sent.0, front-of-whole bytes given gave.0 left' gave.1 gave.2 ended end out out' sent.1)
 fails-as (Some bytes) left' read read' out out' write write' given ended (fault.Refused line why) gave end rose sent =

@@ -74,7 +74,7 @@ opening-append : (n : ℕ) (ls ms : List (List ℕ)) → opening n (ls ++ ms) �
 opening-append n [] ms = refl
 opening-append n (l ∷ ls) ms =
     unless-append (first_of (line_refusals n l)) (is_skipped l) n (opening (n + 1) ls) (opening (n + 1) (ls ++ ms))
-      (opened (header_of l) n ls) (opened (header_of l) n (ls ++ ms)) ms (opening-append (n + 1) ls ms) (opened-append (header_of l) n ls ms)
+    (opened (header_of l) n ls) (opened (header_of l) n (ls ++ ms)) ms (opening-append (n + 1) ls ms) (opened-append (header_of l) n ls ms)
 
 -- a script goes on behind another, which has no fault, or is the same
 abbrev GoesOn : {I : Type 0} → Script I → Script I → Type 0
@@ -132,7 +132,7 @@ module _ {S K I O M : Type 0} (net : Net) (m : Meaning S I O M) (r : Recovery S 
   refused-append w [] ts p e = cc
   refused-append w (s ∷ ss) ts p e =
       refused-step (refusal_of net m w s) (first_refused_from net m r (next m r w s) ss) (first_refused_from net m r (next m r w s) (ss ++ ts)) p (length ss) e
-        (λ q is. refused-append (next m r w s) ss ts q is)
+      (λ q is. refused-append (next m r w s) ss ts q is)
 
   steps-append : (sc big : Script I) (more : List (ℕ × Step I)) → big.steps ≡ sc.steps ++ more → steps_of big ≡ steps_of sc ++ map (λ p. p.1) more
   steps-append sc big more e = ap (λ ss. map (λ (p : ℕ × Step I). p.1) ss) e ∙ map-append (λ (p : ℕ × Step I). p.1) sc.steps more
@@ -146,9 +146,10 @@ module _ {S K I O M : Type 0} (net : Net) (m : Meaning S I O M) (r : Recovery S 
       let both = refused-append w (steps_of sc) (map (λ p. p.1) more) p is in
       let first : first_refused_from net m r w (steps_of big) ≡ Some p = ap (λ ss. first_refused_from net m r w ss) steps ∙ both.0 in
       let long : length (steps_of sc) ≡ length sc.steps = length-map sc.steps (λ (p : ℕ × Step I). p.1) in
-      let within : p.0 < length sc.steps = omega (arith, both.1, long) in
-      (ap (λ o. stop_at big o) first ∙ ap (λ n. Some (n, why_of p.1)) (ap (λ ss. line_at p.0 ss) e ∙ line_at-append p.0 sc.steps more within),
-       ap (λ o. taken_at big o) first ∙ (ap (λ ss. take p.0 ss) steps ∙ take-append-le p.0 (steps_of sc) (map (λ p. p.1) more) (omega (arith, both.1))))
+      let within : p.0 < length sc.steps = omega (arith, both.1, long) in (
+        ap (λ o. stop_at big o) first ∙ ap (λ n. Some (n, why_of p.1)) (ap (λ ss. line_at p.0 ss) e ∙ line_at-append p.0 sc.steps more within),
+        ap (λ o. taken_at big o) first ∙ (ap (λ ss. take p.0 ss) steps ∙ take-append-le p.0 (steps_of sc) (map (λ p. p.1) more) (omega (arith, both.1))),
+      )
 
   stop-by : (w : World S K M) (sc big : Script I) → GoesOn sc big → (o : Option (ℕ × StepRefusal)) → first_refused_from net m r w (steps_of sc) ≡ o
       → (x : ℕ × Why) → stop_at sc o ≡ Some x → (stop_from net m r w big ≡ Some x) × (taken_from net m r w big ≡ taken_at sc o)
@@ -161,9 +162,11 @@ module _ {S K I O M : Type 0} (net : Net) (m : Meaning S I O M) (r : Recovery S 
   taken-later : (sc big : Script I) (us : List (Step I)) → steps_of big ≡ steps_of sc ++ us → (o : Option (ℕ × StepRefusal))
       → (ts : List (Step I)) × (taken_at big (later (length (steps_of sc)) o) ≡ steps_of sc ++ ts)
   taken-later sc big us e None = (us, ap (λ o. taken_at big o) (later-none (length (steps_of sc))) ∙ e)
-  taken-later sc big us e (Some p) =
-      (take p.0 us, ap (λ o. taken_at big o) (later-some (length (steps_of sc)) p)
-        ∙ (ap (λ ss. take (length (steps_of sc) + p.0) ss) e ∙ take-append-add (steps_of sc) us p.0))
+  taken-later sc big us e (Some p) = (
+    take p.0 us,
+    ap (λ o. taken_at big o) (later-some (length (steps_of sc)) p)
+        ∙ (ap (λ ss. take (length (steps_of sc) + p.0) ss) e ∙ take-append-add (steps_of sc) us p.0),
+  )
 
   taken-by : (w : World S K M) (sc big : Script I) → GoesOn sc big → (o : Option (ℕ × StepRefusal)) → first_refused_from net m r w (steps_of sc) ≡ o
       → (ts : List (Step I)) × (taken_from net m r w big ≡ taken_at sc o ++ ts)
@@ -172,7 +175,7 @@ module _ {S K I O M : Type 0} (net : Net) (m : Meaning S I O M) (r : Recovery S 
       let steps : steps_of big ≡ steps_of sc ++ us = steps-append sc big h.1 h.2 in
       let behind = first_refused_from net m r (run_from m r w (steps_of sc)) us in
       let first : first_refused_from net m r w (steps_of big) ≡ later (length (steps_of sc)) behind =
-            ap (λ ss. first_refused_from net m r w ss) steps ∙ first_refused_from-append m r net w (steps_of sc) us is in
+      ap (λ ss. first_refused_from net m r w ss) steps ∙ first_refused_from-append m r net w (steps_of sc) us is in
       let t = taken-later sc big us steps behind in
       (t.0, ap (λ o. taken_at big o) first ∙ t.1)
   taken-by w sc big h (Some p) is =
@@ -214,19 +217,21 @@ module _ {S K I O M : Type 0} (st : Stack S K I O M) where
       → ((replayed_script st true big).refused ≡ Some x) × ((replayed_script st true big).out ≡ (replayed_script st false sc).out)
   script-refused sc big h x e =
       let small = ended-refused false (taken st sc) (stop st sc) x e in
-      let both = stop-same st.net st.meaning st.recovery (first_world st.meaning) sc big h x small in
-      (ap (λ o. (ended st true (taken st big) o).refused) both.0,
-       ap (λ o. (ended st true (taken st big) o).out) both.0 ∙ (ap (λ ss. trace_lines st ss) both.1 ∙ sym (ended-false (taken st sc) (stop st sc))))
+      let both = stop-same st.net st.meaning st.recovery (first_world st.meaning) sc big h x small in (
+        ap (λ o. (ended st true (taken st big) o).refused) both.0,
+        ap (λ o. (ended st true (taken st big) o).out) both.0 ∙ (ap (λ ss. trace_lines st ss) both.1 ∙ sym (ended-false (taken st sc) (stop st sc))),
+      )
 
   script-front : (sc big : Script I) → (big ≡ sc) ⊎ GoesOn sc big
       → (more : List ℕ) × ((replayed_script st true big).out ≡ (replayed_script st false sc).out ++ more)
   script-front sc big h =
       let t = taken-front st.net st.meaning st.recovery (first_world st.meaning) sc big h in
       let a = ended-true (taken st big) (stop st big) in
-      let b = trace-append (taken st sc) t.0 in
-      (b.0 ++ a.0,
-       a.1 ∙ (ap (λ ss. trace_lines st ss ++ a.0) t.1 ∙ (ap (λ xs. xs ++ a.0) b.1 ∙ (append_assoc (trace_lines st (taken st sc)) b.0 a.0
-         ∙ ap (λ xs. xs ++ (b.0 ++ a.0)) (sym (ended-false (taken st sc) (stop st sc)))))))
+      let b = trace-append (taken st sc) t.0 in (
+        b.0 ++ a.0,
+        a.1 ∙ (ap (λ ss. trace_lines st ss ++ a.0) t.1 ∙ (ap (λ xs. xs ++ a.0) b.1 ∙ (append_assoc (trace_lines st (taken st sc)) b.0 a.0
+            ∙ ap (λ xs. xs ++ (b.0 ++ a.0)) (sym (ended-false (taken st sc) (stop st sc)))))),
+      )
 
 -- one replay is refused where another is, with the same trace before it
 abbrev RefusedToo : Replayed → Replayed → (ℕ × Why) → Type 0
@@ -272,7 +277,7 @@ replayed-append : (given rest : List ℕ)
     → replayed (given ++ rest) ≡ replayed_opening true (opening_with (opening 1 (whole_lines given)) (lines_of ((split_lines given).1 ++ rest)))
 replayed-append given rest =
     ap (λ ls. replayed_opening true (opening 1 ls)) (lines-append given rest)
-      ∙ ap (λ o. replayed_opening true o) (opening-append 1 (whole_lines given) (lines_of ((split_lines given).1 ++ rest)))
+    ∙ ap (λ o. replayed_opening true o) (opening-append 1 (whole_lines given) (lines_of ((split_lines given).1 ++ rest)))
 
 -- a line that is refused among the whole lines of a text that broke off is the first refused of the whole text, with
 -- the same trace before it

@@ -61,7 +61,7 @@ module _ {H S I O M : Type 0} (net : Net) (m : Meaning S I O M) where
     done = p.done;
     ran = ran;
     stops = ap (stop_from net m (no_recovery {S = S}) (run m no_recovery p.done)) (sym e) ∙ p.stops;
-    takes = ap (λ sc. p.done ++ taken_from net m (no_recovery {S = S}) (run m no_recovery p.done) sc) (sym e) ∙ p.takes
+    takes = ap (λ sc. p.done ++ taken_from net m (no_recovery {S = S}) (run m no_recovery p.done) sc) (sym e) ∙ p.takes;
   }
 
   progress-step : (v u : RunView H S I O M) (whole : Script I) (number : ℕ) (s : Step I) (rest : Script I) (p : Progress net m v whole (with_step number s rest))
@@ -78,7 +78,7 @@ module _ {H S I O M : Type 0} (net : Net) (m : Meaning S I O M) where
         stops = ap (λ x. stop_from net m r x rest) goes ∙ (sym (stop_behind number s rest (refusal_of net m w s) later allowed) ∙ p.stops);
         takes = append_assoc p.done (s ∷ []) (taken_from net m r (run m r (p.done ++ s ∷ [])) rest)
             ∙ (ap (λ x. p.done ++ s ∷ taken_from net m r x rest) goes
-            ∙ (ap (λ ss. p.done ++ ss) (sym (taken_behind number s rest (refusal_of net m w s) later allowed)) ∙ p.takes))
+            ∙ (ap (λ ss. p.done ++ ss) (sym (taken_behind number s rest (refusal_of net m w s) later allowed)) ∙ p.takes));
       }
 
   -- one more line that is not refused
@@ -87,12 +87,12 @@ module _ {H S I O M : Type 0} (net : Net) (m : Meaning S I O M) where
       → Progress net m u whole (rest (events + (if stepped then 1 else 0)))
   progress-next v u whole l number events rest false p same took =
       progress-as v u whole (script_line l number events rest) (rest (events + 0))
-        (ap (λ x. script_line x number events rest) took.0 ∙ ap rest (sym (add-zero events))) p took.1
+      (ap (λ x. script_line x number events rest) took.0 ∙ ap rest (sym (add-zero events))) p took.1
   progress-next v u whole l number events rest true p same took =
       let e : script_line l number events rest ≡ with_step number took.0 (rest (events + 1)) = ap (λ x. script_line x number events rest) took.1 in
       let q = progress-as v v whole (script_line l number events rest) (with_step number took.0 (rest (events + 1))) e p p.ran in
       progress-step v u whole number took.0 (rest (events + 1)) q
-        (subst (λ (n : Net). refusal_of n m (run m (no_recovery {S = S}) p.done) took.0 ≡ None) same took.2) took.3
+      (subst (λ (n : Net). refusal_of n m (run m (no_recovery {S = S}) p.done) took.0 ≡ None) same took.2) took.3
 
   -- what was played, on the view's own network
   has-played : (v : RunView H S I O M) (whole : Script I) (stop : Option (ℕ × Why)) → v.world.net ≡ net
@@ -101,7 +101,7 @@ module _ {H S I O M : Type 0} (net : Net) (m : Meaning S I O M) where
       → HasPlayed m v whole stop
   has-played v whole stop same stops took = record {
     stops = subst (λ (n : Net). stop_from n m (no_recovery {S = S}) (run m no_recovery []) whole ≡ stop) (sym same) stops;
-    took = subst (λ (n : Net). HasRun m (taken_from n m (no_recovery {S = S}) (run m no_recovery []) whole) v) (sym same) took
+    took = subst (λ (n : Net). HasRun m (taken_from n m (no_recovery {S = S}) (run m no_recovery []) whole) v) (sym same) took;
   }
 
   -- a script that stops here, behind what was taken
@@ -111,7 +111,7 @@ module _ {H S I O M : Type 0} (net : Net) (m : Meaning S I O M) where
       → HasPlayed m u whole stop
   played-up-to v u whole rest stop p same ran stops takes =
       has-played u whole stop same (sym p.stops ∙ stops)
-        (subst (λ (ss : List (Step I)). HasRun m ss u) (sym (append-nil p.done) ∙ (ap (λ ss. p.done ++ ss) (sym takes) ∙ p.takes)) ran)
+      (subst (λ (ss : List (Step I)). HasRun m ss u) (sym (append-nil p.done) ∙ (ap (λ ss. p.done ++ ss) (sym takes) ∙ p.takes)) ran)
 
   -- at the end all was played
   pub progress-end : (v : RunView H S I O M) (whole : Script I) → Progress net m v whole (record { steps = []; fault = None }) → v.world.net ≡ net → HasPlayed m v whole None
@@ -124,22 +124,23 @@ module _ {H S I O M : Type 0} (net : Net) (m : Meaning S I O M) where
   progress-halt v u whole l number events rest n why p same took =
       let w = run m (no_recovery {S = S}) p.done in
       elim took.1 [
-        inl is ↦
-          let e : script_line l number events rest ≡ refused_script number why = ap (λ x. script_line x number events rest) is in
-          played-up-to v u whole (script_line l number events rest) (Some (n, why)) p same took.2
+        | inl is ↦
+            let e : script_line l number events rest ≡ refused_script number why = ap (λ x. script_line x number events rest) is in
+            played-up-to v u whole (script_line l number events rest) (Some (n, why)) p same took.2
             (ap (stop_from net m (no_recovery {S = S}) w) e ∙ rw took.0 refl)
             (ap (taken_from net m (no_recovery {S = S}) w) e)
-      | inr is ↦
-          let s = is.0 in
-          let behind = rest (events + 1) in
-          let e : script_line l number events rest ≡ with_step number s behind = ap (λ x. script_line x number events rest) is.2 in
-          let refused = subst (λ (k : Net). refusal_of k m w s ≡ Some is.1) same is.3 in
-          let later = first_refused_from net m (no_recovery {S = S}) (next m (no_recovery {S = S}) w s) (steps_of behind) in
-          played-up-to v u whole (script_line l number events rest) (Some (n, why)) p same took.2
+        | inr is ↦
+            let s = is.0 in
+            let behind = rest (events + 1) in
+            let e : script_line l number events rest ≡ with_step number s behind = ap (λ x. script_line x number events rest) is.2 in
+            let refused = subst (λ (k : Net). refusal_of k m w s ≡ Some is.1) same is.3 in
+            let later = first_refused_from net m (no_recovery {S = S}) (next m (no_recovery {S = S}) w s) (steps_of behind) in
+            played-up-to v u whole (script_line l number events rest) (Some (n, why)) p same took.2
             (ap (stop_from net m (no_recovery {S = S}) w) e
-              ∙ (stop_here number s behind (refusal_of net m w s) later is.1 refused
-              ∙ (ap (λ x. Some (x, why_of is.1)) (sym took.0) ∙ ap (λ x. Some (n, x)) (sym is.4))))
-            (ap (taken_from net m (no_recovery {S = S}) w) e ∙ taken_here number s behind (refusal_of net m w s) later is.1 refused) ]
+            ∙ (stop_here number s behind (refusal_of net m w s) later is.1 refused
+            ∙ (ap (λ x. Some (x, why_of is.1)) (sym took.0) ∙ ap (λ x. Some (n, x)) (sym is.4))))
+            (ap (taken_from net m (no_recovery {S = S}) w) e ∙ taken_here number s behind (refusal_of net m w s) later is.1 refused)
+      ]
 
 -- a test as a count
 pub bool_byte-if : (b : Bool) → bool_byte b ≡ (if b then 1 else 0)

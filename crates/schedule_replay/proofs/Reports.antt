@@ -48,7 +48,7 @@ module _ {S I O M : Type 0} (h : Header) (m : Meaning S I O M) (t : Texts I O) w
       rw (replies items, length-map ss (step_text t.input_text)) (ap (λ bs. record {
         out = trace_text t.input_text t.output_text items ++ bs;
         refused = None;
-        counts = counts_from ss items
+        counts = counts_from ss items;
       }) (header ∙ lines))
 
   -- what was played, reported

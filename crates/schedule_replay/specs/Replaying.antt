@@ -91,7 +91,7 @@ counts_of st ss = record {
   inputs = count_by is_input (trace_of st ss);
   outputs = count_by is_output (trace_of st ss);
   replies = count_by (is_reply_by st.is_reply) (trace_of st ss);
-  image = length (st.image ss)
+  image = length (st.image ss);
 }
 
 abbrev pub no_counts : Done

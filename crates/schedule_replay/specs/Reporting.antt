@@ -23,7 +23,7 @@ counts_from ss items = record {
   inputs = count_by is_input items;
   outputs = count_by is_output items;
   replies = count_by is_output items;
-  image = length ss
+  image = length ss;
 }
 
 abbrev pub reported : {I O : Type 0} → Texts I O → Header → Bool → List (Step I) → List (Item I O) → Option (ℕ × Why) → Replayed

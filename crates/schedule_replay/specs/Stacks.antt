@@ -41,5 +41,5 @@ plain_stack h m t = record {
   output_text = t.output_text;
   is_reply = λ _. true;
   image_header = header_text h ∷ [];
-  image = λ ss. map (step_text t.input_text) ss
+  image = λ ss. map (step_text t.input_text) ss;
 }

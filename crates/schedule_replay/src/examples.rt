@@ -39,5 +39,4 @@ pub fn worked()
     // A text that broke off: its whole lines alone.
     ensures broken_off { (replayed_so_far (codes "schedule 1 bag lock 2\nin 1 lock\nin 1 lo")).out ≡ codes "in 1 lock\n" }
     ensures broken_off_in_order { (replayed_so_far (codes "schedule 1 bag lock 2\nin 1 lock\nin 1 lo")).refused ≡ None }
-{
-}
+{}

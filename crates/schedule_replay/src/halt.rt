@@ -8,4 +8,3 @@ pub(crate) enum Halt {
     /// Want of memory.
     Memory,
 }
-

@@ -11,8 +11,8 @@ mod halt;
 mod halting;
 mod opening;
 mod opens;
-mod play;
 mod outcome;
+mod play;
 mod report;
 mod texts;
 

@@ -25,19 +25,55 @@ pub fn run<S: Source, O: Sink, E: Sink, D: Device>(
     ensures status { IsStatus result }
     ensures complete { IsComplete (map string_bytes words.now) (S.left input.old) (Rose (S.faults input.old) (S.faults input.new))
         (Rose (O.faults out.old) (O.faults out.new)) (Rose (E.faults err.old) (E.faults err.new)) result }
-    ensures done { result ≡ 0 → IsDone (map string_bytes words.now) (record { left = S.left input.old; left' = S.left input.new;
-        out = O.written out.old; out' = O.written out.new; err = E.written err.old; err' = E.written err.new }) }
-    ensures words { result ≡ 2 → AreWordsRefused (map string_bytes words.now) (record { left = S.left input.old; left' = S.left input.new;
-        out = O.written out.old; out' = O.written out.new; err = E.written err.old; err' = E.written err.new }) }
+    ensures done { result ≡ 0 → IsDone (map string_bytes words.now) (record {
+      left = S.left input.old;
+      left' = S.left input.new;
+      out = O.written out.old;
+      out' = O.written out.new;
+      err = E.written err.old;
+      err' = E.written err.new;
+    }) }
+    ensures words { result ≡ 2 → AreWordsRefused (map string_bytes words.now) (record {
+      left = S.left input.old;
+      left' = S.left input.new;
+      out = O.written out.old;
+      out' = O.written out.new;
+      err = E.written err.old;
+      err' = E.written err.new;
+    }) }
     ensures words_only { takes (map string_bytes words.now) ≡ false → (result ≡ 2) ⊎ (result ≡ 5) ⊎ (result ≡ 8) }
-    ensures refused { result ≡ 3 → IsLineRefused (map string_bytes words.now) (record { left = S.left input.old; left' = S.left input.new;
-        out = O.written out.old; out' = O.written out.new; err = E.written err.old; err' = E.written err.new }) }
-    ensures read { result ≡ 4 → HasReadFailed (map string_bytes words.now) (S.faults input.old) (S.faults input.new) (record { left = S.left input.old; left' = S.left input.new;
-        out = O.written out.old; out' = O.written out.new; err = E.written err.old; err' = E.written err.new }) }
-    ensures write { result ≡ 5 → HasWriteFailed (map string_bytes words.now) (O.faults out.old) (O.faults out.new) (E.faults err.old) (E.faults err.new) (record { left = S.left input.old; left' = S.left input.new;
-        out = O.written out.old; out' = O.written out.new; err = E.written err.old; err' = E.written err.new }) }
-    ensures memory { result ≡ 8 → IsOutOfMemory (map string_bytes words.now) (E.wants err.old) (E.wants err.new) (record { left = S.left input.old; left' = S.left input.new;
-        out = O.written out.old; out' = O.written out.new; err = E.written err.old; err' = E.written err.new }) }
+    ensures refused { result ≡ 3 → IsLineRefused (map string_bytes words.now) (record {
+      left = S.left input.old;
+      left' = S.left input.new;
+      out = O.written out.old;
+      out' = O.written out.new;
+      err = E.written err.old;
+      err' = E.written err.new;
+    }) }
+    ensures read { result ≡ 4 → HasReadFailed (map string_bytes words.now) (S.faults input.old) (S.faults input.new) (record {
+      left = S.left input.old;
+      left' = S.left input.new;
+      out = O.written out.old;
+      out' = O.written out.new;
+      err = E.written err.old;
+      err' = E.written err.new;
+    }) }
+    ensures write { result ≡ 5 → HasWriteFailed (map string_bytes words.now) (O.faults out.old) (O.faults out.new) (E.faults err.old) (E.faults err.new) (record {
+      left = S.left input.old;
+      left' = S.left input.new;
+      out = O.written out.old;
+      out' = O.written out.new;
+      err = E.written err.old;
+      err' = E.written err.new;
+    }) }
+    ensures memory { result ≡ 8 → IsOutOfMemory (map string_bytes words.now) (E.wants err.old) (E.wants err.new) (record {
+      left = S.left input.old;
+      left' = S.left input.new;
+      out = O.written out.old;
+      out' = O.written out.new;
+      err = E.written err.old;
+      err' = E.written err.new;
+    }) }
     ensures reads { S.faults input.old ≤ S.faults input.new }
     ensures writes { O.faults out.old ≤ O.faults out.new }
     ensures complains { E.faults err.old ≤ E.faults err.new }

@@ -11,5 +11,4 @@ pub fn worked()
     ensures delivered_twice { answered (codes "vst" ∷ codes "replay" ∷ []) (codes "schedule 1 bag lock 2\nin 1 lock\ndeliver 0\ndeliver 0\n")
         ≡ record { status = 3; out = codes "in 1 lock\n"; err = codes "line 4: no copy\n" } }
     ensures no_header { answered (codes "vst" ∷ codes "replay" ∷ []) [] ≡ record { status = 3; out = []; err = codes "line 1: header\n" } }
-{
-}
+{}

@@ -10,3 +10,6 @@ mod words;
 
 pub use answers::run;
 pub use examples::worked;
+
+#[cfg(test)]
+mod tests;

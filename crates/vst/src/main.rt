@@ -3,7 +3,7 @@
 #![tactic(auto)]
 
 use outside::{Sink, WriteOutcome};
-use outside_real::{RealDevice, ReaderSource, WriterSink};
+use outside_real::{ReaderSource, RealDevice, WriterSink};
 use std::env;
 use std::io::{self, ErrorKind};
 use std::process::ExitCode;

@@ -26,6 +26,6 @@ returns-in-Ok g c =
     let net = c.play-played.ensures.net ∙ (c.in_ok-running.ensures.net ∙ sym c.requires.net) in
     let told = reported-script header m t v sc whole refused net has in
     IfOk-weaker c.report.result _ _ (λ r is.
-      is ∙ (ap (λ (ss : List (Step g.row.H-Input.Denot)). reported t header whole ss c.items.result.now refused) (c.lines.ensures ∙ c.in-Ok.ensures.image)
-      ∙ (ap (λ (xs : List (Item g.row.H-Input.Denot g.row.H-Output.Denot)). reported t header whole v.image xs refused) (c.items.ensures ∙ c.in-Ok.ensures.trace)
-      ∙ told))) c.report.ensures
+    is ∙ (ap (λ (ss : List (Step g.row.H-Input.Denot)). reported t header whole ss c.items.result.now refused) (c.lines.ensures ∙ c.in-Ok.ensures.image)
+    ∙ (ap (λ (xs : List (Item g.row.H-Input.Denot g.row.H-Output.Denot)). reported t header whole v.image xs refused) (c.items.ensures ∙ c.in-Ok.ensures.trace)
+    ∙ told))) c.report.ensures

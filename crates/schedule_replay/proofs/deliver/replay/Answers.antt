@@ -16,4 +16,4 @@ returns-in-Ok-replayed_of-clause-fault g c =
     let after = c.deliver.new.sink in
     let sent = subst (λ (t : Replayed). Delivered t ended (k.written before) (k.written after) (k.faults before) (k.faults after) c.deliver.result) c.in-Ok-replayed_of.ensures c.deliver.ensures.delivered in
     fails-if (s.left old) (s.left new) (s.faults old) (s.faults new) (k.written before) (k.written after) (k.faults before) (k.faults after) given ended c.deliver.result
-      c.in-Ok.ensures.given c.in-Ok.ensures.ended c.in-Ok.ensures.failed sent
+    c.in-Ok.ensures.given c.in-Ok.ensures.ended c.in-Ok.ensures.failed sent

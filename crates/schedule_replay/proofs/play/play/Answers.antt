@@ -20,7 +20,7 @@ loop-line-preserved g c =
     let line = read_line input_of c.loop-line.number c.loop-line.events c.in-Some.line.now in
     let stepped = c.in_ok-stepped.stepped in
     let took = subst (λ (v : g.row.H.Denot). (ss : List (Step g.row.H-Input.Denot)) → HasRun (h.meaning v) ss old
-        → TookLine (h.meaning v) new ss line c.loop-line.number (Ok stepped)) inv.handlers c.in_ok-stepped.ensures.took in
+    → TookLine (h.meaning v) new ss line c.loop-line.number (Ok stepped)) inv.handlers c.in_ok-stepped.ensures.took in
     let sound = subst (λ (v : g.row.H.Denot). IsSound (h.meaning v) (h.sound v) (h.spent v) new.world) inv.handlers c.in_ok-stepped.ensures.sound in
     let old_net = c.args.running.now.world.net in
     let m = h.meaning start in
@@ -36,7 +36,7 @@ loop-line-preserved g c =
       counted = c.in_ok-stepped.ensures.taken ∙ ap (λ k. c.loop-line.events + k) (sym one);
       few_lines = omega (arith, c.in_ok-stepped.ensures.few_lines);
       progress = subst (λ (k : ℕ). Progress old_net m new whole (script input_of (c.loop-line.number + 1) (c.loop-line.events + k) behind)) (sym one)
-        (progress-next old_net m old new whole line c.loop-line.number c.loop-line.events (λ e. script input_of (c.loop-line.number + 1) e behind) stepped before net (took before.done before.ran));
+          (progress-next old_net m old new whole line c.loop-line.number c.loop-line.events (λ e. script input_of (c.loop-line.number + 1) e behind) stepped before net (took before.done before.ran));
     }
 
 pub returns-clause-played : goal.returns-clause-played
