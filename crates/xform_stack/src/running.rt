@@ -1,7 +1,8 @@
 ghost use Rattle.std.specs.Prelude.{◌≡◌, ◌≢◌, ℕ, ◌+◌, ◌<◌, List, [], ◌∷◌, ◌++◌, length, IfOk, IfErr, OnOk, OnErr};
 ghost use Rattle.net_semantics.specs.Steps.{refusal_of};
 ghost use Rattle.net_semantics.specs.Runs.{run, no_recovery};
-ghost use Rattle.net_semantics.specs.Shown.{IsSound};
+ghost use Rattle.net_semantics.specs.Shown.{IsSound, Shows};
+ghost use Rattle.net_semantics.specs.Worlds.{World as DefinedWorld, copies, ends};
 ghost use Rattle.vst_base.specs.declared.step.Step.{Step};
 ghost use Rattle.xform_stack.specs.Running.{HasRun, IsRunAnswer};
 
@@ -99,6 +100,35 @@ impl<H: Handlers> Running<H> {
         ensures { result.now ≡ self.now.world.trace }
     {
         self.world.trace()
+    }
+
+    /// How many copies of packet `k` are in flight, none of one that was never sent.
+    pub fn copies(&self, k: u32) -> u32
+        ensures { (w : DefinedWorld H.State H.State H.Msg) → Shows (H.meaning self.now.world.handlers).nodes self.now.world w → result ≡ copies w k }
+    {
+        self.world.copies(k)
+    }
+
+    /// The source and the destination of packet `k`, and `None` exactly where it was never sent.
+    pub fn ends(&self, k: u32) -> Option<(Node, Node)>
+        ensures { (w : DefinedWorld H.State H.State H.Msg) → Shows (H.meaning self.now.world.handlers).nodes self.now.world w → result ≡ ends w k }
+    {
+        self.world.ends(k)
+    }
+
+    /// How many packets were sent.
+    pub fn sent(&self) -> u32
+        requires sound { IsSound (H.meaning self.now.world.handlers) (H.sound self.now.world.handlers) (H.spent self.now.world.handlers) self.now.world }
+        ensures { (w : DefinedWorld H.State H.State H.Msg) → Shows (H.meaning self.now.world.handlers).nodes self.now.world w → result ≡ length w.packets }
+    {
+        self.world.sent()
+    }
+
+    /// Whether node `n` is up.
+    pub fn is_up(&self, n: Node) -> bool
+        ensures { (w : DefinedWorld H.State H.State H.Msg) → Shows (H.meaning self.now.world.handlers).nodes self.now.world w → result ≡ w.is_up n }
+    {
+        self.world.is_up(n)
     }
 
     /// The trace and the image of the steps so far.
