@@ -22,3 +22,6 @@ pub use examples::worked;
 pub use fault::ReplayFault;
 pub use outcome::Replayed;
 pub use texts::replayed;
+
+#[cfg(test)]
+mod tests;
