@@ -1,6 +1,9 @@
 use super::*;
+use lock_server::LockServer;
 use schedule_text::Why;
 use std::test::Fail;
+use vst_base::{Item, LockInput, LockOutput, Node, Step, StepRefusal};
+use xform_stack::{RunFault, run_bag};
 
 const NOTHING: Done = Done {
     events: 0,
@@ -53,5 +56,32 @@ fn a_text_that_broke_off_has_no_image(rt: HostRuntime) -> Result<(), Fail> {
     assert_eq!(rt; made.out(), b"in 1 lock\n".as_slice());
     assert_eq!(rt; made.refused(), None);
     assert_eq!(rt; made.counts(), NOTHING);
+    Ok(())
+}
+
+#[test]
+fn a_schedule_of_steps_runs_on_a_bag(rt: HostRuntime) -> Result<(), Fail> {
+    let alloc = rt.alloc();
+    let steps = [
+        Step::In(1, LockInput::Lock),
+        Step::Deliver(0),
+        Step::Deliver(1),
+    ];
+    let ran = run_bag(alloc, LockServer::new(2), &steps).or(Err("not run"))?;
+    let client = Node::new(1, 2).ok_or("no such node")?;
+    let trace = [
+        Item::Input(client, LockInput::Lock),
+        Item::Output(client, LockOutput::Locked),
+    ];
+    assert!(rt; ran.trace.items() == trace.as_slice());
+    assert!(rt; ran.image.lines() == steps.as_slice());
+    let twice = [Step::Deliver(0)];
+    match run_bag(alloc, LockServer::new(2), &twice) {
+        Err(RunFault::Step(why, place)) => {
+            assert_eq!(rt; why, StepRefusal::NoCopy);
+            assert_eq!(rt; place, 0);
+        }
+        _ => return Err(Fail::from("not refused")),
+    }
     Ok(())
 }
