@@ -34,7 +34,7 @@ fn deliver<K: Sink>(sink: &mut K, text: &Replayed, ended: bool) -> Result<Done, 
     }
 }
 
-/// Replays the schedule that a source gives: writes its trace, line by line, and where no line is refused the image
+/// Replays the schedule that a source gives: writes its trace in one piece, and where no line is refused the image
 /// below it.
 pub fn replay<S: Source, K: Sink>(
     alloc: Global,
