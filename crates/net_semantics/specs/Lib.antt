@@ -7,3 +7,4 @@ pub mod Taking
 pub mod RunLaws
 pub mod Echo
 pub mod EchoLaws
+pub mod ShownLaws

@@ -13,8 +13,8 @@ pub record Shown (M : Type 0) : Type 0 where
   pub copies : ℕ
   pub content : Option M
 
--- the handlers and their network, a state for each node, the packets, the trace so far, and how many
--- steps were taken
+-- the handlers and their network, a state for each node, the packets, what clients saw since it was last
+-- let go, and how many steps were taken
 pub record WorldView (H S I O M : Type 0) : Type 0 where
   pub handlers : H
   pub net : Net

@@ -179,6 +179,20 @@ fn clients_see_inputs_before_their_outputs(rt: HostRuntime) -> Result<(), Fail> 
 }
 
 #[test]
+fn a_forgotten_trace_begins_anew(rt: HostRuntime) -> Result<(), Fail> {
+    let steps = [Step::In(1, 5)];
+    let mut world = after(rt.alloc(), Echo { nodes: 2 }, Net::Bag, &steps)?;
+    assert_eq!(rt; world.trace().items().len(), 2);
+    world.forget_trace();
+    assert_eq!(rt; world.trace().items().len(), 0);
+    world.step(&Step::Deliver(0))?;
+    let first = Node::new(0, 2).unwrap();
+    let seen = [Item::Output(first, 5)];
+    assert_eq!(rt; world.trace().items(), seen.as_slice());
+    Ok(())
+}
+
+#[test]
 fn a_refusal_names_the_first_reason(rt: HostRuntime) -> Result<(), Fail> {
     let alloc = rt.alloc();
     for (next, why) in [

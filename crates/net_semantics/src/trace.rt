@@ -36,6 +36,13 @@ impl<I: Drop, O: Drop> Trace<I, O> {
         &self.items
     }
 
+    /// Lets go of every item. It takes no memory.
+    pub fn clear(&mut self)
+        ensures { self.new ≡ [] }
+    {
+        self.items.clear();
+    }
+
     /// Adds an item at the end.
     pub fn push(&mut self, item: Item<I, O>) -> Result<(), AllocError>
         ensures added { OnOk result (self.new ≡ self.old ++ item ∷ []) }

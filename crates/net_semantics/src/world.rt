@@ -119,18 +119,25 @@ impl<H: Handlers> World<H> {
         self.taken
     }
 
-    /// Gives up the world for what clients saw.
+    /// Gives up the world for what clients saw since it was last let go.
     pub fn into_trace(self) -> Trace<H::Input, H::Output>
         ensures { result ≡ self.trace }
     {
         self.trace
     }
 
-    /// What clients saw so far.
+    /// What clients saw since it was last let go.
     pub fn trace(&self) -> &Trace<H::Input, H::Output>
         ensures { result.now ≡ self.now.trace }
     {
         &self.trace
+    }
+
+    /// Lets go of what clients saw so far: the trace begins anew. Nothing else changes.
+    pub fn forget_trace(&mut self)
+        ensures { self.new ≡ record self.old { trace = [] } }
+    {
+        self.trace.clear();
     }
 
     /// How many copies of packet `k` are in flight, none of one that was never sent.

@@ -1,14 +1,15 @@
 -- One more step that is not refused goes on a run.
 use Rattle.std.specs.Prelude.{◌≡◌, ℕ, ◌+◌, List, [], ◌∷◌, ◌++◌, length, Option, Some, None, Err, option_map, refl}
-use Rattle.std.proofs.Common.{zero, suc, ◌<◌, take, drop, get_or, ap, ◌∙◌, sym, arith, length-append, take-append-drop, add-one}
+use Rattle.std.proofs.Common.{zero, suc, ◌<◌, take, drop, get_or, ap, ◌∙◌, sym, arith, length-append, append_assoc, take-append-drop, add-one}
 use Rattle.std.proofs.Math.Seq.{drop-cons}
 use Rattle.std.proofs.lemmas.List.{append-nil}
 use Rattle.handler_trait.specs.Handling.{Meaning}
 use Rattle.vst_base.specs.declared.step.Step.{Step}
+use Rattle.vst_base.specs.declared.step.Item.{Item}
 use Rattle.vst_base.specs.declared.step.StepRefusal.{StepRefusal}
-use Rattle.net_semantics.specs.Worlds.{World, first_world}
+use Rattle.net_semantics.specs.Worlds.{first_world}
 use Rattle.net_semantics.specs.Steps.{next, refusal_of, items_of}
-use Rattle.net_semantics.specs.Runs.{run, trace, first_refused, first_refused_from, no_recovery, place_and_why}
+use Rattle.net_semantics.specs.Runs.{run, trace, first_refused, no_recovery, place_and_why}
 use Rattle.net_semantics.specs.RunLaws.{run_from-append, trace_from-append, first_refused_from-append, later, place_and_why-first}
 use Rattle.net_semantics.specs.Shown.{Shows}
 use Rattle.vst_base.specs.declared.net.Net.{Net}
@@ -23,21 +24,22 @@ later-none (suc n) = ap (λ o. option_map (λ (p : ℕ × StepRefusal). (suc p.0
 place_and_why-both : (f : Option StepRefusal) → f ≡ None → place_and_why f None ≡ None
 place_and_why-both f e = rw e refl
 
-pub has_run-more : {H S I O M : Type 0} (m : Meaning S I O M) (ss : List (Step I)) (s : Step I) (v u : RunView H S I O M)
-    → HasRun m ss v
+pub has_run-more : {H S I O M : Type 0} (m : Meaning S I O M) (ss : List (Step I)) (s : Step I) (gone : List (Item I O)) (v u : RunView H S I O M)
+    → HasRun m ss gone v
     → refusal_of v.world.net m (run m (no_recovery {S = S}) ss) s ≡ None
     → Shows m.nodes u.world (next m (no_recovery {S = S}) (run m no_recovery ss) s)
     → u.world.trace ≡ v.world.trace ++ items_of m (run m (no_recovery {S = S}) ss) s
     → u.world.net ≡ v.world.net
     → u.world.taken ≡ v.world.taken + 1
     → u.image ≡ v.image ++ s ∷ []
-    → HasRun m (ss ++ s ∷ []) u
-has_run-more {H} {S} {I} {O} {M} m ss s v u had not_refused shows traced net counted imaged =
+    → HasRun m (ss ++ s ∷ []) gone u
+has_run-more {H} {S} {I} {O} {M} m ss s gone v u had not_refused shows traced net counted imaged =
     let w = first_world {K = S} m in
     record {
       shows = rw (run_from-append m no_recovery w ss (s ∷ [])) shows;
-      traced = traced ∙ (ap (λ xs. xs ++ items_of m (run m (no_recovery {S = S}) ss) s) had.traced
-          ∙ sym (trace_from-append m no_recovery w ss (s ∷ []) ∙ ap (λ xs. trace m (no_recovery {S = S}) ss ++ xs) (append-nil (items_of m (run m (no_recovery {S = S}) ss) s))));
+      traced = ap (λ xs. gone ++ xs) traced ∙ (sym (append_assoc gone v.world.trace (items_of m (run m (no_recovery {S = S}) ss) s))
+          ∙ (ap (λ xs. xs ++ items_of m (run m (no_recovery {S = S}) ss) s) had.traced
+          ∙ sym (trace_from-append m no_recovery w ss (s ∷ []) ∙ ap (λ xs. trace m (no_recovery {S = S}) ss ++ xs) (append-nil (items_of m (run m (no_recovery {S = S}) ss) s)))));
       allowed = rw net (first_refused_from-append m no_recovery v.world.net w ss (s ∷ []) had.allowed
           ∙ (ap (later (length ss)) (place_and_why-both (refusal_of v.world.net m (run m (no_recovery {S = S}) ss) s) not_refused) ∙ later-none (length ss)));
       counted = omega (arith, counted, had.counted, length-append ss (s ∷ []));

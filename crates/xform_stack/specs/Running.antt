@@ -1,7 +1,8 @@
 -- What a running schedule stands for.
-use Rattle.std.specs.Prelude.{◌≡◌, ℕ, List, length, Option, Some, None, Result, Ok, Err}
+use Rattle.std.specs.Prelude.{◌≡◌, ℕ, List, ◌++◌, length, Option, Some, None, Result, Ok, Err}
 use Rattle.handler_trait.specs.Handling.{Meaning}
 use Rattle.vst_base.specs.declared.step.Step.{Step}
+use Rattle.vst_base.specs.declared.step.Item.{Item}
 use Rattle.vst_base.specs.declared.step.StepRefusal.{StepRefusal}
 use Rattle.net_semantics.specs.Runs.{run, trace, first_refused, no_recovery}
 use Rattle.net_semantics.specs.Shown.{WorldView, Shows}
@@ -13,10 +14,11 @@ pub record RunView (H S I O M : Type 0) : Type 0 where
   pub world : WorldView H S I O M
   pub image : List (Step I)
 
--- the steps were taken, none of them refused: the world is that of their run, and has seen their trace; they are their own image
-pub record HasRun {H S I O M : Type 0} (m : Meaning S I O M) (ss : List (Step I)) (v : RunView H S I O M) : Type 0 where
+-- the steps were taken, none of them refused: the world is that of their run; what was let go of the trace
+-- and what has come since are together their trace; they are their own image
+pub record HasRun {H S I O M : Type 0} (m : Meaning S I O M) (ss : List (Step I)) (gone : List (Item I O)) (v : RunView H S I O M) : Type 0 where
   pub shows : Shows m.nodes v.world (run m (no_recovery {S = S}) ss)
-  pub traced : v.world.trace ≡ trace m (no_recovery {S = S}) ss
+  pub traced : gone ++ v.world.trace ≡ trace m (no_recovery {S = S}) ss
   pub allowed : first_refused v.world.net m (no_recovery {S = S}) ss ≡ None
   pub counted : v.world.taken ≡ length ss
   pub imaged : v.image ≡ ss

@@ -11,3 +11,6 @@ pub use image::Image;
 pub use ran::{Ran, RunFault};
 pub use run::run_bag;
 pub use running::Running;
+
+#[cfg(test)]
+mod tests;

@@ -4,6 +4,7 @@ ghost use Rattle.net_semantics.specs.Runs.{run, no_recovery};
 ghost use Rattle.net_semantics.specs.Shown.{IsSound, Shows};
 ghost use Rattle.net_semantics.specs.Worlds.{World as DefinedWorld, copies, ends};
 ghost use Rattle.vst_base.specs.declared.step.Step.{Step};
+ghost use Rattle.vst_base.specs.declared.step.Item.{Item};
 ghost use Rattle.xform_stack.specs.Running.{HasRun, IsRunAnswer};
 
 use crate::{Image, Ran, RunFault};
@@ -53,7 +54,7 @@ impl<H: Handlers> Running<H> {
     pub fn bag(alloc: Global, handlers: H) -> Result<Self, AllocError>
         ensures handlers { IfOk result (λ running. running.world.handlers ≡ handlers) }
         ensures net { IfOk result (λ running. running.world.net ≡ Net.Bag) }
-        ensures started { IfOk result (λ running. HasRun (H.meaning handlers) [] running) }
+        ensures started { IfOk result (λ running. HasRun (H.meaning handlers) [] [] running) }
         ensures sound { IfOk result (λ running. IsSound (H.meaning handlers) (H.sound handlers) (H.spent handlers) running.world) }
     {
         let world = World::new(alloc, handlers, Net::Bag)?;
@@ -69,11 +70,11 @@ impl<H: Handlers> Running<H> {
     pub fn step(&mut self, step: &Step<H::Input>) -> Result<(), RunFault>
         requires sound { IsSound (H.meaning self.old.world.handlers) (H.sound self.old.world.handlers) (H.spent self.old.world.handlers) self.old.world }
         requires steps { self.old.world.taken < 1000000 }
-        ensures refused { (ss : List (Step H.Input)) → HasRun (H.meaning self.old.world.handlers) ss self.old
+        ensures refused { (ss : List (Step H.Input)) (gone : List (Item H.Input H.Output)) → HasRun (H.meaning self.old.world.handlers) ss gone self.old
             → IsRunAnswer result (refusal_of self.old.world.net (H.meaning self.old.world.handlers) (run (H.meaning self.old.world.handlers) no_recovery ss) step.now) (length ss) }
         ensures unchanged { IfErr result (λ why. why ≢ RunFault.Memory → self.new ≡ self.old) }
-        ensures next { OnOk result ((ss : List (Step H.Input)) → HasRun (H.meaning self.old.world.handlers) ss self.old
-            → HasRun (H.meaning self.old.world.handlers) (ss ++ step.now ∷ []) self.new) }
+        ensures next { OnOk result ((ss : List (Step H.Input)) (gone : List (Item H.Input H.Output)) → HasRun (H.meaning self.old.world.handlers) ss gone self.old
+            → HasRun (H.meaning self.old.world.handlers) (ss ++ step.now ∷ []) gone self.new) }
         ensures handlers { self.new.world.handlers ≡ self.old.world.handlers }
         ensures net { self.new.world.net ≡ self.old.world.net }
         ensures taken { OnOk result (self.new.world.taken ≡ self.old.world.taken + 1) }
@@ -95,11 +96,32 @@ impl<H: Handlers> Running<H> {
         Ok(())
     }
 
-    /// What clients saw so far.
+    /// What clients saw since it was last let go.
     pub fn trace(&self) -> &Trace<H::Input, H::Output>
         ensures { result.now ≡ self.now.world.trace }
     {
         self.world.trace()
+    }
+
+    /// Lets go of what clients saw so far: the trace begins anew. Nothing else changes.
+    pub fn forget_trace(&mut self)
+        ensures { self.new ≡ record self.old { world = record self.old.world { trace = [] } } }
+    {
+        self.world.forget_trace();
+    }
+
+    /// The image so far: the steps that were taken, in order.
+    pub fn steps(&self) -> &[Step<H::Input>]
+        ensures { result.now ≡ self.now.image }
+    {
+        self.image.lines()
+    }
+
+    /// How many steps were taken.
+    pub fn taken(&self) -> u32
+        ensures { result ≡ self.now.world.taken }
+    {
+        self.world.taken()
     }
 
     /// How many copies of packet `k` are in flight, none of one that was never sent.
@@ -131,7 +153,7 @@ impl<H: Handlers> Running<H> {
         self.world.is_up(n)
     }
 
-    /// The trace and the image of the steps so far.
+    /// What clients saw since it was last let go, and the image of the steps so far.
     pub fn finish(self) -> Result<Ran<H::Input, H::Output, Step<H::Input>>, RunFault>
         ensures trace { IfOk result (λ ran. ran.trace ≡ self.world.trace) }
         ensures image { IfOk result (λ ran. ran.image ≡ self.image) }

@@ -1,4 +1,4 @@
-use Rattle.std.proofs.Common.{◌≡◌, take}
+use Rattle.std.proofs.Common.{◌≡◌, [], take}
 use Rattle.vst_base.specs.declared.net.Net.TheVariants.{Bag}
 use Rattle.net_semantics.specs.Shown.{IsSound}
 use Rattle.xform_stack.specs.Running.{HasRun}
@@ -10,6 +10,6 @@ invariant-loop-step g l =
     record {
       handlers : l.running.world.handlers ≡ l.fn.handlers;
       net : l.running.world.net ≡ Bag;
-      run : HasRun (h.meaning l.fn.handlers) (take l.step-index l.steps) l.running;
+      run : HasRun (h.meaning l.fn.handlers) (take l.step-index l.steps) [] l.running;
       sound : IsSound (h.meaning l.fn.handlers) (h.sound l.fn.handlers) (h.spent l.fn.handlers) l.running.world;
     }
