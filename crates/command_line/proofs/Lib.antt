@@ -1,0 +1,4 @@
+pub mod Entering
+mod Faultless
+pub mod OnLiterals
+pub mod Reading
