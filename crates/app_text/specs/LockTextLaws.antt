@@ -1,5 +1,6 @@
 -- Each input and output of the lock server has one text.
-use Rattle.std.specs.Prelude.{◌≡◌, ℕ, Bool, true, false, List, None, Some, codes, refl, if◌then◌else◌}
+use Rattle.std.specs.List.{list_any}
+use Rattle.std.specs.Prelude.{◌≡◌, ◌==◌, ℕ, Bool, true, false, List, None, Some, codes, refl, if◌then◌else◌}
 use Rattle.std.specs.Str.{bytes_eq}
 use Rattle.std.proofs.Common.{sym}
 use Rattle.std.proofs.lemmas.Slice.Eq.{bytes_eq-Decides}
@@ -27,11 +28,19 @@ input_reads_back Unlock any = refl
 output_reads_back : (v : LockOutput) → Unit {0} → output_of (output_text v) ≡ Some v
 output_reads_back Locked any = refl
 
+input_one_line : (v : LockInput) → Unit {0} → list_any (λ b. b == 10) (input_text v) ≡ false
+input_one_line Lock any = refl
+input_one_line Unlock any = refl
+
+output_one_line : (v : LockOutput) → Unit {0} → list_any (λ b. b == 10) (output_text v) ≡ false
+output_one_line Locked any = refl
+
 pub inputs_are_spelled : IsSpelling (λ _. Unit {0}) input_of input_text
 inputs_are_spelled = record {
   one_text = λ bs v e. one_input_text (bytes_eq bs (codes "lock")) (bytes_eq bs (codes "unlock")) bs v (bytes_eq-Decides bs (codes "lock")).0 (bytes_eq-Decides bs (codes "unlock")).0 e;
   has_text = λ bs v e. tt;
   reads_back = input_reads_back;
+  one_line = input_one_line;
 }
 
 pub outputs_are_spelled : IsSpelling (λ _. Unit {0}) output_of output_text
@@ -39,4 +48,5 @@ outputs_are_spelled = record {
   one_text = λ bs v e. one_output_text (bytes_eq bs (codes "locked")) bs v (bytes_eq-Decides bs (codes "locked")).0 e;
   has_text = λ bs v e. tt;
   reads_back = output_reads_back;
+  one_line = output_one_line;
 }

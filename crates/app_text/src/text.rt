@@ -61,9 +61,9 @@ pub trait AppText {
         ensures err { OnErr result (out.new.items ≡ out.old.items) }
         ensures is_output { is_output output.now };
 
-    /// Each input has one text, and what is printed reads back.
+    /// Each input has one text without a newline, and what is printed reads back.
     ghost inputs_are_spelled: { IsSpelling is_input input_of input_text };
 
-    /// Each output has one text, and what is printed reads back.
+    /// Each output has one text without a newline, and what is printed reads back.
     ghost outputs_are_spelled: { IsSpelling is_output output_of output_text };
 }

@@ -10,7 +10,7 @@ mod whole;
 pub use device::{Address, Begun, Device};
 pub use sink::{Sink, WriteOutcome};
 pub use source::{ReadOutcome, Source};
-pub use whole::{Reading, WriteFault, read_all, write_all};
+pub use whole::{WriteFault, write_all};
 
 #[cfg(test)]
 mod tests;

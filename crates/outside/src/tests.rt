@@ -4,43 +4,6 @@ use super::*;
 use std::alloc::Global;
 use std::test::Fail;
 
-// Gives at most two bytes a read, and fails once so many reads went well.
-#[derive(Drop)]
-struct Crumbs<'a> {
-    left: &'a [u8],
-    good_reads: u8,
-    faults: u64,
-}
-
-impl<'a> Crumbs<'a> {
-    fn new(left: &'a [u8], good_reads: u8) -> Self {
-        Crumbs {
-            left,
-            good_reads,
-            faults: 0,
-        }
-    }
-}
-
-impl<'a> Source for Crumbs<'a> {
-    ghost left = { λ source. Some source.left.now };
-
-    ghost faults = { λ source. source.faults };
-
-    fn read(&mut self, buf: &mut [u8]) -> ReadOutcome {
-        if self.good_reads == 0 {
-            self.faults = self.faults.saturating_add(1);
-            return ReadOutcome::Failed;
-        }
-        self.good_reads -= 1;
-        let count = buf.len().min(2).min(self.left.len());
-        let (front, rest) = self.left.split_at(count);
-        buf[..count].copy_from_slice(front);
-        self.left = rest;
-        ReadOutcome::Got(count)
-    }
-}
-
 // Takes a byte a write, and once so many were taken has this fault.
 #[derive(Drop)]
 struct Nibbles {
@@ -93,29 +56,6 @@ impl Sink for Nibbles {
             }
         }
     }
-}
-
-#[test]
-fn a_source_is_read_to_its_end(rt: HostRuntime) -> Result<(), Fail> {
-    let mut source = Crumbs::new(b"abcde", 4);
-    let reading = read_all(rt.alloc(), &mut source)?;
-    assert_eq!(rt; reading.bytes.as_slice(), b"abcde".as_slice());
-    assert!(rt; reading.ended);
-    assert_eq!(rt; source.left.len(), 0);
-    Ok(())
-}
-
-#[test]
-fn a_failed_read_keeps_what_came_before(rt: HostRuntime) -> Result<(), Fail> {
-    for (good_reads, given, left) in [(0, "", "abcde"), (1, "ab", "cde"), (3, "abcde", "")] {
-        let mut source = Crumbs::new(b"abcde", good_reads);
-        let reading = read_all(rt.alloc(), &mut source)?;
-        assert_eq!(rt; reading.bytes.as_slice(), given.as_bytes());
-        assert!(rt; !reading.ended);
-        assert_eq!(rt; source.left, left.as_bytes());
-        assert_eq!(rt; source.faults, 1);
-    }
-    Ok(())
 }
 
 #[test]

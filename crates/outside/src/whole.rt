@@ -1,9 +1,8 @@
-ghost use Rattle.std.specs.Prelude.{◌≡◌, ℕ, ◌<◌, ◌≤◌, [], true, false, Some, IsTrue, IfOk, OnOk, OnErr, IfSome, IsErrOf};
+ghost use Rattle.std.specs.Prelude.{◌≡◌, ◌≤◌, OnOk, OnErr, IsErrOf};
 ghost use Rattle.outside.specs.Counting.{Rose};
-ghost use Rattle.outside.specs.Wholes.{Gained, GainedFront, Gave};
+ghost use Rattle.outside.specs.Wholes.{Gained, GainedFront};
 
-use crate::{ReadOutcome, Sink, Source, WriteOutcome};
-use std::alloc::{AllocError, Global};
+use crate::{Sink, WriteOutcome};
 
 /// Why bytes were not all written.
 #[derive(Clone, Copy, Debug, PartialEq, Eq)]
@@ -32,35 +31,4 @@ pub fn write_all<K: Sink>(sink: &mut K, bytes: &[u8]) -> Result<(), WriteFault>
         }
     }
     Ok(())
-}
-
-/// What a source gave, and whether that was all.
-#[derive(Drop)]
-pub struct Reading {
-    pub bytes: Vec<u8>,
-    /// The source came to its end; else a read failed.
-    pub ended: bool,
-}
-
-/// Reads a source to its end, or to the first read that fails.
-pub fn read_all<S: Source>(alloc: Global, source: &mut S) -> Result<Reading, AllocError>
-    ensures given { IfOk result (λ reading. Gave (S.left source.old) (S.left source.new) reading.bytes.items) }
-    ensures ended { IfOk result (λ reading. reading.ended ≡ true → IfSome (S.left source.old) (λ bytes. S.left source.new ≡ Some [])) }
-    ensures failed { IfOk result (λ reading. reading.ended ≡ false → Rose (S.faults source.old) (S.faults source.new)) }
-    ensures counts { S.faults source.old ≤ S.faults source.new }
-{
-    let mut buf = [0u8; 4096];
-    let mut bytes = Vec::new(alloc);
-    loop {
-        match source.read(&mut buf) {
-            ReadOutcome::Got(0) => return Ok(Reading { bytes, ended: true }),
-            ReadOutcome::Got(n) => bytes.extend_from_slice(&buf[..n])?,
-            ReadOutcome::Failed => {
-                return Ok(Reading {
-                    bytes,
-                    ended: false,
-                });
-            }
-        }
-    }
 }

@@ -1,7 +1,9 @@
-pub mod CutLaws
 pub mod FrontLaws
-pub mod LineLaws
 pub mod NumberLaws
 pub mod NumeralLaws
 pub mod ReadBackLaws
-pub mod WholeLaws
+pub mod ScheduleLaws
+pub mod Skipping
+pub mod Streaming
+pub mod Sending
+pub mod PrintedLaws

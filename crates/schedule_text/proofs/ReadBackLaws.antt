@@ -33,16 +33,17 @@ numbered-reads-back : {I : Type 0} (input_of : List ℕ → Option I) (k : StepK
     → option_and_then (λ m. step_with k m (input_of [])) (number_of (decimal n)) ≡ Some s
 numbered-reads-back input_of k n s fits same = rw (number_of-decimal n fits) same
 
-pub step-reads-back : {I : Type 0} (input_of : List ℕ → Option I) (input_text : I → List ℕ) (s : Step I) → IsSpellable input_of input_text s → step_of input_of (step_text input_text s) ≡ Some s
-step-reads-back input_of input_text (step.In n i) h =
+pub step-reads-back : {I : Type 0} (input_of : List ℕ → Option I) (input_text : I → List ℕ) (HasText : I → Type 0) (reads : (i : I) → HasText i → input_of (input_text i) ≡ Some i) (s : Step I)
+    → IsSpellable HasText s → step_of input_of (step_text input_text s) ≡ Some s
+step-reads-back input_of input_text HasText reads (step.In n i) h =
     let front : cut (decimal n ++ 32 ∷ input_text i) ≡ Some (decimal n, input_text i) = cut-digits (decimal n) (input_text i) (digits_decimal own n (omega (arith, h.0))) in
-    rw (front, number_of-decimal n h.0, h.1) refl
-step-reads-back input_of input_text (step.Deliver k) h = numbered-reads-back input_of kind.Deliver k (step.Deliver k) h refl
-step-reads-back input_of input_text (step.Tick n) h = numbered-reads-back input_of kind.Tick n (step.Tick n) h refl
-step-reads-back input_of input_text (step.Dup k) h = numbered-reads-back input_of kind.Dup k (step.Dup k) h refl
-step-reads-back input_of input_text (step.Lose k) h = numbered-reads-back input_of kind.Lose k (step.Lose k) h refl
-step-reads-back input_of input_text (step.Crash n) h = numbered-reads-back input_of kind.Crash n (step.Crash n) h refl
-step-reads-back input_of input_text (step.Reboot n) h = numbered-reads-back input_of kind.Reboot n (step.Reboot n) h refl
+    rw (front, number_of-decimal n h.0, reads i h.1) refl
+step-reads-back input_of input_text HasText reads (step.Deliver k) h = numbered-reads-back input_of kind.Deliver k (step.Deliver k) h refl
+step-reads-back input_of input_text HasText reads (step.Tick n) h = numbered-reads-back input_of kind.Tick n (step.Tick n) h refl
+step-reads-back input_of input_text HasText reads (step.Dup k) h = numbered-reads-back input_of kind.Dup k (step.Dup k) h refl
+step-reads-back input_of input_text HasText reads (step.Lose k) h = numbered-reads-back input_of kind.Lose k (step.Lose k) h refl
+step-reads-back input_of input_text HasText reads (step.Crash n) h = numbered-reads-back input_of kind.Crash n (step.Crash n) h refl
+step-reads-back input_of input_text HasText reads (step.Reboot n) h = numbered-reads-back input_of kind.Reboot n (step.Reboot n) h refl
 
 -- a header's number of nodes is in range
 within-by : (t u : Bool) (m : ℕ) → t ≡ true → u ≡ true → cond (t && u) (Some m) None ≡ Some m

@@ -4,6 +4,7 @@ pub mod Reading
 pub mod Headers
 pub mod Schedules
 pub mod Printing
-pub mod Slices
 pub mod Spellable
 pub mod PartViews
+pub mod Streams
+pub mod Sending

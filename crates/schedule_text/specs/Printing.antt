@@ -7,8 +7,8 @@ use Rattle.vst_base.specs.declared.step.Step.TheVariants as step
 use Rattle.vst_base.specs.declared.step.StepKind.TheVariants as kind
 use Rattle.vst_base.specs.declared.step.Item.{Item}
 use Rattle.vst_base.specs.declared.step.Item.TheVariants as item
-use Rattle.schedule_text.specs.declared.why.Why.{Why}
-use Rattle.schedule_text.specs.declared.why.Why.TheVariants as why
+use Rattle.line_reader.specs.declared.why.Why.{Why}
+use Rattle.line_reader.specs.Whys.{why_text}
 use Rattle.schedule_text.specs.Words.{word_of}
 
 abbrev pub as_line : List ℕ → List ℕ
@@ -38,20 +38,6 @@ item_text input_text output_text (item.Output n o) = numbered (codes "out") n ++
 
 abbrev pub trace_text : {I O : Type 0} → (I → List ℕ) → (O → List ℕ) → List (Item I O) → List ℕ
 trace_text input_text output_text items = flat_map (λ x. as_line (item_text input_text output_text x)) items
-
-abbrev pub why_text : Why → List ℕ
-why_text why.LineTooLong = codes "line too long"
-why_text why.TooManyEvents = codes "too many events"
-why_text why.Header = codes "header"
-why_text why.UnknownWord = codes "unknown word"
-why_text why.Number = codes "number"
-why_text why.Text = codes "text"
-why_text why.NotThisNet = codes "not this network"
-why_text why.NoSuchNode = codes "no such node"
-why_text why.NoInputHere = codes "no input here"
-why_text why.NodeDown = codes "node down"
-why_text why.NodeUp = codes "node up"
-why_text why.NoCopy = codes "no copy"
 
 -- the line that names a refusal
 abbrev pub refusal_line : ℕ → Why → List ℕ

@@ -1,14 +1,15 @@
 -- What a line of a schedule behind its header says, and why it may be refused.
-use Rattle.std.specs.Prelude.{ℕ, Bool, nat_lt, nat_le, List, [], ◌∷◌, length, Option, Some, None, is_none, option_map, option_and_then, if◌then◌else◌}
+use Rattle.std.specs.Prelude.{ℕ, Bool, nat_le, List, [], ◌∷◌, Option, Some, None, is_none, option_map, option_and_then, if◌then◌else◌}
 use Rattle.vst_base.specs.Firsts.{first_of}
 use Rattle.vst_base.specs.declared.step.Step.{Step}
 use Rattle.vst_base.specs.declared.step.Step.TheVariants as step
 use Rattle.vst_base.specs.declared.step.StepKind.{StepKind}
 use Rattle.vst_base.specs.declared.step.StepKind.TheVariants as kind
-use Rattle.schedule_text.specs.declared.why.Why.{Why}
-use Rattle.schedule_text.specs.declared.why.Why.TheVariants as why
+use Rattle.line_reader.specs.declared.why.Why.{Why}
+use Rattle.line_reader.specs.declared.why.Why.TheVariants as why
 use Rattle.schedule_text.specs.declared.line.Line.{Line}
 use Rattle.schedule_text.specs.declared.line.Line.TheVariants.{Skipped, IsStep, Refused}
+use Rattle.line_reader.specs.Limits.{line_refusals}
 use Rattle.schedule_text.specs.Lines.{is_skipped}
 use Rattle.schedule_text.specs.Words.{cut, kind_named, number_up_to}
 
@@ -55,13 +56,7 @@ number_in line = option_and_then (λ p. number_of p.number) (parts_of line)
 abbrev pub step_of : {I : Type 0} → (List ℕ → Option I) → List ℕ → Option (Step I)
 step_of input_of line = option_and_then (λ p. option_and_then (λ n. step_with p.kind n (input_of p.text)) (number_of p.number)) (parts_of line)
 
--- why any line may be refused, and why one that is not skipped; so many events stand before it
-abbrev pub line_refusals : ℕ → List ℕ → List (Why × Bool)
-line_refusals number line =
-    (why.LineTooLong, nat_lt 4096 (length line))
-    ∷ (why.TooManyEvents, nat_lt 2000000 number)
-    ∷ []
-
+-- why a line that is not skipped may be refused; so many events stand before it
 abbrev pub step_refusals : {I : Type 0} → (List ℕ → Option I) → ℕ → List ℕ → List (Why × Bool)
 step_refusals input_of events line =
     (why.UnknownWord, is_none (parts_of line))
@@ -80,8 +75,13 @@ abbrev pub line_unless : {I : Type 0} → Option Why → Line I → Line I
 line_unless (Some w) l = Refused w
 line_unless None l = l
 
-abbrev pub read_line : {I : Type 0} → (List ℕ → Option I) → ℕ → ℕ → List ℕ → Line I
-read_line input_of number events line =
-    line_unless (first_of (line_refusals number line))
-    (if is_skipped line then Skipped
-    else step_or_refusal (first_of (step_refusals input_of events line)) (step_of input_of line))
+-- what a line says that is neither too long nor one too many
+abbrev pub line_says : {I : Type 0} → (List ℕ → Option I) → ℕ → List ℕ → Line I
+line_says input_of events line =
+    if is_skipped line then Skipped
+    else step_or_refusal (first_of (step_refusals input_of events line)) (step_of input_of line)
+
+-- what the line of this number is, where lines have at most that many
+abbrev pub read_line : {I : Type 0} → ℕ → (List ℕ → Option I) → ℕ → ℕ → List ℕ → Line I
+read_line most input_of number events line =
+    line_unless (first_of (line_refusals most number line)) (line_says input_of events line)

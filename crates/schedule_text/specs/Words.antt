@@ -1,20 +1,12 @@
 -- The words and numbers of a line.
-use Rattle.std.specs.Prelude.{ℕ, Bool, false, ◌==◌, ◌&&◌, ◌+◌, ◌-◌, ◌*◌, nat_le, List, [], ◌∷◌, Option, Some, None, if◌then◌else◌, codes}
+use Rattle.std.specs.Prelude.{ℕ, Bool, false, ◌&&◌, ◌+◌, ◌-◌, ◌*◌, nat_le, List, [], ◌∷◌, Option, Some, None, if◌then◌else◌, codes}
 use Rattle.std.specs.List.{list_all}
 use Rattle.std.specs.Str.{bytes_eq}
+use Rattle.line_reader.specs.Cuts.{cut_at}
 use Rattle.vst_base.specs.declared.step.StepKind.{StepKind}
 use Rattle.vst_base.specs.declared.step.StepKind.TheVariants as kind
 
--- what stands before the first of these bytes and behind it, if there is one
-abbrev pub onto_cut : ℕ → Option (List ℕ × List ℕ) → Option (List ℕ × List ℕ)
-onto_cut b None = None
-onto_cut b (Some p) = Some (b ∷ p.0, p.1)
-
-abbrev pub cut_at : ℕ → List ℕ → Option (List ℕ × List ℕ)
-cut_at at [] = None
-cut_at at (b ∷ bs) = if b == at then Some ([], bs) else onto_cut b (cut_at at bs)
-
--- the same of the first space
+-- what stands before the first space and behind it, if there is one
 abbrev pub cut : List ℕ → Option (List ℕ × List ℕ)
 cut bs = cut_at 32 bs
 

@@ -1,23 +1,18 @@
 ghost use Rattle.std.specs.Prelude.{◌≡◌, List, [], ◌∷◌, None, Some, codes, replicate};
 ghost use Rattle.app_text.specs.LockTexts.{input_of, input_text, output_text};
+ghost use Rattle.line_reader.specs.Whys.{why_text};
 ghost use Rattle.schedule_text.specs.Headers.{header_of, header_text};
-ghost use Rattle.schedule_text.specs.Lines.{lines_of, whole_lines};
-ghost use Rattle.schedule_text.specs.Printing.{item_text, refusal_line, step_text, steps_text, trace_text, why_text};
+ghost use Rattle.schedule_text.specs.Printing.{item_text, refusal_line, step_text, steps_text, trace_text};
 ghost use Rattle.schedule_text.specs.Reading.{number_of, read_line, step_of};
 ghost use Rattle.schedule_text.specs.Schedules.{opening, script, Opened, RefusedAt, EndedAt};
 ghost use Rattle.schedule_text.specs.Words.{kind_named};
 
-use crate::{Header, Line, Why};
+use crate::{Header, Line};
+use line_reader::Why;
 use vst_base::{Item, LockInput, LockOutput, Net, StackId, Step, StepKind};
 
-/// The lines of a text, and the words and numbers of a line, on examples.
-pub fn worked_lines()
-    ensures no_line { lines_of (codes "") ≡ [] }
-    ensures last_line { lines_of (codes "a") ≡ codes "a" ∷ [] }
-    ensures ended_line { lines_of (codes "a\n") ≡ codes "a" ∷ [] }
-    ensures empty_line_between { lines_of (codes "a\n\nb") ≡ codes "a" ∷ [] ∷ codes "b" ∷ [] }
-    ensures empty_lines { lines_of (codes "\n\n") ≡ [] ∷ [] ∷ [] }
-    ensures whole { whole_lines (codes "a\nb") ≡ codes "a" ∷ [] }
+/// The words and numbers of a line, on examples.
+pub fn worked_words()
     ensures zero { number_of (codes "0") ≡ Some 0 }
     ensures leading_zero { number_of (codes "01") ≡ None }
     ensures no_number { number_of (codes "") ≡ None }
@@ -43,49 +38,49 @@ pub fn worked_headers()
     ensures other_version { header_of (codes "schedule 2 bag lock 2") ≡ None }
     ensures other_pairing { (header_of (codes "schedule 1 dup lock/seq 2") ≡ None) × (header_of (codes "schedule 1 dup lock 2") ≡ None) }
     ensures text { header_text (record { net = Net.Bag; stack = StackId.Lock; nodes = 2 }) ≡ codes "schedule 1 bag lock 2" }
-    ensures opens_empty { opening 1 [] ≡ EndedAt 1 }
-    ensures opens_without_header { opening 1 (codes "# none" ∷ []) ≡ EndedAt 2 }
-    ensures opens_behind_comment { opening 1 (codes "# a lock" ∷ codes "schedule 1 bag lock 2" ∷ codes "tick 0" ∷ []) ≡ Opened (record { net = Net.Bag; stack = StackId.Lock; nodes = 2 }) 3 (codes "tick 0" ∷ []) }
-    ensures opens_with_step { opening 1 ([] ∷ codes "tick 0" ∷ []) ≡ RefusedAt 2 Why.Header }
+    ensures opens_empty { opening 2000000 1 [] ≡ EndedAt 1 }
+    ensures opens_without_header { opening 2000000 1 (codes "# none" ∷ []) ≡ EndedAt 2 }
+    ensures opens_behind_comment { opening 2000000 1 (codes "# a lock" ∷ codes "schedule 1 bag lock 2" ∷ codes "tick 0" ∷ []) ≡ Opened (record { net = Net.Bag; stack = StackId.Lock; nodes = 2 }) 3 (codes "tick 0" ∷ []) }
+    ensures opens_with_step { opening 2000000 1 ([] ∷ codes "tick 0" ∷ []) ≡ RefusedAt 2 Why.Header }
 {}
 
 /// The lines behind a header, on examples.
 pub fn worked_steps()
-    ensures input { read_line input_of 2 0 (codes "in 1 lock") ≡ Line.IsStep (Step.In 1 LockInput.Lock) }
-    ensures delivery { read_line input_of 2 0 (codes "deliver 7") ≡ Line.IsStep (Step.Deliver 7) }
-    ensures tick { read_line input_of 2 0 (codes "tick 0") ≡ Line.IsStep (Step.Tick 0) }
-    ensures copy { read_line input_of 2 0 (codes "dup 0") ≡ Line.IsStep (Step.Dup 0) }
-    ensures loss { read_line input_of 2 0 (codes "lose 12") ≡ Line.IsStep (Step.Lose 12) }
-    ensures crash { read_line input_of 2 0 (codes "crash 3") ≡ Line.IsStep (Step.Crash 3) }
-    ensures reboot { read_line input_of 2 0 (codes "reboot 3") ≡ Line.IsStep (Step.Reboot 3) }
-    ensures comment { read_line input_of 2 0 (codes "#") ≡ Line.Skipped }
-    ensures empty { read_line input_of 2 0 (codes "") ≡ Line.Skipped }
-    ensures too_few_words { (read_line input_of 2 0 (codes "deliver") ≡ Line.Refused Why.UnknownWord) × (read_line input_of 2 0 (codes "in 1") ≡ Line.Refused Why.UnknownWord) }
-    ensures unknown_words { (read_line input_of 2 0 (codes "foo 1") ≡ Line.Refused Why.UnknownWord) × (read_line input_of 2 0 (codes "i 1 lock") ≡ Line.Refused Why.UnknownWord) × (read_line input_of 2 0 (codes "ticks 0") ≡ Line.Refused Why.UnknownWord) }
-    ensures leading_zero { (read_line input_of 2 0 (codes "deliver 01") ≡ Line.Refused Why.Number) × (step_of input_of (codes "deliver 01") ≡ None) }
-    ensures two_spaces { read_line input_of 2 0 (codes "in  1 lock") ≡ Line.Refused Why.Number }
-    ensures space_behind { read_line input_of 2 0 (codes "tick 5 ") ≡ Line.Refused Why.Number }
-    ensures no_input { (read_line input_of 2 0 (codes "in 1 grab") ≡ Line.Refused Why.Text) × (step_of input_of (codes "in 1 grab") ≡ None) }
-    ensures several { script input_of 2 0 (codes "in 1 lock" ∷ codes "# then" ∷ codes "deliver 0" ∷ []) ≡ record { steps = (2, Step.In 1 LockInput.Lock) ∷ (4, Step.Deliver 0) ∷ []; fault = None } }
-    ensures up_to_a_fault { script input_of 2 0 (codes "tick 0" ∷ codes "" ∷ codes "tick" ∷ codes "tick 0" ∷ []) ≡ record { steps = (2, Step.Tick 0) ∷ []; fault = Some (4, Why.UnknownWord) } }
+    ensures input { read_line 2000000 input_of 2 0 (codes "in 1 lock") ≡ Line.IsStep (Step.In 1 LockInput.Lock) }
+    ensures delivery { read_line 2000000 input_of 2 0 (codes "deliver 7") ≡ Line.IsStep (Step.Deliver 7) }
+    ensures tick { read_line 2000000 input_of 2 0 (codes "tick 0") ≡ Line.IsStep (Step.Tick 0) }
+    ensures copy { read_line 2000000 input_of 2 0 (codes "dup 0") ≡ Line.IsStep (Step.Dup 0) }
+    ensures loss { read_line 2000000 input_of 2 0 (codes "lose 12") ≡ Line.IsStep (Step.Lose 12) }
+    ensures crash { read_line 2000000 input_of 2 0 (codes "crash 3") ≡ Line.IsStep (Step.Crash 3) }
+    ensures reboot { read_line 2000000 input_of 2 0 (codes "reboot 3") ≡ Line.IsStep (Step.Reboot 3) }
+    ensures comment { read_line 2000000 input_of 2 0 (codes "#") ≡ Line.Skipped }
+    ensures empty { read_line 2000000 input_of 2 0 (codes "") ≡ Line.Skipped }
+    ensures too_few_words { (read_line 2000000 input_of 2 0 (codes "deliver") ≡ Line.Refused Why.UnknownWord) × (read_line 2000000 input_of 2 0 (codes "in 1") ≡ Line.Refused Why.UnknownWord) }
+    ensures unknown_words { (read_line 2000000 input_of 2 0 (codes "foo 1") ≡ Line.Refused Why.UnknownWord) × (read_line 2000000 input_of 2 0 (codes "i 1 lock") ≡ Line.Refused Why.UnknownWord) × (read_line 2000000 input_of 2 0 (codes "ticks 0") ≡ Line.Refused Why.UnknownWord) }
+    ensures leading_zero { (read_line 2000000 input_of 2 0 (codes "deliver 01") ≡ Line.Refused Why.Number) × (step_of input_of (codes "deliver 01") ≡ None) }
+    ensures two_spaces { read_line 2000000 input_of 2 0 (codes "in  1 lock") ≡ Line.Refused Why.Number }
+    ensures space_behind { read_line 2000000 input_of 2 0 (codes "tick 5 ") ≡ Line.Refused Why.Number }
+    ensures no_input { (read_line 2000000 input_of 2 0 (codes "in 1 grab") ≡ Line.Refused Why.Text) × (step_of input_of (codes "in 1 grab") ≡ None) }
+    ensures several { script 2000000 input_of 2 0 (codes "in 1 lock" ∷ codes "# then" ∷ codes "deliver 0" ∷ []) ≡ record { steps = (2, Step.In 1 LockInput.Lock) ∷ (4, Step.Deliver 0) ∷ []; fault = None } }
+    ensures up_to_a_fault { script 2000000 input_of 2 0 (codes "tick 0" ∷ codes "" ∷ codes "tick" ∷ codes "tick 0" ∷ []) ≡ record { steps = (2, Step.Tick 0) ∷ []; fault = Some (4, Why.UnknownWord) } }
 {}
 
 /// Which of several refusals a line behind a header gets, and the borders of the limits, on examples.
 pub fn worked_limits()
-    ensures word_before_number { read_line input_of 2 0 (codes "foo 01") ≡ Line.Refused Why.UnknownWord }
-    ensures number_before_text { read_line input_of 2 0 (codes "in 01 grab") ≡ Line.Refused Why.Number }
-    ensures word_before_events { read_line input_of 2 1000000 (codes "foo 1") ≡ Line.Refused Why.UnknownWord }
-    ensures number_before_events { read_line input_of 2 1000000 (codes "in 01 grab") ≡ Line.Refused Why.Number }
-    ensures events_before_text { read_line input_of 2 1000000 (codes "in 1 grab") ≡ Line.Refused Why.TooManyEvents }
-    ensures event_too_many { read_line input_of 2 1000000 (codes "tick 0") ≡ Line.Refused Why.TooManyEvents }
-    ensures last_event { read_line input_of 2 999999 (codes "tick 0") ≡ Line.IsStep (Step.Tick 0) }
-    ensures skipped_behind_events { read_line input_of 2 1000000 (codes "#") ≡ Line.Skipped }
-    ensures last_line { read_line input_of 2000000 0 (codes "tick 0") ≡ Line.IsStep (Step.Tick 0) }
-    ensures line_too_many { (read_line input_of 2000001 0 (codes "tick 0") ≡ Line.Refused Why.TooManyEvents) × (read_line input_of 2000001 0 (codes "#") ≡ Line.Refused Why.TooManyEvents) }
-    ensures line_before_word { read_line input_of 2000001 0 (codes "foo 1") ≡ Line.Refused Why.TooManyEvents }
-    ensures longest { read_line input_of 2 0 (replicate 4096 35) ≡ Line.Skipped }
-    ensures too_long { read_line input_of 2 0 (replicate 4097 35) ≡ Line.Refused Why.LineTooLong }
-    ensures length_before_lines { read_line input_of 2000001 0 (replicate 4097 35) ≡ Line.Refused Why.LineTooLong }
+    ensures word_before_number { read_line 2000000 input_of 2 0 (codes "foo 01") ≡ Line.Refused Why.UnknownWord }
+    ensures number_before_text { read_line 2000000 input_of 2 0 (codes "in 01 grab") ≡ Line.Refused Why.Number }
+    ensures word_before_events { read_line 2000000 input_of 2 1000000 (codes "foo 1") ≡ Line.Refused Why.UnknownWord }
+    ensures number_before_events { read_line 2000000 input_of 2 1000000 (codes "in 01 grab") ≡ Line.Refused Why.Number }
+    ensures events_before_text { read_line 2000000 input_of 2 1000000 (codes "in 1 grab") ≡ Line.Refused Why.TooManyEvents }
+    ensures event_too_many { read_line 2000000 input_of 2 1000000 (codes "tick 0") ≡ Line.Refused Why.TooManyEvents }
+    ensures last_event { read_line 2000000 input_of 2 999999 (codes "tick 0") ≡ Line.IsStep (Step.Tick 0) }
+    ensures skipped_behind_events { read_line 2000000 input_of 2 1000000 (codes "#") ≡ Line.Skipped }
+    ensures last_line { read_line 2000000 input_of 2000000 0 (codes "tick 0") ≡ Line.IsStep (Step.Tick 0) }
+    ensures line_too_many { (read_line 2000000 input_of 2000001 0 (codes "tick 0") ≡ Line.Refused Why.TooManyEvents) × (read_line 2000000 input_of 2000001 0 (codes "#") ≡ Line.Refused Why.TooManyEvents) }
+    ensures line_before_word { read_line 2000000 input_of 2000001 0 (codes "foo 1") ≡ Line.Refused Why.TooManyEvents }
+    ensures longest { read_line 2000000 input_of 2 0 (replicate 4096 35) ≡ Line.Skipped }
+    ensures too_long { read_line 2000000 input_of 2 0 (replicate 4097 35) ≡ Line.Refused Why.LineTooLong }
+    ensures length_before_lines { read_line 2000000 input_of 2000001 0 (replicate 4097 35) ≡ Line.Refused Why.LineTooLong }
 {}
 
 /// How steps, items of a trace and refusals are spelled, on examples.

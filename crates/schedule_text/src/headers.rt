@@ -1,6 +1,6 @@
 ghost use Rattle.std.specs.Prelude.{◌≡◌, ◌≤◌, ◌<◌, ◌^◌, ◌++◌, OnOk, OnErr};
 ghost use Rattle.schedule_text.specs.Headers.{behind, header_by, header_front, header_of, header_text, net_word, stack_word, nodes_within, spaced};
-ghost use Rattle.schedule_text.specs.Slices.{one};
+ghost use Rattle.line_reader.specs.Slices.{one};
 
 use crate::Header;
 use crate::numbers::push_number;

@@ -1,9 +1,11 @@
-ghost use Rattle.std.specs.Prelude.{◌≡◌, ℕ, ◌<◌, ◌≤◌, List, Some};
+ghost use Rattle.std.specs.Prelude.{◌≡◌, ℕ, ◌+◌, ◌<◌, ◌≤◌, List, length, map, None, Some};
 ghost use Rattle.std.specs.Fmt.{decimal};
+ghost use Rattle.line_reader.specs.Lines.{lines_of};
+ghost use Rattle.schedule_text.specs.Schedules.{script};
 ghost use Rattle.schedule_text.specs.Headers.{header_of, header_text};
-ghost use Rattle.schedule_text.specs.Printing.{step_text};
+ghost use Rattle.schedule_text.specs.Printing.{step_text, steps_text};
 ghost use Rattle.schedule_text.specs.Reading.{number_of, step_of};
-ghost use Rattle.schedule_text.specs.Spellable.{IsSpellable};
+ghost use Rattle.schedule_text.specs.Spellable.{AreSpellable, IsSpellable, numbered_steps};
 
 use app_text::AppText;
 use vst_base::{Net, StackId, Step};
@@ -14,9 +16,13 @@ pub fn numbers_have_one_spelling()
     ensures one_spelling { (bs : List ℕ) (n : ℕ) → number_of bs ≡ Some n → bs ≡ decimal n }
 {}
 
-/// The text of a step is read as the step, where its number is in range and its input is read back.
+/// The text of a step is read as the step, where its number is in range and its input has a text, as each that is
+/// printed has. The text of steps is a line for each, and within the limits these lines are read as the steps.
 pub fn steps_read_back<A: AppText>()
-    ensures { (s : Step A.Input) → IsSpellable A.input_of A.input_text s → step_of A.input_of (step_text A.input_text s) ≡ Some s }
+    ensures step { (s : Step A.Input) → IsSpellable A.is_input s → step_of A.input_of (step_text A.input_text s) ≡ Some s }
+    ensures lines { (ss : List (Step A.Input)) → AreSpellable A.is_input A.input_text ss → lines_of (steps_text A.input_text ss) ≡ map (λ s. step_text A.input_text s) ss }
+    ensures script { (most n e : ℕ) (ss : List (Step A.Input)) → AreSpellable A.is_input A.input_text ss → n + length ss ≤ most + 1 → e + length ss ≤ 1000000
+        → script most A.input_of n e (lines_of (steps_text A.input_text ss)) ≡ record { steps = numbered_steps n ss; fault = None } }
 {}
 
 /// The text of a header of a lock server on a bag of packets is read as the header, from 2 nodes to 9.

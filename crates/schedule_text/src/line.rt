@@ -1,4 +1,4 @@
-use crate::Why;
+use line_reader::Why;
 use vst_base::Step;
 
 /// What a line of a schedule behind its header is.

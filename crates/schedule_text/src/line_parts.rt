@@ -2,9 +2,9 @@ ghost use Rattle.std.specs.Prelude.{◌≡◌};
 ghost use Rattle.schedule_text.specs.Reading.{parts_behind, parts_of};
 ghost use Rattle.schedule_text.specs.PartViews.{parts_view};
 
-use crate::cuts::cut_at;
 use crate::parts::{Parts, SPACE};
 use crate::words::kind_named;
+use line_reader::cut_at;
 use vst_base::StepKind;
 
 // The parts behind the word of a kind of step.

@@ -1,12 +1,11 @@
 ghost use Rattle.std.specs.Prelude.{◌≡◌, ◌∷◌, ◌++◌, OnOk};
-ghost use Rattle.schedule_text.specs.Printing.{as_line, item_text, numbered, refusal_line, step_text, steps_text, trace_text, why_text};
+ghost use Rattle.schedule_text.specs.Printing.{as_line, item_text, numbered, refusal_line, step_text};
 
-use crate::Why;
-use crate::lines::NEWLINE;
 use crate::numbers::push_number;
 use crate::parts::SPACE;
 use crate::words::word_of;
 use app_text::AppText;
+use line_reader::{NEWLINE, Why};
 use std::alloc::AllocError;
 use vst_base::{Item, Node, Step};
 
@@ -39,22 +38,15 @@ fn push_step_text<A: AppText>(out: &mut Vec<u8>, step: &Step<A::Input>) -> Resul
     }
 }
 
-/// Adds the line of a step.
-pub fn push_step<A: AppText>(out: &mut Vec<u8>, step: &Step<A::Input>) -> Result<(), AllocError>
+// Adds the line of a step.
+pub(crate) fn push_step<A: AppText>(
+    out: &mut Vec<u8>,
+    step: &Step<A::Input>,
+) -> Result<(), AllocError>
     ensures { OnOk result (out.new.items ≡ out.old.items ++ as_line (step_text A.input_text step.now)) }
 {
     push_step_text::<A>(out, step)?;
     out.push(NEWLINE)?;
-    Ok(())
-}
-
-/// Adds the lines of steps, in order.
-pub fn push_steps<A: AppText>(out: &mut Vec<u8>, steps: &[Step<A::Input>]) -> Result<(), AllocError>
-    ensures { OnOk result (out.new.items ≡ out.old.items ++ steps_text A.input_text steps.now) }
-{
-    for step in steps {
-        push_step::<A>(out, step)?;
-    }
     Ok(())
 }
 
@@ -79,8 +71,8 @@ fn push_item_text<A: AppText>(
     }
 }
 
-/// Adds the line of an item of a trace.
-pub fn push_item<A: AppText>(
+// Adds the line of an item of a trace.
+pub(crate) fn push_item<A: AppText>(
     out: &mut Vec<u8>,
     item: &Item<A::Input, A::Output>,
 ) -> Result<(), AllocError>
@@ -89,41 +81,6 @@ pub fn push_item<A: AppText>(
     push_item_text::<A>(out, item)?;
     out.push(NEWLINE)?;
     Ok(())
-}
-
-/// Adds the lines of a trace, in order.
-pub fn push_trace<A: AppText>(
-    out: &mut Vec<u8>,
-    items: &[Item<A::Input, A::Output>],
-) -> Result<(), AllocError>
-    ensures { OnOk result (out.new.items ≡ out.old.items ++ trace_text A.input_text A.output_text items.now) }
-{
-    for item in items {
-        push_item::<A>(out, item)?;
-    }
-    Ok(())
-}
-
-impl Why {
-    /// Its words.
-    pub fn words(self) -> &'static [u8]
-        ensures { result.now ≡ why_text self }
-    {
-        match self {
-            Why::LineTooLong => b"line too long",
-            Why::TooManyEvents => b"too many events",
-            Why::Header => b"header",
-            Why::UnknownWord => b"unknown word",
-            Why::Number => b"number",
-            Why::Text => b"text",
-            Why::NotThisNet => b"not this network",
-            Why::NoSuchNode => b"no such node",
-            Why::NoInputHere => b"no input here",
-            Why::NodeDown => b"node down",
-            Why::NodeUp => b"node up",
-            Why::NoCopy => b"no copy",
-        }
-    }
 }
 
 /// Adds the line that names a refusal.

@@ -1,36 +1,21 @@
 ghost use Rattle.std.specs.Prelude.{◌≡◌, IfOk};
 ghost use Rattle.vst_base.specs.Firsts.{first_of};
-ghost use Rattle.schedule_text.specs.Reading.{line_refusals, read_line, step_of, step_or_refusal, step_refusals};
+ghost use Rattle.schedule_text.specs.Reading.{line_says, step_of, step_or_refusal, step_refusals};
 
+use crate::Line;
 use crate::line_parts::parts_of;
-use crate::lines::is_skipped;
+use crate::skips::is_skipped;
 use crate::words::number_of;
-use crate::{Line, Why};
 use app_text::{AppText, TextFault};
+use line_reader::Why;
 use std::alloc::{AllocError, Global};
 use vst_base::{Step, StepKind};
-
-/// The greatest number of bytes of a line, its newline left out.
-pub const MAX_LINE: usize = 4_096;
 
 /// The greatest number of lines of a schedule.
 pub const MAX_LINES: u32 = 2_000_000;
 
 /// The greatest number of events of a schedule.
 pub const MAX_EVENTS: u32 = 1_000_000;
-
-/// Why a line is refused, whatever it says: it is too long, or there are too many before it.
-pub fn line_refusal(number: u32, line: &[u8]) -> Option<Why>
-    ensures { result ≡ first_of (line_refusals number line.now) }
-{
-    if line.len() > MAX_LINE {
-        Some(Why::LineTooLong)
-    } else if number > MAX_LINES {
-        Some(Why::TooManyEvents)
-    } else {
-        None
-    }
-}
 
 // A line that is not skipped, behind so many events: its step, or why it is refused.
 fn step_line<A: AppText>(
@@ -64,18 +49,14 @@ fn step_line<A: AppText>(
     }
 }
 
-/// What line `number` of a schedule behind its header is, behind so many events.
-pub fn read_line<A: AppText>(
+// What a line behind the header says that is neither too long nor one too many, behind so many events.
+pub(crate) fn line_says<A: AppText>(
     alloc: Global,
-    number: u32,
     events: u32,
     line: &[u8],
 ) -> Result<Line<A::Input>, AllocError>
-    ensures { IfOk result (λ l. l ≡ read_line A.input_of number events line.now) }
+    ensures { IfOk result (λ l. l ≡ line_says A.input_of events line.now) }
 {
-    if let Some(why) = line_refusal(number, line) {
-        return Ok(Line::Refused(why));
-    }
     if is_skipped(line) {
         return Ok(Line::Skipped);
     }

@@ -1,0 +1,134 @@
+use Rattle.std.proofs.Common.{◌≡◌, ◌==◌, ◌<◌, ◌∷◌, ℕ, List, [], None, Ok, true, false, length, refl, ap, ◌∙◌, sym, arith}
+use Rattle.std.proofs.lemmas.Result.{err_from_is_err_and}
+use Rattle.std.proofs.lemmas.Bool.Decides.{nat_tests}
+use Rattle.line_reader.specs.Cuts.{cut_at}
+use Rattle.line_reader.specs.Readers.{ReaderView}
+use Rattle.line_reader.proofs.Cutting.{none-append}
+use Rattle.line_reader.proofs.Taking.{begins, fills, goes-on, by-newline, by-end, at-end, by-read, by-length}
+use Rattle.line_reader.proofs.next.next_line.Goals as goal
+
+no-length : (xs : List ℕ) → (length xs == 0) ≡ true → xs ≡ []
+no-length [] e = refl
+no-length (x ∷ xs) e = absurd (grind (arith, nat_tests))
+
+some-length : (xs : List ℕ) → (length xs == 0) ≡ false → 0 < length xs
+some-length [] e = absurd (grind (arith, nat_tests))
+some-length (x ∷ xs) e = omega arith
+
+abbrev line_of : ReaderView → List ℕ
+line_of v = v.line
+
+pub loop-reader-init : goal.loop-reader-init
+loop-reader-init g c =
+    let old = c.args.reader.now in
+    let new = c.begin_line.new.self in
+    let same = c.begin_line.ensures in
+    let empty : new.line ≡ [] = ap line_of same in
+    record {
+      told = λ rest has. begins old new (g.S.Source.left c.args.source.now) rest same has;
+      plain = ap (cut_at 10) empty;
+      short = omega (arith, ap length empty);
+      number = ap (λ (v : ReaderView). v.number) same;
+      most = ap (λ (v : ReaderView). v.most) same;
+      events = ap (λ (v : ReaderView). v.events) same;
+      ended = ap (λ (v : ReaderView). v.ended) same;
+      counts = omega arith;
+    }
+
+pub returns-in_err-fill-clause-told : goal.returns-in_err-fill-clause-told
+returns-in_err-fill-clause-told g c = λ rest has.
+    let inv = c.loop-reader.invariant in
+    let p = err_from_is_err_and c.from_residual.result c.from_residual.ensures.1 in
+    let r = c.loop-reader.reader in
+    let r' = c.fill.new.self in
+    let s = g.S.Source in
+    let kept = c.fill.ensures.kept in
+    let failed = c.in_err-fill.ensures.failed in
+    let begun = fills r r' (s.left c.loop-reader.source) (s.left c.fill.new.source) rest (ap line_of kept) c.fill.ensures.told (inv.told rest has) in
+    let plain : cut_at 10 r'.line ≡ None = ap (λ (v : ReaderView). cut_at 10 v.line) kept ∙ inv.plain in
+    rw (p.1, p.2, failed.0) (by-read (Unit {0}) c.args.reader.now r' (s.left c.fill.new.source) rest begun plain (omega (arith, inv.short, ap (λ (v : ReaderView). length v.line) kept)) failed.3)
+
+pub returns-in-Newline-clause-told : goal.returns-in-Newline-clause-told
+returns-in-Newline-clause-told g c = λ rest has.
+    let inv = c.loop-reader.invariant in
+    let r = c.loop-reader.reader in
+    let r1 = c.fill.new.self in
+    let r2 = c.take_piece.new.self in
+    let s = g.S.Source in
+    let kept = c.fill.ensures.kept in
+    let kept' = c.take_piece.ensures.kept in
+    let begun = fills r r1 (s.left c.loop-reader.source) (s.left c.fill.new.source) rest (ap line_of kept) c.fill.ensures.told (inv.told rest has) in
+    let plain : cut_at 10 r1.line ≡ None = ap (λ (v : ReaderView). cut_at 10 v.line) kept ∙ inv.plain in
+    by-newline (Unit {0}) c.args.reader.now r1 r2 c.end_line.new.self (s.left c.fill.new.source) rest c.end_line.result begun plain (rw c.in-Newline.is at c.in_ok-take_piece.ensures.takes)
+    c.in_ok-take_piece.ensures.room
+    (ap (λ (v : ReaderView). v.ended) kept')
+    (λ is. (c.in_ok-fill.ensures.going (ap Ok c.if-branch.true)).1 ∙ (inv.ended ∙ is))
+    (ap (λ (v : ReaderView). v.number) kept' ∙ (ap (λ (v : ReaderView). v.number) kept ∙ inv.number))
+    (ap (λ (v : ReaderView). v.most) kept' ∙ (ap (λ (v : ReaderView). v.most) kept ∙ inv.most))
+    c.end_line.ensures.ends
+
+pub loop-reader-preserved : goal.loop-reader-preserved
+loop-reader-preserved g c =
+    let inv = c.loop-reader.invariant in
+    let r = c.loop-reader.reader in
+    let r1 = c.fill.new.self in
+    let r2 = c.take_piece.new.self in
+    let s = g.S.Source in
+    let kept = c.fill.ensures.kept in
+    let kept' = c.take_piece.ensures.kept in
+    let takes = rw c.in-GoesOn.is at c.in_ok-take_piece.ensures.takes in
+    let plain : cut_at 10 r1.line ≡ None = ap (λ (v : ReaderView). cut_at 10 v.line) kept ∙ inv.plain in
+    record {
+      told = λ rest has. goes-on r1 r2 (s.left c.fill.new.source) rest takes (ap (λ (v : ReaderView). v.ended) kept')
+          (fills r r1 (s.left c.loop-reader.source) (s.left c.fill.new.source) rest (ap line_of kept) c.fill.ensures.told (inv.told rest has));
+      plain = ap (cut_at 10) takes.2 ∙ none-append 10 r1.line r1.ahead plain takes.1;
+      short = c.in_ok-take_piece.ensures.room;
+      number = ap (λ (v : ReaderView). v.number) kept' ∙ (ap (λ (v : ReaderView). v.number) kept ∙ inv.number);
+      most = ap (λ (v : ReaderView). v.most) kept' ∙ (ap (λ (v : ReaderView). v.most) kept ∙ inv.most);
+      events = ap (λ (v : ReaderView). v.events) kept' ∙ (ap (λ (v : ReaderView). v.events) kept ∙ inv.events);
+      ended = ap (λ (v : ReaderView). v.ended) kept' ∙ ((c.in_ok-fill.ensures.going (ap Ok c.if-branch.true)).1 ∙ inv.ended);
+      counts = omega (arith, inv.counts, c.fill.ensures.counts);
+    }
+
+pub returns-in-TooLong-clause-told : goal.returns-in-TooLong-clause-told
+returns-in-TooLong-clause-told g c = λ rest has.
+    let inv = c.loop-reader.invariant in
+    let r = c.loop-reader.reader in
+    let r1 = c.fill.new.self in
+    let r2 = c.take_piece.new.self in
+    let s = g.S.Source in
+    let kept = c.fill.ensures.kept in
+    let kept' = c.take_piece.ensures.kept in
+    let begun = fills r r1 (s.left c.loop-reader.source) (s.left c.fill.new.source) rest (ap line_of kept) c.fill.ensures.told (inv.told rest has) in
+    let plain : cut_at 10 r1.line ≡ None = ap (λ (v : ReaderView). cut_at 10 v.line) kept ∙ inv.plain in
+    rw c.refuse_next.ensures.is (by-length (Unit {0}) c.args.reader.now r1 r2 (s.left c.fill.new.source) rest begun plain (rw c.in-TooLong.is at c.in_ok-take_piece.ensures.takes)
+    (ap (λ (v : ReaderView). v.ended) kept')
+    (ap (λ (v : ReaderView). v.number) kept' ∙ (ap (λ (v : ReaderView). v.number) kept ∙ inv.number))
+    c.refuse_next.ensures.few)
+
+pub returns-then-is_empty-clause-told : goal.returns-then-is_empty-clause-told
+returns-then-is_empty-clause-told g c = λ rest has.
+    let inv = c.loop-reader.invariant in
+    let r = c.loop-reader.reader in
+    let r1 = c.fill.new.self in
+    let s = g.S.Source in
+    let kept = c.fill.ensures.kept in
+    let begun = fills r r1 (s.left c.loop-reader.source) (s.left c.fill.new.source) rest (ap line_of kept) c.fill.ensures.told (inv.told rest has) in
+    at-end (Unit {0}) c.args.reader.now r1 (s.left c.fill.new.source) rest begun (sym c.line.ensures ∙ no-length c.line.result.now (sym c.is_empty.ensures ∙ c.if-is_empty.true)) (c.in_ok-fill.ensures.over (ap Ok c.if-branch.false))
+
+pub returns-clause-told : goal.returns-clause-told
+returns-clause-told g c = λ rest has.
+    let inv = c.loop-reader.invariant in
+    let r = c.loop-reader.reader in
+    let r1 = c.fill.new.self in
+    let s = g.S.Source in
+    let kept = c.fill.ensures.kept in
+    let begun = fills r r1 (s.left c.loop-reader.source) (s.left c.fill.new.source) rest (ap line_of kept) c.fill.ensures.told (inv.told rest has) in
+    let plain : cut_at 10 r1.line ≡ None = ap (λ (v : ReaderView). cut_at 10 v.line) kept ∙ inv.plain in
+    by-end (Unit {0}) c.args.reader.now r1 c.end_line-2.new.self (s.left c.fill.new.source) rest c.end_line-2.result begun plain
+    (omega (arith, inv.short, ap (λ (v : ReaderView). length v.line) kept))
+    (omega (arith, ap length c.line.ensures, some-length c.line.result.now (sym c.is_empty.ensures ∙ c.if-is_empty.false)))
+    (c.in_ok-fill.ensures.over (ap Ok c.if-branch.false))
+    (ap (λ (v : ReaderView). v.number) kept ∙ inv.number)
+    (ap (λ (v : ReaderView). v.most) kept ∙ inv.most)
+    c.end_line-2.ensures.ends

@@ -1,0 +1,41 @@
+-- Bytes as lines, each ended by a newline but perhaps the last.
+use Rattle.std.specs.Prelude.{ℕ, zero, suc, ◌==◌, ◌+◌, ◌-◌, min, List, [], ◌∷◌, ◌++◌, length, drop, if◌then◌else◌}
+
+abbrev pub onto_first : ℕ → List (List ℕ) × List ℕ → List (List ℕ) × List ℕ
+onto_first b ([], rest) = ([], b ∷ rest)
+onto_first b (l ∷ ls, rest) = ((b ∷ l) ∷ ls, rest)
+
+-- the whole lines, without their newlines, and what stands behind the last newline
+abbrev pub split_lines : List ℕ → List (List ℕ) × List ℕ
+split_lines [] = ([], [])
+split_lines (b ∷ bs) = if b == 10 then ([] ∷ (split_lines bs).0, (split_lines bs).1) else onto_first b (split_lines bs)
+
+-- the lines that a newline ends
+abbrev pub whole_lines : List ℕ → List (List ℕ)
+whole_lines bs = (split_lines bs).0
+
+-- what is left is a line too, if it is not empty
+abbrev pub last_line : List ℕ → List (List ℕ)
+last_line [] = []
+last_line (b ∷ bs) = (b ∷ bs) ∷ []
+
+-- all the lines
+abbrev pub lines_of : List ℕ → List (List ℕ)
+lines_of bs = whole_lines bs ++ last_line (split_lines bs).1
+
+-- how many bytes the first line has, with its newline
+abbrev pub first_size : List ℕ → ℕ
+first_size [] = 0
+first_size (b ∷ bs) = if b == 10 then 1 else 1 + first_size bs
+
+-- what stands behind so many lines
+abbrev pub behind_lines : ℕ → List ℕ → List ℕ
+behind_lines zero bs = bs
+behind_lines (suc n) bs = behind_lines n (drop (first_size bs) bs)
+
+-- how many bytes decide the line of this number, from 1: those of the lines before it, and its own up to its newline or,
+-- where that comes first, its 4,097th byte or the end
+abbrev pub decided : ℕ → List ℕ → ℕ
+decided number bs =
+    let line = behind_lines (number - 1) bs in
+    (length bs - length line) + min 4097 (first_size line)

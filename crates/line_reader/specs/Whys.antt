@@ -1,0 +1,18 @@
+-- The words of the reasons for which lines are refused.
+use Rattle.std.specs.Prelude.{ℕ, List, codes}
+use Rattle.line_reader.specs.declared.why.Why.{Why}
+use Rattle.line_reader.specs.declared.why.Why.TheVariants as why
+
+abbrev pub why_text : Why → List ℕ
+why_text why.LineTooLong = codes "line too long"
+why_text why.TooManyEvents = codes "too many events"
+why_text why.Header = codes "header"
+why_text why.UnknownWord = codes "unknown word"
+why_text why.Number = codes "number"
+why_text why.Text = codes "text"
+why_text why.NotThisNet = codes "not this network"
+why_text why.NoSuchNode = codes "no such node"
+why_text why.NoInputHere = codes "no input here"
+why_text why.NodeDown = codes "node down"
+why_text why.NodeUp = codes "node up"
+why_text why.NoCopy = codes "no copy"

@@ -1,0 +1,27 @@
+ghost use Rattle.std.specs.Prelude.{◌≡◌, [], ◌∷◌, ◌++◌, None, Some, codes, replicate};
+ghost use Rattle.vst_base.specs.Firsts.{first_of};
+ghost use Rattle.line_reader.specs.Cuts.{cut_at};
+ghost use Rattle.line_reader.specs.Lines.{behind_lines, decided, lines_of, whole_lines};
+ghost use Rattle.line_reader.specs.Limits.{line_refusals};
+
+use crate::Why;
+
+/// Lines, what decides them and their limits, on examples.
+pub fn worked()
+    ensures no_line { lines_of (codes "") ≡ [] }
+    ensures last_line { lines_of (codes "a") ≡ codes "a" ∷ [] }
+    ensures ended_line { lines_of (codes "a\n") ≡ codes "a" ∷ [] }
+    ensures empty_line_between { lines_of (codes "a\n\nb") ≡ codes "a" ∷ [] ∷ codes "b" ∷ [] }
+    ensures empty_lines { lines_of (codes "\n\n") ≡ [] ∷ [] ∷ [] }
+    ensures whole { whole_lines (codes "a\nb") ≡ codes "a" ∷ [] }
+    ensures cut { (cut_at 32 (codes "in 1 lock") ≡ Some (codes "in", codes "1 lock")) × (cut_at 32 (codes "in") ≡ None) }
+    ensures behind { (behind_lines 1 (codes "a\nb\nc") ≡ codes "b\nc") × (behind_lines 3 (codes "a\nb\nc") ≡ []) }
+    ensures decided_by_newline { (decided 1 (codes "ab\nc\n") ≡ 3) × (decided 2 (codes "ab\nc\n") ≡ 5) }
+    ensures decided_by_end { (decided 2 (codes "ab\nc") ≡ 4) × (decided 3 (codes "ab\nc") ≡ 4) × (decided 1 [] ≡ 0) }
+    ensures decided_by_length { (decided 1 (replicate 4100 35) ≡ 4097) × (decided 1 (replicate 4096 35 ++ 10 ∷ codes "ab") ≡ 4097) × (decided 1 (replicate 4095 35 ++ 10 ∷ codes "ab") ≡ 4096) }
+    ensures longest { first_of (line_refusals 2000000 1 (replicate 4096 35)) ≡ None }
+    ensures too_long { first_of (line_refusals 2000000 1 (replicate 4097 35)) ≡ Some Why.LineTooLong }
+    ensures last { first_of (line_refusals 2000000 2000000 []) ≡ None }
+    ensures too_many { first_of (line_refusals 2000000 2000001 []) ≡ Some Why.TooManyEvents }
+    ensures length_first { first_of (line_refusals 2000000 2000001 (replicate 4097 35)) ≡ Some Why.LineTooLong }
+{}

@@ -1,0 +1,34 @@
+ghost use Rattle.std.specs.Prelude.{◌≡◌, ◌+◌, ◌≤◌, ℕ, List, true, length, IfErr, OnOk, OnErr};
+ghost use Rattle.line_reader.specs.Outcomes.{HasReadCause, ReadsLine};
+ghost use Rattle.line_reader.specs.Readers.{HasRest};
+
+use crate::piece::Piece;
+use crate::{LineFault, Reader, Why};
+use outside::Source;
+
+/// Reads the next line: up to its newline, or to the end of the source where that comes first. `End` comes exactly where
+/// no byte is left. A line of more than 4,096 bytes is refused at its 4,097th byte, and one whose number is over the
+/// greatest once it was read. A line that a failed read breaks off is given up.
+pub fn next_line<S: Source>(reader: &mut Reader, source: &mut S) -> Result<(), LineFault>
+    ensures told { (rest : List ℕ) → HasRest reader.old (S.left source.old) rest → ReadsLine reader.old reader.new (S.left source.new) rest result }
+    ensures number { OnOk result ((reader.new.number ≡ reader.old.number + 1) × (reader.new.number ≤ reader.new.most)) }
+    ensures still { OnErr result (reader.new.number ≡ reader.old.number) }
+    ensures length { OnOk result (length reader.new.line ≤ 4096) }
+    ensures kept { (reader.new.most ≡ reader.old.most) × (reader.new.events ≡ reader.old.events) }
+    ensures stays { reader.old.ended ≡ true → reader.new.ended ≡ true }
+    ensures fault { IfErr result (HasReadCause reader.old (S.faults source.old) (S.faults source.new)) }
+    ensures counts { S.faults source.old ≤ S.faults source.new }
+{
+    reader.begin_line();
+    while reader.fill(source)? {
+        match reader.take_piece()? {
+            Piece::Newline => return reader.end_line(),
+            Piece::GoesOn => {}
+            Piece::TooLong => return Err(reader.refuse_next(Why::LineTooLong)),
+        }
+    }
+    if reader.line().is_empty() {
+        return Err(LineFault::End);
+    }
+    reader.end_line()
+}

@@ -1,0 +1,28 @@
+/// Why a line is refused. Which of several is answered is the matter of who reads the line.
+#[derive(Clone, Copy, Debug, PartialEq, Eq)]
+pub enum Why {
+    /// The line has more than 4,096 bytes.
+    LineTooLong,
+    /// The line's number is over the greatest, or it is event 1,000,001.
+    TooManyEvents,
+    /// The first line that is not skipped is no header, or there is none.
+    Header,
+    /// The first word is none of the seven step words, or the line has too few words.
+    UnknownWord,
+    /// The number is not digits without a leading zero, or is over 4,294,967,295.
+    Number,
+    /// The text is no input of the application.
+    Text,
+    /// The network has no steps of this kind.
+    NotThisNet,
+    /// The step names a node that does not exist.
+    NoSuchNode,
+    /// The node takes no input.
+    NoInputHere,
+    /// The node, or the packet's destination, is down.
+    NodeDown,
+    /// A node that is up cannot reboot.
+    NodeUp,
+    /// The packet was never sent, or no copy of it is in flight.
+    NoCopy,
+}

@@ -1,0 +1,91 @@
+use Rattle.std.proofs.Common.{◌+◌, refl, ap, ◌∙◌, arith}
+use Rattle.std.proofs.lemmas.Result.{err_from_is_err_and}
+use Rattle.line_reader.specs.Readers.{ReaderView}
+use Rattle.schedule_text.specs.Schedules.{script}
+use Rattle.schedule_text.specs.Reading.{step_of}
+use Rattle.schedule_text.proofs.Skipping.{skipped-none}
+use Rattle.schedule_text.proofs.Streaming.{says-step, step-failed, step-skips, step-refused, step-read, read-counted}
+use Rattle.schedule_text.proofs.streams.read_step.Goals as goal
+
+pub loop-reader-init : goal.loop-reader-init
+loop-reader-init g c =
+    let r = c.args.reader.now in
+    record {
+      told = λ rest has. skipped-none (λ n ls. script r.most g.A.AppText.input_of n r.events ls) r (g.S.Source.left c.args.source.now) rest has;
+      number = omega arith;
+      most = refl;
+      events = refl;
+      stays = λ is. is;
+      counts = omega arith;
+    }
+
+pub returns-in_err-next_line-clause-told : goal.returns-in_err-next_line-clause-told
+returns-in_err-next_line-clause-told g c = λ rest has.
+    let inv = c.loop-reader.invariant in
+    let s = inv.told rest has in
+    let p = err_from_is_err_and c.from_residual.result c.from_residual.ensures.1 in
+    let y = c.in_err-next_line.field-0.0 in
+    rw (p.1, p.2) (step-failed g.A.AppText.input_of c.args.reader.now c.loop-reader.reader c.next_line.new.reader (g.S.Source.left c.loop-reader.source) (g.S.Source.left c.next_line.new.source) rest inv.most s
+    (Unit {0}) y _ _ c.in_err-next_line.ensures.fault (c.in_err-next_line.ensures.told s.uses.rest' s.uses.left))
+
+pub loop-reader-preserved : goal.loop-reader-preserved
+loop-reader-preserved g c =
+    let inv = c.loop-reader.invariant in
+    let new = c.next_line.new.reader in
+    let f = g.A.AppText.input_of in
+    let said = rw (c.in-Skipped.is, c.events.ensures, c.line.ensures, c.next_line.ensures.kept.1, inv.events) at c.in_ok-line_says.ensures in
+    record {
+      told = λ rest has.
+          let s = inv.told rest has in
+          let reads = c.in_ok-next_line.ensures.told s.uses.rest' s.uses.left in
+          step-skips f c.args.reader.now c.loop-reader.reader new (g.S.Source.left c.loop-reader.source) (g.S.Source.left c.next_line.new.source) rest inv.most s
+          reads.0 reads.1 reads.3 reads.2 reads.4 (c.next_line.ensures.kept.0 ∙ inv.most) said;
+      number = omega (arith, inv.number, c.in_ok-next_line.ensures.number.0);
+      most = c.next_line.ensures.kept.0 ∙ inv.most;
+      events = c.next_line.ensures.kept.1 ∙ inv.events;
+      stays = λ is. c.next_line.ensures.stays (inv.stays is);
+      counts = omega (arith, inv.counts, c.next_line.ensures.counts);
+    }
+
+pub count_event-requires : goal.count_event-requires
+count_event-requires g c =
+    let said = rw (c.in-IsStep.is, c.events.ensures, c.line.ensures) at c.in_ok-line_says.ensures in
+    omega (arith, (says-step g.A.AppText.input_of c.next_line.new.reader.events c.next_line.new.reader.line c.in-IsStep.step said).1)
+
+pub returns-in-IsStep-clause-told : goal.returns-in-IsStep-clause-told
+returns-in-IsStep-clause-told g c = λ rest has.
+    let inv = c.loop-reader.invariant in
+    let new = c.next_line.new.reader in
+    let f = g.A.AppText.input_of in
+    let said = rw (c.in-IsStep.is, c.events.ensures, c.line.ensures, c.next_line.ensures.kept.1, inv.events) at c.in_ok-line_says.ensures in
+    let s = inv.told rest has in
+    let reads = c.in_ok-next_line.ensures.told s.uses.rest' s.uses.left in
+    read-counted f c.args.reader.now new c.count_event.new.self (g.S.Source.left c.next_line.new.source) rest c.in-IsStep.step (new.events + 1) c.count_event.ensures
+    (step-read f c.args.reader.now c.loop-reader.reader new (g.S.Source.left c.loop-reader.source) (g.S.Source.left c.next_line.new.source) rest inv.most s
+    reads.0 reads.1 reads.3 reads.2 reads.4 (c.next_line.ensures.kept.0 ∙ inv.most) c.in-IsStep.step said)
+
+pub returns-in-IsStep-clause-step : goal.returns-in-IsStep-clause-step
+returns-in-IsStep-clause-step g c =
+    let new = c.next_line.new.reader in
+    let said = rw (c.in-IsStep.is, c.events.ensures, c.line.ensures) at c.in_ok-line_says.ensures in
+    ap (λ (v : ReaderView). step_of g.A.AppText.input_of v.line) c.count_event.ensures ∙ (says-step g.A.AppText.input_of new.events new.line c.in-IsStep.step said).0
+
+pub returns-in-IsStep-clause-events : goal.returns-in-IsStep-clause-events
+returns-in-IsStep-clause-events g c =
+    let new = c.next_line.new.reader in
+    let said = rw (c.in-IsStep.is, c.events.ensures, c.line.ensures) at c.in_ok-line_says.ensures in
+    let few = (says-step g.A.AppText.input_of new.events new.line c.in-IsStep.step said).1 in
+    let counted = ap (λ (v : ReaderView). v.events) c.count_event.ensures in
+    let before = c.next_line.ensures.kept.1 ∙ c.loop-reader.invariant.events in
+    (omega (arith, counted, before), omega (arith, counted, few))
+
+pub returns-in-Refused-clause-told : goal.returns-in-Refused-clause-told
+returns-in-Refused-clause-told g c = λ rest has.
+    let inv = c.loop-reader.invariant in
+    let new = c.next_line.new.reader in
+    let f = g.A.AppText.input_of in
+    let said = rw (c.in-Refused.is, c.events.ensures, c.line.ensures, c.next_line.ensures.kept.1, inv.events) at c.in_ok-line_says.ensures in
+    let s = inv.told rest has in
+    let reads = c.in_ok-next_line.ensures.told s.uses.rest' s.uses.left in
+    rw c.refuse.ensures (step-refused f c.args.reader.now c.loop-reader.reader new (g.S.Source.left c.loop-reader.source) (g.S.Source.left c.next_line.new.source) rest inv.most s
+    reads.0 reads.1 reads.3 reads.2 reads.4 (c.next_line.ensures.kept.0 ∙ inv.most) c.in-Refused.why said)

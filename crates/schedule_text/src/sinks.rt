@@ -1,0 +1,99 @@
+ghost use Rattle.std.specs.Prelude.{◌≡◌, ◌≤◌, IfErr, IsErrOf, OnErr, OnOk};
+ghost use Rattle.outside.specs.Counting.{Rose};
+ghost use Rattle.outside.specs.Wholes.{Gained, GainedFront};
+ghost use Rattle.schedule_text.specs.Printing.{as_line, step_text, steps_text, trace_text};
+ghost use Rattle.schedule_text.specs.Sending.{HasWriteCause, Spilled};
+
+use crate::printing::{push_item, push_step};
+use app_text::AppText;
+use line_reader::LineFault;
+use outside::{Sink, WriteFault, write_all};
+use std::alloc::Global;
+use vst_base::{Item, Step};
+
+/// How many bytes are gathered before they are written.
+const PIECE: usize = 4_096;
+
+/// Writes a text. At an `Err`, which is `Write` or `Memory`, a front of it was written.
+pub fn print_text<K: Sink>(sink: &mut K, text: &[u8]) -> Result<(), LineFault>
+    ensures ok { OnOk result (Gained (K.written sink.old) (K.written sink.new) text.now) }
+    ensures err { OnErr result (GainedFront (K.written sink.old) (K.written sink.new) text.now) }
+    ensures fault { IfErr result (HasWriteCause (K.faults sink.old) (K.faults sink.new)) }
+    ensures memory { IsErrOf result LineFault.Memory → Rose (K.wants sink.old) (K.wants sink.new) }
+    ensures counts { K.faults sink.old ≤ K.faults sink.new }
+{
+    match write_all(sink, text) {
+        Ok(()) => Ok(()),
+        Err(WriteFault::Failed) => Err(LineFault::Write),
+        Err(WriteFault::Memory) => Err(LineFault::Memory),
+    }
+}
+
+// Writes what was gathered, once it is enough for a write.
+fn spill<K: Sink>(sink: &mut K, text: &mut Vec<u8>) -> Result<(), LineFault>
+    ensures ok { OnOk result (Spilled (K.written sink.old) (K.written sink.new) text.old.items text.new.items) }
+    ensures err { OnErr result (GainedFront (K.written sink.old) (K.written sink.new) text.old.items) }
+    ensures fault { IfErr result (HasWriteCause (K.faults sink.old) (K.faults sink.new)) }
+    ensures counts { K.faults sink.old ≤ K.faults sink.new }
+{
+    if text.len() < PIECE {
+        return Ok(());
+    }
+    print_text(sink, text)?;
+    text.clear();
+    Ok(())
+}
+
+/// Writes the line of a step. At an `Err`, which is `Write` or `Memory`, a front of it was written.
+pub fn print_step<A: AppText, K: Sink>(
+    alloc: Global,
+    sink: &mut K,
+    step: &Step<A::Input>,
+) -> Result<(), LineFault>
+    ensures ok { OnOk result (Gained (K.written sink.old) (K.written sink.new) (as_line (step_text A.input_text step.now))) }
+    ensures err { OnErr result (GainedFront (K.written sink.old) (K.written sink.new) (as_line (step_text A.input_text step.now))) }
+    ensures fault { IfErr result (HasWriteCause (K.faults sink.old) (K.faults sink.new)) }
+    ensures counts { K.faults sink.old ≤ K.faults sink.new }
+{
+    let mut text = Vec::new(alloc);
+    push_step::<A>(&mut text, step)?;
+    print_text(sink, &text)
+}
+
+/// Writes the lines of steps, in order. At an `Err`, which is `Write` or `Memory`, a front of them was written.
+pub fn print_steps<A: AppText, K: Sink>(
+    alloc: Global,
+    sink: &mut K,
+    steps: &[Step<A::Input>],
+) -> Result<(), LineFault>
+    ensures ok { OnOk result (Gained (K.written sink.old) (K.written sink.new) (steps_text A.input_text steps.now)) }
+    ensures err { OnErr result (GainedFront (K.written sink.old) (K.written sink.new) (steps_text A.input_text steps.now)) }
+    ensures fault { IfErr result (HasWriteCause (K.faults sink.old) (K.faults sink.new)) }
+    ensures counts { K.faults sink.old ≤ K.faults sink.new }
+{
+    let mut text = Vec::new(alloc);
+    for step in steps {
+        push_step::<A>(&mut text, step)?;
+        spill(sink, &mut text)?;
+    }
+    print_text(sink, &text)
+}
+
+/// Writes the lines of a trace, in order. At an `Err`, which is `Write` or `Memory`, a front of them was written.
+pub fn print_trace<A: AppText, K: Sink>(
+    alloc: Global,
+    sink: &mut K,
+    items: &[Item<A::Input, A::Output>],
+) -> Result<(), LineFault>
+    ensures ok { OnOk result (Gained (K.written sink.old) (K.written sink.new) (trace_text A.input_text A.output_text items.now)) }
+    ensures err { OnErr result (GainedFront (K.written sink.old) (K.written sink.new) (trace_text A.input_text A.output_text items.now)) }
+    ensures fault { IfErr result (HasWriteCause (K.faults sink.old) (K.faults sink.new)) }
+    ensures counts { K.faults sink.old ≤ K.faults sink.new }
+{
+    let mut text = Vec::new(alloc);
+    for item in items {
+        push_item::<A>(&mut text, item)?;
+        spill(sink, &mut text)?;
+    }
+    print_text(sink, &text)
+}

@@ -1,0 +1,81 @@
+ghost use Rattle.std.specs.Prelude.{◌≡◌, ◌≢◌, ◌+◌, ◌<◌, ◌≤◌, ℕ, true, List, Some, Err, IfErr, IfOk, OnOk};
+ghost use Rattle.line_reader.specs.Outcomes.{HasReadCause};
+ghost use Rattle.line_reader.specs.Readers.{HasRest};
+ghost use Rattle.schedule_text.specs.Headers.{header_of};
+ghost use Rattle.schedule_text.specs.Reading.{step_of};
+ghost use Rattle.schedule_text.specs.Streams.{ReadsHeader, ReadsStep, header_fault};
+
+use crate::headers::header_of;
+use crate::reading::line_says;
+use crate::skips::is_skipped;
+use crate::{Header, Line};
+use app_text::AppText;
+use line_reader::{LineFault, Reader, Why, next_line};
+use outside::Source;
+use std::alloc::Global;
+use vst_base::Step;
+
+// Why there is no header, where no further line was read.
+fn header_fault(reader: &Reader, fault: LineFault) -> LineFault
+    ensures { result ≡ header_fault (reader.now.number + 1) fault }
+{
+    match fault {
+        LineFault::End => reader.refuse_next(Why::Header),
+        _ => fault,
+    }
+}
+
+/// Reads the header: the first line that is not skipped. A text without one is refused at the line behind its last, so
+/// `End` never comes.
+pub fn read_header<S: Source>(reader: &mut Reader, source: &mut S) -> Result<Header, LineFault>
+    ensures told { (rest : List ℕ) → HasRest reader.old (S.left source.old) rest → ReadsHeader reader.old reader.new (S.left source.new) rest result }
+    ensures header { IfOk result (λ h. header_of reader.new.line ≡ Some h) }
+    ensures number { OnOk result ((reader.old.number < reader.new.number) × (reader.new.number ≤ reader.new.most)) }
+    ensures headed { result ≢ Err LineFault.End }
+    ensures stays { reader.old.ended ≡ true → reader.new.ended ≡ true }
+    ensures kept { (reader.new.most ≡ reader.old.most) × (reader.new.events ≡ reader.old.events) }
+    ensures fault { IfErr result (HasReadCause reader.old (S.faults source.old) (S.faults source.new)) }
+    ensures counts { S.faults source.old ≤ S.faults source.new }
+{
+    loop {
+        match next_line(reader, source) {
+            Ok(()) => {}
+            Err(fault) => return Err(header_fault(reader, fault)),
+        }
+        if !is_skipped(reader.line()) {
+            return match header_of(reader.line()) {
+                Some(header) => Ok(header),
+                None => Err(reader.refuse(Why::Header)),
+            };
+        }
+    }
+}
+
+/// Reads the next step behind the header, and counts it as an event. Lines that are skipped before it are used. `End`
+/// comes exactly where only such lines are left.
+pub fn read_step<A: AppText, S: Source>(
+    alloc: Global,
+    reader: &mut Reader,
+    source: &mut S,
+) -> Result<Step<A::Input>, LineFault>
+    ensures told { (rest : List ℕ) → HasRest reader.old (S.left source.old) rest → ReadsStep A.input_of reader.old reader.new (S.left source.new) rest result }
+    ensures step { IfOk result (λ s. step_of A.input_of reader.new.line ≡ Some s) }
+    ensures number { OnOk result ((reader.old.number < reader.new.number) × (reader.new.number ≤ reader.new.most)) }
+    ensures events { OnOk result ((reader.new.events ≡ reader.old.events + 1) × (reader.new.events ≤ 1000000)) }
+    ensures kept { reader.new.most ≡ reader.old.most }
+    ensures stays { reader.old.ended ≡ true → reader.new.ended ≡ true }
+    ensures fault { IfErr result (HasReadCause reader.old (S.faults source.old) (S.faults source.new)) }
+    ensures counts { S.faults source.old ≤ S.faults source.new }
+{
+    loop {
+        next_line(reader, source)?;
+        match line_says::<A>(alloc, reader.events(), reader.line())? {
+            Line::Skipped => {}
+            Line::IsStep(step) => {
+                reader.count_event();
+                return Ok(step);
+            }
+            Line::Refused(why) => return Err(reader.refuse(why)),
+        }
+    }
+}
