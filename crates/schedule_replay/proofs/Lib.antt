@@ -1,5 +1,6 @@
-pub mod Deliveries
+pub mod Endings
+pub mod Finishing
 pub mod Headers
-pub mod Prefix
-pub mod Progress
-pub mod Reports
+pub mod Openings
+pub mod Plays
+pub mod Scripts

@@ -1,7 +1,9 @@
 pub mod Stacks
 pub mod Replaying
 pub mod Replays
+pub mod Tallying
 pub mod Playing
-pub mod Openings
-pub mod Reporting
+pub mod Finishing
+pub mod Faults
 pub mod Outcomes
+pub mod Openings

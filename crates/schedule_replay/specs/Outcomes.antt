@@ -1,42 +1,62 @@
--- What a replay from a source to a sink comes to. Told contents are optional; what is said of them holds where they are told.
-use Rattle.std.specs.Prelude.{◌≡◌, ℕ, Bool, true, false, List, [], Option, Some, None, Result, Ok, Err, IfSome}
+-- What a replay from a source to a sink comes to. It is said of the rest of a text, before which some lines stand, by what
+-- replay makes of a whole rest, and of the whole lines of one that broke off.
+use Rattle.std.specs.Prelude.{◌≡◌, ℕ, Bool, false, ◌+◌, ◌-◌, ◌<◌, ◌≤◌, List, [], ◌++◌, length, Option, Some, None, Result, Ok, Err}
 use Rattle.outside.specs.Counting.{Rose}
-use Rattle.outside.specs.Wholes.{Gained, GainedFront, Gave}
-use Rattle.schedule_text.specs.declared.why.Why.{Why}
+use Rattle.outside.specs.Wholes.{Gained, GainedFront}
+use Rattle.line_reader.specs.declared.why.Why.{Why}
+use Rattle.line_reader.specs.Lines.{decided, split_lines}
 use Rattle.schedule_replay.specs.declared.done.Done.{Done}
 use Rattle.schedule_replay.specs.declared.fault.ReplayFault.{ReplayFault}
 use Rattle.schedule_replay.specs.declared.fault.ReplayFault.TheVariants as fault
 use Rattle.schedule_replay.specs.Replaying.{Replayed}
-use Rattle.schedule_replay.specs.Replays.{replayed, replayed_so_far}
 
--- the whole input was read, no line of it is refused, and the sink gained the trace and the image
-pub record IsDone (left left' out out' : Option (List ℕ)) (done : Done) : Type 0 where
-  pub ended : IfSome left (λ bytes. left' ≡ Some [])
-  pub taken : IfSome left (λ bytes. (replayed bytes).refused ≡ None)
-  pub counts : IfSome left (λ bytes. done ≡ (replayed bytes).counts)
-  pub written : IfSome left (λ bytes. Gained out out' (replayed bytes).out)
+-- of a rest these bytes were given, and the others are left
+pub record HasGiven (rest : List ℕ) (left' : Option (List ℕ)) (given : List ℕ) : Type 0 where
+  pub others : List ℕ
+  pub whole : rest ≡ given ++ others
+  pub left_is : left' ≡ Some others
 
--- a read failed behind these bytes: none of their whole lines is refused, and the sink gained their trace
-pub record BrokeOff (out out' : Option (List ℕ)) (given : List ℕ) : Type 0 where
-  pub taken : (replayed_so_far given).refused ≡ None
-  pub written : Gained out out' (replayed_so_far given).out
+-- the whole rest was read, no line of it is refused, and the sink gained the trace and the image
+pub record IsDone (whole : List ℕ → Replayed) (rest : List ℕ) (left' out out' : Option (List ℕ)) (done : Done) : Type 0 where
+  pub ended : left' ≡ Some []
+  pub taken : (whole rest).refused ≡ None
+  pub counts : done ≡ (whole rest).counts
+  pub written : Gained out out' (whole rest).out
 
--- a fault has its cause, and the sink gained what it leaves
-abbrev pub FailsAs : Option (List ℕ) → Option (List ℕ) → ℕ → ℕ → Option (List ℕ) → Option (List ℕ) → ℕ → ℕ → ReplayFault → Type 0
-FailsAs left left' read read' out out' write write' fault.Read =
-    Rose read read' × IfSome left (λ bytes. (given : List ℕ) × Gave left left' given × BrokeOff out out' given)
-    × IfSome left (λ bytes. GainedFront out out' (replayed bytes).out)
-FailsAs left left' read read' out out' write write' fault.Write =
-    Rose write write' × IfSome left (λ bytes. GainedFront out out' (replayed bytes).out)
-FailsAs left left' read read' out out' write write' (fault.Refused line why) =
-    IfSome left (λ bytes. ((replayed bytes).refused ≡ Some (line, why)) × Gained out out' (replayed bytes).out)
-FailsAs left left' read read' out out' write write' fault.Memory =
-    IfSome left (λ bytes. GainedFront out out' (replayed bytes).out)
+-- a read failed behind these bytes: none of their whole lines is refused, what stands behind their last newline is not too
+-- long yet, and the sink gained exactly their trace
+pub record BrokeOff (whole so_far : List ℕ → Replayed) (rest : List ℕ) (left' out out' : Option (List ℕ)) : Type 0 where
+  pub given : List ℕ
+  pub gave : HasGiven rest left' given
+  pub short : length (split_lines given).1 ≤ 4096
+  pub taken : (so_far given).refused ≡ None
+  pub written : Gained out out' (so_far given).out
+  pub front : GainedFront out out' (whole rest).out
 
--- what replay made of a text, of which the end was read or not, was written, and answered for
-abbrev pub Delivered : Replayed → Bool → Option (List ℕ) → Option (List ℕ) → ℕ → ℕ → Result Done ReplayFault → Type 0
-Delivered v ended out out' write write' (Ok done) = (ended ≡ true) × (v.refused ≡ None) × (done ≡ v.counts) × Gained out out' v.out
-Delivered v ended out out' write write' (Err fault.Read) = (ended ≡ false) × (v.refused ≡ None) × Gained out out' v.out
-Delivered v ended out out' write write' (Err (fault.Refused line why)) = (v.refused ≡ Some (line, why)) × Gained out out' v.out
-Delivered v ended out out' write write' (Err fault.Write) = Rose write write' × GainedFront out out' v.out
-Delivered v ended out out' write write' (Err fault.Memory) = GainedFront out out' v.out
+-- this line is the first that is refused, the sink gained the trace before it, and at most 4,096 bytes were given past the
+-- byte that decided it
+pub record IsRefused (whole : List ℕ → Replayed) (before : ℕ) (rest : List ℕ) (left' out out' : Option (List ℕ)) (line : ℕ) (why : Why) : Type 0 where
+  pub refused : (whole rest).refused ≡ Some (line, why)
+  pub written : Gained out out' (whole rest).out
+  pub given : List ℕ
+  pub gave : HasGiven rest left' given
+  pub later : before < line
+  pub ahead : length given ≤ decided (line - before) rest + 4096
+
+abbrev pub ComesTo : (List ℕ → Replayed) → (List ℕ → Replayed) → ℕ → List ℕ → Option (List ℕ) → Option (List ℕ) → Option (List ℕ) → Result Done ReplayFault → Type 0
+ComesTo whole so_far before rest left' out out' (Ok done) = IsDone whole rest left' out out' done
+ComesTo whole so_far before rest left' out out' (Err fault.Read) = BrokeOff whole so_far rest left' out out'
+ComesTo whole so_far before rest left' out out' (Err (fault.Refused line why)) = IsRefused whole before rest left' out out' line why
+ComesTo whole so_far before rest left' out out' (Err fault.Write) = GainedFront out out' (whole rest).out
+ComesTo whole so_far before rest left' out out' (Err fault.Memory) = GainedFront out out' (whole rest).out
+
+-- a failed read or write has its fault
+abbrev pub HasFault : ℕ → ℕ → ℕ → ℕ → ReplayFault → Type 0
+HasFault read read' write write' fault.Read = Rose read read'
+HasFault read read' write write' fault.Write = Rose write write'
+HasFault read read' write write' (fault.Refused line why) = Unit {0}
+HasFault read read' write write' fault.Memory = Unit {0}
+
+-- and no read fails once the end was met
+abbrev pub HasCause : Bool → ℕ → ℕ → ℕ → ℕ → ReplayFault → Type 0
+HasCause ended read read' write write' found = HasFault read read' write write' found × (found ≡ fault.Read → ended ≡ false)

@@ -1,44 +1,78 @@
--- What playing lines on a running schedule comes to.
-use Rattle.std.specs.Prelude.{◌≡◌, ◌⊎◌, ℕ, Bool, true, false, List, [], ◌∷◌, ◌++◌, Option, Some, None, Result, Ok, Err}
+-- What reading and taking the steps of a schedule comes to. What is said of the rest of a text holds where the source tells.
+use Rattle.std.specs.Prelude.{◌≡◌, ◌⊎◌, ℕ, false, ◌+◌, List, [], ◌∷◌, ◌++◌, Option, Some, None, Ok, Err}
 use Rattle.handler_trait.specs.Handling.{Meaning}
 use Rattle.vst_base.specs.declared.step.Step.{Step}
+use Rattle.vst_base.specs.declared.step.Item.{Item}
 use Rattle.vst_base.specs.declared.step.StepRefusal.{StepRefusal}
 use Rattle.net_semantics.specs.Steps.{refusal_of}
 use Rattle.net_semantics.specs.Runs.{run, no_recovery}
-use Rattle.schedule_text.specs.declared.why.Why.{Why}
-use Rattle.schedule_text.specs.declared.line.Line.{Line}
-use Rattle.schedule_text.specs.declared.line.Line.TheVariants.{Skipped, IsStep, Refused}
-use Rattle.schedule_text.specs.Schedules.{Script}
+use Rattle.outside.specs.Wholes.{Gained}
+use Rattle.line_reader.specs.declared.why.Why.{Why}
+use Rattle.line_reader.specs.declared.fault.LineFault.TheVariants as fault
+use Rattle.line_reader.specs.Lines.{lines_of, whole_lines}
+use Rattle.line_reader.specs.Readers.{ReaderView, HasRest}
+use Rattle.line_reader.specs.Outcomes.{StandsAt, BreaksOff}
+use Rattle.schedule_text.specs.Printing.{trace_text}
+use Rattle.schedule_text.specs.Schedules.{script}
+use Rattle.schedule_text.specs.Streams.{ReadsStep}
 use Rattle.xform_stack.specs.Running.{RunView, HasRun}
 use Rattle.schedule_replay.specs.declared.halt.Halt.{Halt}
 use Rattle.schedule_replay.specs.declared.halt.Halt.TheVariants as halt
-use Rattle.schedule_replay.specs.Replaying.{why_of, stop_from, taken_from}
+use Rattle.schedule_replay.specs.declared.tally.Tally.{Tally}
+use Rattle.schedule_replay.specs.Stacks.{Stack, Texts}
+use Rattle.schedule_replay.specs.Tallying.{tallied}
+use Rattle.schedule_replay.specs.Replaying.{why_of, stop, taken}
 
-module _ {H S I O M : Type 0} (m : Meaning S I O M) (v : RunView H S I O M) where
-  -- a line is refused at this number: by the grammar, or since the world refuses its step
-  abbrev pub IsRefusedLine : List (Step I) → Line I → Why → Type 0
-  IsRefusedLine ss l why = (l ≡ Refused why)
-      ⊎ ((s : Step I) × (p : StepRefusal) × (l ≡ IsStep s) × (refusal_of v.world.net m (run m (no_recovery {S = S}) ss) s ≡ Some p) × (why ≡ why_of p))
+module _ {H S I O M : Type 0} (m : Meaning S I O M) (f : List ℕ → Option I) where
+  -- the next line that says a step is refused: by the grammar, or since the world refuses its step
+  abbrev pub IsRefusedStep : RunView H S I O M → List (Step I) → ReaderView → ReaderView → Option (List ℕ) → List ℕ → ℕ → Why → Type 0
+  IsRefusedStep v ss old new left' rest number why =
+      ReadsStep f old new left' rest (Err (fault.Refused number why))
+      ⊎ ((s : Step I) × (p : StepRefusal) × ReadsStep f old new left' rest (Ok s) × (number ≡ new.number)
+      × (refusal_of v.world.net m (run m (no_recovery {S = S}) ss) s ≡ Some p) × (why ≡ why_of p))
 
-  -- behind these steps a line was skipped, or its step was taken, or it was refused and changed nothing
-  abbrev pub TookLine : List (Step I) → Line I → ℕ → Result Bool Halt → Type 0
-  TookLine ss l number (Ok false) = (l ≡ Skipped) × HasRun m ss v
-  TookLine ss l number (Ok true) = (s : Step I) × (l ≡ IsStep s) × (refusal_of v.world.net m (run m (no_recovery {S = S}) ss) s ≡ None) × HasRun m (ss ++ s ∷ []) v
-  TookLine ss l number (Err (halt.Refused n why)) = (n ≡ number) × IsRefusedLine ss l why × HasRun m ss v
-  TookLine ss l number (Err halt.Memory) = Unit {0}
+  -- behind these steps one more was read and taken, or there is none, or it is refused and changed nothing
+  abbrev pub TookStep : RunView H S I O M → List (Step I) → List (Item I O) → ReaderView → ReaderView → Option (List ℕ) → Option (List ℕ) → Option Halt → Type 0
+  TookStep v ss gone old new left left' None =
+      (s : Step I) × HasRun m (ss ++ s ∷ []) gone v × ((rest : List ℕ) → HasRest old left rest → ReadsStep f old new left' rest (Ok s))
+  TookStep v ss gone old new left left' (Some halt.End) =
+      HasRun m ss gone v × ((rest : List ℕ) → HasRest old left rest → ReadsStep f old new left' rest (Err fault.End))
+  TookStep v ss gone old new left left' (Some halt.Read) =
+      HasRun m ss gone v × ((rest : List ℕ) → HasRest old left rest → ReadsStep f old new left' rest (Err fault.Read)) × (old.ended ≡ false)
+  TookStep v ss gone old new left left' (Some (halt.Refused number why)) =
+      HasRun m ss gone v × ((rest : List ℕ) → HasRest old left rest → IsRefusedStep v ss old new left' rest number why)
 
-  -- the lines of a script were played up to where it stops: the steps before it were taken
-  pub record HasPlayed (sc : Script I) (stop : Option (ℕ × Why)) : Type 0 where
-    pub stops : stop_from v.world.net m (no_recovery {S = S}) (run m no_recovery []) sc ≡ stop
-    pub took : HasRun m (taken_from v.world.net m (no_recovery {S = S}) (run m no_recovery []) sc) v
+-- the part of a trace that was let go was written and counted
+pub record TraceWritten {I O : Type 0} (t : Texts I O) (gone : List (Item I O)) (out out' : Option (List ℕ)) (tally : Tally) : Type 0 where
+  pub written : Gained out out' (trace_text t.input_text t.output_text gone)
+  pub counted : tally ≡ tallied (record { inputs = 0; outputs = 0 }) gone
 
-  abbrev pub Played : {A : Type 0} → Script I → Result A Halt → Type 0
-  Played sc (Ok x) = HasPlayed sc None
-  Played sc (Err (halt.Refused n why)) = HasPlayed sc (Some (n, why))
-  Played sc (Err halt.Memory) = Unit {0}
+-- what clients saw since it was last written was written, counted and let go
+abbrev pub WritesTrace : {H S I O M : Type 0} → Texts I O → RunView H S I O M → RunView H S I O M → Tally → Tally → Option (List ℕ) → Option (List ℕ) → Type 0
+WritesTrace t v v' tally tally' out out' =
+    Gained out out' (trace_text t.input_text t.output_text v.world.trace)
+    × (v' ≡ record v { world = record v.world { trace = [] } }) × (tally' ≡ tallied tally v.world.trace)
 
--- the line at which playing was halted, if it was, and not by want of memory
-abbrev pub IsRefusalOf : {A : Type 0} → Result A Halt → Option (ℕ × Why) → Type 0
-IsRefusalOf (Ok x) refused = refused ≡ None
-IsRefusalOf (Err (halt.Refused n why)) refused = refused ≡ Some (n, why)
-IsRefusalOf (Err halt.Memory) refused = ⊥
+-- where the steps of a rest end, these were taken
+abbrev pub HaltsBy : {S K I O M : Type 0} → Stack S K I O M → List (Step I) → ReaderView → ReaderView → Option (List ℕ) → List ℕ → Halt → Type 0
+HaltsBy st ss old new left' rest halt.End =
+    let sc = script old.most st.input_of (old.number + 1) old.events (lines_of rest) in
+    (left' ≡ Some []) × (stop st sc ≡ None) × (taken st sc ≡ ss)
+HaltsBy st ss old new left' rest halt.Read =
+    (part : List ℕ) × BreaksOff left' rest part
+    × (let sc = script old.most st.input_of (old.number + 1) old.events (whole_lines part) in (stop st sc ≡ None) × (taken st sc ≡ ss))
+HaltsBy st ss old new left' rest (halt.Refused number why) =
+    let sc = script old.most st.input_of (old.number + 1) old.events (lines_of rest) in
+    StandsAt old new left' rest number × (stop st sc ≡ Some (number, why)) × (taken st sc ≡ ss)
+
+-- all steps of a rest were taken up to where they end, and their whole trace was written
+pub record Halted {H S I O M : Type 0} (st : Stack S S I O M) (t : Texts I O) (v : RunView H S I O M) (tally : Tally) (old new : ReaderView)
+    (left left' out out' : Option (List ℕ)) (h : Halt) : Type 0 where
+  pub steps : List (Step I)
+  pub gone : List (Item I O)
+  pub ran : HasRun st.meaning steps gone v
+  pub empty : v.world.trace ≡ []
+  pub written : TraceWritten t gone out out' tally
+  pub halts : (rest : List ℕ) → HasRest old left rest → HaltsBy st steps old new left' rest h
+  pub front : (rest : List ℕ) → HasRest old left rest
+      → (more : List (Step I)) × (taken st (script old.most st.input_of (old.number + 1) old.events (lines_of rest)) ≡ steps ++ more)

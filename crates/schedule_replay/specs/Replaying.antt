@@ -1,6 +1,6 @@
 -- What replay makes of a text: the run of its steps up to the first that the network or the grammar refuses, its
 -- trace, and, where none is refused, the image below it.
-use Rattle.std.specs.Prelude.{ℕ, zero, suc, Bool, true, false, List, [], ◌∷◌, ◌++◌, map, length, take, count_by, Option, Some, None, if◌then◌else◌, codes}
+use Rattle.std.specs.Prelude.{ℕ, zero, suc, Bool, true, false, List, [], ◌∷◌, ◌++◌, map, length, take, count_by, Option, Some, None, codes}
 use Rattle.std.specs.List.{flat_map}
 use Rattle.handler_trait.specs.Handling.{Meaning, Recovery}
 use Rattle.vst_base.specs.declared.net.Net.{Net}
@@ -11,8 +11,8 @@ use Rattle.vst_base.specs.declared.step.StepRefusal.{StepRefusal}
 use Rattle.vst_base.specs.declared.step.StepRefusal.TheVariants as refusal
 use Rattle.net_semantics.specs.Worlds.{World, first_world}
 use Rattle.net_semantics.specs.Runs.{first_refused_from, trace}
-use Rattle.schedule_text.specs.declared.why.Why.{Why}
-use Rattle.schedule_text.specs.declared.why.Why.TheVariants as why
+use Rattle.line_reader.specs.declared.why.Why.{Why}
+use Rattle.line_reader.specs.declared.why.Why.TheVariants as why
 use Rattle.schedule_text.specs.Schedules.{Script}
 use Rattle.schedule_text.specs.Printing.{as_line, trace_text}
 use Rattle.schedule_replay.specs.declared.done.Done.{Done}

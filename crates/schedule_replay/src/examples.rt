@@ -1,5 +1,5 @@
 ghost use Rattle.std.specs.Prelude.{◌≡◌, [], ◌++◌, Some, None, codes};
-ghost use Rattle.schedule_text.specs.declared.why.Why.TheVariants.{Header, NoCopy, NoInputHere, NoSuchNode, Number, Text, UnknownWord, NotThisNet};
+ghost use Rattle.line_reader.specs.declared.why.Why.TheVariants.{Header, NoCopy, NoInputHere, NoSuchNode, Number, Text, UnknownWord, NotThisNet};
 ghost use Rattle.schedule_replay.specs.Replays.{replayed, replayed_so_far};
 
 /// Worked schedules of the lock server: what is written, and which line is refused.

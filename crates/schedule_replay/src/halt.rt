@@ -1,10 +1,12 @@
 use schedule_text::Why;
 
-/// Why lines are not played to their end.
+/// Where the steps of a schedule came to their end.
 #[derive(Clone, Copy, Debug, PartialEq, Eq)]
 pub(crate) enum Halt {
+    /// The text has no further step.
+    End,
+    /// A read failed.
+    Read,
     /// This line is refused.
     Refused(u32, Why),
-    /// Want of memory.
-    Memory,
 }

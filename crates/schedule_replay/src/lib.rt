@@ -3,25 +3,23 @@
 #![tactic(auto)]
 
 mod bag;
-mod deliver;
 mod done;
 mod examples;
 mod fault;
+mod faults;
+mod finish;
 mod halt;
-mod halting;
-mod opening;
-mod opens;
-mod outcome;
 mod play;
-mod report;
-mod texts;
+mod stream;
+mod taking;
+mod tally;
+mod tallying;
+mod writing;
 
-pub use deliver::replay;
 pub use done::Done;
 pub use examples::worked;
 pub use fault::ReplayFault;
-pub use outcome::Replayed;
-pub use texts::replayed;
+pub use stream::replay;
 
 #[cfg(test)]
 mod tests;

@@ -1,17 +1,12 @@
 -- What a run of the program without faults does, from its words and its input.
-use Rattle.std.specs.Prelude.{ℕ, Bool, true, false, List, [], ◌∷◌, Option, Some, None, if◌then◌else◌, codes}
-use Rattle.schedule_text.specs.declared.why.Why.{Why}
-use Rattle.schedule_text.specs.Words.{is_text}
+use Rattle.std.specs.Prelude.{ℕ, List, [], Option, Some, None, codes}
+use Rattle.line_reader.specs.declared.why.Why.{Why}
 use Rattle.schedule_text.specs.Printing.{as_line, refusal_line}
+use Rattle.command_line.specs.declared.command.Command.{Command}
+use Rattle.command_line.specs.declared.command.Command.TheVariants as command
+use Rattle.command_line.specs.CommandSet.{command_of}
 use Rattle.schedule_replay.specs.Replaying.{Replayed}
 use Rattle.schedule_replay.specs.Replays.{replayed}
-
--- the words are the program's name and replay
-abbrev pub takes : List (List ℕ) → Bool
-takes [] = false
-takes (name ∷ []) = false
-takes (name ∷ command ∷ []) = is_text command (codes "replay")
-takes (name ∷ command ∷ more ∷ words) = false
 
 -- the status, the text on the output, and the line on the error stream
 pub record Answer : Type 0 where
@@ -22,8 +17,8 @@ pub record Answer : Type 0 where
 abbrev pub usage_line : List ℕ
 usage_line = as_line (codes "usage")
 
-abbrev pub read_line : List ℕ
-read_line = as_line (codes "read")
+abbrev pub read_failed_line : List ℕ
+read_failed_line = as_line (codes "read")
 
 abbrev pub memory_line : List ℕ
 memory_line = as_line (codes "memory")
@@ -40,7 +35,10 @@ refusal_status (Some r) = 3
 abbrev pub answer_of : Replayed → Answer
 answer_of r = record { status = refusal_status r.refused; out = r.out; err = refusal_text r.refused }
 
+-- what a command does with its input, and where the words name none
+abbrev pub answer_by : Option Command → List ℕ → Answer
+answer_by None input = record { status = 2; out = []; err = usage_line }
+answer_by (Some command.Replay) input = answer_of (replayed input)
+
 abbrev pub answered : List (List ℕ) → List ℕ → Answer
-answered words input =
-    if takes words then answer_of (replayed input)
-    else record { status = 2; out = []; err = usage_line }
+answered words = answer_by (command_of words)

@@ -1,9 +1,13 @@
--- What the clauses of the top call say of its status. Told contents are optional; what is said of them holds where they are told.
-use Rattle.std.specs.Prelude.{◌≡◌, ◌⊎◌, ℕ, true, false, List, [], ◌∷◌, Option, Some, None, IfSome}
+-- What the clauses of the top call say of its status, where a run without faults has this answer to its input. Told contents are optional; what is said of them holds where they are told.
+use Rattle.std.specs.Prelude.{◌≡◌, ◌⊎◌, ℕ, ◌+◌, ◌≤◌, false, List, [], length, Option, Some, None, IfSome}
 use Rattle.outside.specs.Counting.{Rose}
 use Rattle.outside.specs.Wholes.{Gained, GainedFront, Gave}
+use Rattle.line_reader.specs.declared.why.Why.{Why}
+use Rattle.line_reader.specs.Lines.{decided, split_lines}
+use Rattle.schedule_text.specs.Printing.{refusal_line}
+use Rattle.command_line.specs.CommandSet.{takes_words}
 use Rattle.schedule_replay.specs.Replays.{replayed_so_far}
-use Rattle.top_call.specs.Answers.{answered, takes, usage_line, read_line, memory_line}
+use Rattle.top_call.specs.Answers.{Answer, usage_line, read_failed_line, memory_line}
 
 -- a status of the program
 abbrev pub IsStatus : ℕ → Type 0
@@ -19,45 +23,60 @@ pub record Streams : Type 0 where
   pub err' : Option (List ℕ)
 
 -- 0: the input was read to its end, and the output gained the whole text
-pub record IsDone (words : List (List ℕ)) (s : Streams) : Type 0 where
-  pub words_taken : takes words ≡ true
+pub record IsDone (answer : List ℕ → Answer) (s : Streams) : Type 0 where
   pub ended : IfSome s.left (λ bytes. s.left' ≡ Some [])
-  pub status : IfSome s.left (λ bytes. (answered words bytes).status ≡ 0)
-  pub out : IfSome s.left (λ bytes. Gained s.out s.out' (answered words bytes).out)
+  pub status : IfSome s.left (λ bytes. (answer bytes).status ≡ 0)
+  pub out : IfSome s.left (λ bytes. Gained s.out s.out' (answer bytes).out)
   pub err : Gained s.err s.err' []
 
 -- 2: the words are refused, and nothing was read or written but this
 pub record AreWordsRefused (words : List (List ℕ)) (s : Streams) : Type 0 where
-  pub words_refused : takes words ≡ false
+  pub words_refused : takes_words words ≡ false
   pub left : s.left' ≡ s.left
   pub out : s.out' ≡ s.out
   pub err : Gained s.err s.err' usage_line
 
--- 3: a line is refused, the output gained the trace before it, and the error stream its line
-pub record IsLineRefused (words : List (List ℕ)) (s : Streams) : Type 0 where
-  pub words_taken : takes words ≡ true
-  pub status : IfSome s.left (λ bytes. (answered words bytes).status ≡ 3)
-  pub out : IfSome s.left (λ bytes. Gained s.out s.out' (answered words bytes).out)
-  pub err : IfSome s.left (λ bytes. Gained s.err s.err' (answered words bytes).err)
+-- words that are refused, whatever the status: nothing was read, and nothing written on the output
+pub record IsIdle (s : Streams) (answered : ℕ) : Type 0 where
+  pub status : (answered ≡ 2) ⊎ (answered ≡ 5) ⊎ (answered ≡ 8)
+  pub left : s.left' ≡ s.left
+  pub out : s.out' ≡ s.out
 
--- 4: a read failed, no whole line that was given is refused, and the output gained exactly their trace
-pub record HasReadFailed (words : List (List ℕ)) (read read' : ℕ) (s : Streams) : Type 0 where
-  pub words_taken : takes words ≡ true
+-- 3: a line is refused, the output gained the trace before it, and the error stream its line. At most 4,096 bytes were given
+-- past the byte that decided it
+pub record IsLineRefused (answer : List ℕ → Answer) (s : Streams) : Type 0 where
+  pub line : ℕ
+  pub why : Why
+  pub status : IfSome s.left (λ bytes. (answer bytes).status ≡ 3)
+  pub out : IfSome s.left (λ bytes. Gained s.out s.out' (answer bytes).out)
+  pub err : Gained s.err s.err' (refusal_line line why)
+  pub named : IfSome s.left (λ bytes. (answer bytes).err ≡ refusal_line line why)
+  pub ahead : IfSome s.left (λ bytes. (given : List ℕ) × Gave s.left s.left' given × (length given ≤ decided line bytes + 4096))
+
+-- 4: a read failed, no whole line that was given is refused, what stands behind the last is not too long yet, and the output
+-- gained exactly their trace
+pub record HasReadFailed (read read' : ℕ) (s : Streams) : Type 0 where
   pub rose : Rose read read'
-  pub given : IfSome s.left (λ bytes. (given : List ℕ) × Gave s.left s.left' given × ((replayed_so_far given).refused ≡ None) × Gained s.out s.out' (replayed_so_far given).out)
-  pub err : Gained s.err s.err' read_line
+  pub given : IfSome s.left (λ bytes. (given : List ℕ) × Gave s.left s.left' given × (length (split_lines given).1 ≤ 4096) × ((replayed_so_far given).refused ≡ None) × Gained s.out s.out' (replayed_so_far given).out)
+  pub err : Gained s.err s.err' read_failed_line
 
 -- 5: a write failed, and the output gained a front of what it gains otherwise
-pub record HasWriteFailed (words : List (List ℕ)) (write write' complain complain' : ℕ) (s : Streams) : Type 0 where
+pub record HasWriteFailed (answer : List ℕ → Answer) (write write' complain complain' : ℕ) (s : Streams) : Type 0 where
   pub rose : Rose write write' ⊎ Rose complain complain'
-  pub out : IfSome s.left (λ bytes. GainedFront s.out s.out' (answered words bytes).out)
+  pub out : IfSome s.left (λ bytes. GainedFront s.out s.out' (answer bytes).out)
+
+-- a line that was being written on the error stream when it answered want of memory itself: that of want of memory, that of
+-- words that are refused, that of a read that failed, or that of a refused line
+abbrev pub WasWriting : (List ℕ → Answer) → Type 0 → Type 0 → Streams → Type 0
+WasWriting answer unknown unread s =
+    GainedFront s.err s.err' memory_line ⊎ (unknown × GainedFront s.err s.err' usage_line) ⊎ (unread × GainedFront s.err s.err' read_failed_line)
+    ⊎ ((line : ℕ) × (why : Why) × GainedFront s.err s.err' (refusal_line line why) × IfSome s.left (λ bytes. (answer bytes).err ≡ refusal_line line why))
 
 -- 8: want of memory; the error stream gained its line, or, where it answered want of memory itself, a front of that or of
 -- the line that was being written
-pub record IsOutOfMemory (words : List (List ℕ)) (wants wants' : ℕ) (s : Streams) : Type 0 where
-  pub out : IfSome s.left (λ bytes. GainedFront s.out s.out' (answered words bytes).out)
-  pub err : IfSome s.left (λ bytes. Gained s.err s.err' memory_line
-      ⊎ (Rose wants wants' × (GainedFront s.err s.err' memory_line ⊎ GainedFront s.err s.err' read_line ⊎ GainedFront s.err s.err' (answered words bytes).err)))
+pub record IsOutOfMemory (answer : List ℕ → Answer) (unknown unread : Type 0) (wants wants' : ℕ) (s : Streams) : Type 0 where
+  pub out : IfSome s.left (λ bytes. GainedFront s.out s.out' (answer bytes).out)
+  pub err : Gained s.err s.err' memory_line ⊎ (Rose wants wants' × WasWriting answer unknown unread s)
 
 -- what writing a line on the error stream comes to: the status that it was written for, 5 or 8
 abbrev pub Said : ℕ → List ℕ → Option (List ℕ) → Option (List ℕ) → ℕ → ℕ → ℕ → ℕ → ℕ → Type 0
@@ -67,6 +86,6 @@ Said status line err err' faults faults' wants wants' result =
     ⊎ ((result ≡ 8) × Rose wants wants' × GainedFront err err' line)
 
 -- where no count of input, output and error stream rose, the status is the answer's, or 8
-abbrev pub IsComplete : List (List ℕ) → Option (List ℕ) → Type 0 → Type 0 → Type 0 → ℕ → Type 0
-IsComplete words left read write complain result =
-    IfSome left (λ bytes. ¬ read → ¬ write → ¬ complain → (result ≡ (answered words bytes).status) ⊎ (result ≡ 8))
+abbrev pub IsComplete : (List ℕ → Answer) → Option (List ℕ) → Type 0 → Type 0 → Type 0 → ℕ → Type 0
+IsComplete answer left read write complain result =
+    IfSome left (λ bytes. ¬ read → ¬ write → ¬ complain → (result ≡ (answer bytes).status) ⊎ (result ≡ 8))

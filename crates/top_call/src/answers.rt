@@ -1,15 +1,15 @@
-ghost use Rattle.std.specs.Prelude.{◌≡◌, ◌⊎◌, ◌≤◌, ℕ, map, false, string_bytes};
+ghost use Rattle.std.specs.Prelude.{◌≡◌, ◌≤◌, ℕ, map, false, string_bytes};
 ghost use Rattle.outside.specs.Counting.{Rose};
-ghost use Rattle.top_call.specs.Answers.{takes};
-ghost use Rattle.top_call.specs.Clauses.{AreWordsRefused, HasReadFailed, HasWriteFailed, IsComplete, IsDone, IsLineRefused, IsOutOfMemory, IsStatus};
+ghost use Rattle.command_line.specs.CommandSet.{takes_words};
+ghost use Rattle.top_call.specs.Answers.{answered};
+ghost use Rattle.top_call.specs.Clauses.{AreWordsRefused, HasReadFailed, HasWriteFailed, IsComplete, IsDone, IsIdle, IsLineRefused, IsOutOfMemory, IsStatus};
 
-use crate::refuse::refuse;
+use crate::replaying::run_replay;
 use crate::say::say;
-use crate::status::{DONE, OUT_OF_MEMORY, READ_FAILED, WORDS_REFUSED, WRITE_FAILED};
-use crate::words::takes;
+use crate::status::{OUT_OF_MEMORY, WORDS_REFUSED};
+use command_line::{Command, read_words};
 use outside::{Device, Sink, Source};
-use schedule_replay::{ReplayFault, replay};
-use std::alloc::Global;
+use std::alloc::{AllocError, Global};
 
 /// Runs the program: its words, its input, its output, its error stream and the device of a node, which no command
 /// uses yet. Answers the status: 0 done, 2 the words are refused, 3 a line is refused, 4 the input could not be read,
@@ -23,9 +23,9 @@ pub fn run<S: Source, O: Sink, E: Sink, D: Device>(
     device: &mut D,
 ) -> u8
     ensures status { IsStatus result }
-    ensures complete { IsComplete (map string_bytes words.now) (S.left input.old) (Rose (S.faults input.old) (S.faults input.new))
+    ensures complete { IsComplete (answered (map string_bytes words.now)) (S.left input.old) (Rose (S.faults input.old) (S.faults input.new))
         (Rose (O.faults out.old) (O.faults out.new)) (Rose (E.faults err.old) (E.faults err.new)) result }
-    ensures done { result ≡ 0 → IsDone (map string_bytes words.now) (record {
+    ensures done { result ≡ 0 → IsDone (answered (map string_bytes words.now)) (record {
       left = S.left input.old;
       left' = S.left input.new;
       out = O.written out.old;
@@ -41,8 +41,15 @@ pub fn run<S: Source, O: Sink, E: Sink, D: Device>(
       err = E.written err.old;
       err' = E.written err.new;
     }) }
-    ensures words_only { takes (map string_bytes words.now) ≡ false → (result ≡ 2) ⊎ (result ≡ 5) ⊎ (result ≡ 8) }
-    ensures refused { result ≡ 3 → IsLineRefused (map string_bytes words.now) (record {
+    ensures words_only { takes_words (map string_bytes words.now) ≡ false → IsIdle (record {
+      left = S.left input.old;
+      left' = S.left input.new;
+      out = O.written out.old;
+      out' = O.written out.new;
+      err = E.written err.old;
+      err' = E.written err.new;
+    }) result }
+    ensures refused { result ≡ 3 → IsLineRefused (answered (map string_bytes words.now)) (record {
       left = S.left input.old;
       left' = S.left input.new;
       out = O.written out.old;
@@ -50,7 +57,7 @@ pub fn run<S: Source, O: Sink, E: Sink, D: Device>(
       err = E.written err.old;
       err' = E.written err.new;
     }) }
-    ensures read { result ≡ 4 → HasReadFailed (map string_bytes words.now) (S.faults input.old) (S.faults input.new) (record {
+    ensures read { result ≡ 4 → HasReadFailed (S.faults input.old) (S.faults input.new) (record {
       left = S.left input.old;
       left' = S.left input.new;
       out = O.written out.old;
@@ -58,7 +65,7 @@ pub fn run<S: Source, O: Sink, E: Sink, D: Device>(
       err = E.written err.old;
       err' = E.written err.new;
     }) }
-    ensures write { result ≡ 5 → HasWriteFailed (map string_bytes words.now) (O.faults out.old) (O.faults out.new) (E.faults err.old) (E.faults err.new) (record {
+    ensures write { result ≡ 5 → HasWriteFailed (answered (map string_bytes words.now)) (O.faults out.old) (O.faults out.new) (E.faults err.old) (E.faults err.new) (record {
       left = S.left input.old;
       left' = S.left input.new;
       out = O.written out.old;
@@ -66,7 +73,7 @@ pub fn run<S: Source, O: Sink, E: Sink, D: Device>(
       err = E.written err.old;
       err' = E.written err.new;
     }) }
-    ensures memory { result ≡ 8 → IsOutOfMemory (map string_bytes words.now) (E.wants err.old) (E.wants err.new) (record {
+    ensures memory { result ≡ 8 → IsOutOfMemory (answered (map string_bytes words.now)) (takes_words (map string_bytes words.now) ≡ false) (Rose (S.faults input.old) (S.faults input.new)) (E.wants err.old) (E.wants err.new) (record {
       left = S.left input.old;
       left' = S.left input.new;
       out = O.written out.old;
@@ -79,14 +86,9 @@ pub fn run<S: Source, O: Sink, E: Sink, D: Device>(
     ensures complains { E.faults err.old ≤ E.faults err.new }
     ensures device { device.new ≡ device.old }
 {
-    if !takes(words) {
-        return say(err, b"usage\n", WORDS_REFUSED);
-    }
-    match replay(alloc, input, out) {
-        Ok(_) => DONE,
-        Err(ReplayFault::Read) => say(err, b"read\n", READ_FAILED),
-        Err(ReplayFault::Write) => WRITE_FAILED,
-        Err(ReplayFault::Refused { line, why }) => refuse(alloc, err, line, why),
-        Err(ReplayFault::Memory) => say(err, b"memory\n", OUT_OF_MEMORY),
+    match read_words(alloc, words) {
+        Ok(Some(Command::Replay)) => run_replay(alloc, input, out, err),
+        Ok(None) => say(err, b"usage\n", WORDS_REFUSED),
+        Err(AllocError) => say(err, b"memory\n", OUT_OF_MEMORY),
     }
 }

@@ -2,6 +2,7 @@ ghost use Rattle.std.specs.Prelude.{◌≡◌, [], ◌∷◌, codes};
 ghost use Rattle.top_call.specs.Answers.{answered};
 
 /// Worked runs: the status, the text on the output and the line on the error stream.
+#[tactic(auto, unfolding(command_line::proofs::OnLiterals::words_on_literals))]
 pub fn worked()
     ensures unknown_command { answered (codes "vst" ∷ codes "frob" ∷ []) [] ≡ record { status = 2; out = []; err = codes "usage\n" } }
     ensures no_words { answered [] [] ≡ record { status = 2; out = []; err = codes "usage\n" } }

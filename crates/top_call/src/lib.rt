@@ -4,9 +4,9 @@
 mod answers;
 mod examples;
 mod refuse;
+mod replaying;
 mod say;
 mod status;
-mod words;
 
 pub use answers::run;
 pub use examples::worked;

@@ -13,34 +13,55 @@ const HANDED_OVER_ANSWER: &[u8] =
 #[derive(Drop)]
 struct Ran {
     status: u8,
+    source: MemorySource,
     out: MemorySink,
     err: MemorySink,
 }
 
-// Runs a command over these objects.
+// Runs the program with these words, a space between them, over these objects.
 fn run_over(
     alloc: Global,
-    command: &str,
+    words: &[&str],
     mut source: MemorySource,
     mut out: MemorySink,
     mut err: MemorySink,
 ) -> Result<Ran, AllocError> {
-    let mut words = Vec::new(alloc);
-    words.push(String::from_str(alloc, "vst")?)?;
-    words.push(String::from_str(alloc, command)?)?;
+    let mut owned = Vec::new(alloc);
+    for word in words {
+        owned.push(String::from_str(alloc, word)?)?;
+    }
     let mut device = MemoryDevice::new();
-    let status = run(alloc, &words, &mut source, &mut out, &mut err, &mut device);
-    Ok(Ran { status, out, err })
+    let status = run(alloc, &owned, &mut source, &mut out, &mut err, &mut device);
+    Ok(Ran {
+        status,
+        source,
+        out,
+        err,
+    })
 }
 
-fn sink(alloc: Global) -> MemorySink {
-    MemorySink::new(alloc, 100_000, Vec::new(alloc), Vec::new(alloc))
+// A source of a text that gives at most so many bytes a read, and fails at these reads.
+fn source(
+    alloc: Global,
+    text: &[u8],
+    most: usize,
+    failing: Vec<u64>,
+) -> Result<MemorySource, AllocError> {
+    let bytes = Vec::from_slice(alloc, text)?;
+    Ok(MemorySource::new(bytes, most.max(1), failing))
 }
 
-// Replays a text where nothing fails.
-fn replay(alloc: Global, text: &[u8]) -> Result<Ran, AllocError> {
-    let source = MemorySource::new(Vec::from_slice(alloc, text)?, 100, Vec::new(alloc));
-    run_over(alloc, "replay", source, sink(alloc), sink(alloc))
+// A sink that takes at most so many bytes a write, and fails at these writes.
+fn sink(alloc: Global, most: usize, failing: Vec<u64>) -> MemorySink {
+    MemorySink::new(alloc, most.max(1), failing, Vec::new(alloc))
+}
+
+// Replays a text that is read and written in pieces of at most so many bytes, where nothing fails.
+fn replay_in(alloc: Global, text: &[u8], read: usize, write: usize) -> Result<Ran, AllocError> {
+    let source = source(alloc, text, read, Vec::new(alloc))?;
+    let out = sink(alloc, write, Vec::new(alloc));
+    let err = sink(alloc, write, Vec::new(alloc));
+    run_over(alloc, &["vst", "replay"], source, out, err)
 }
 
 // A row: a text, and the status, the output and the line on the error stream that replay comes to.
@@ -51,7 +72,7 @@ fn expect(
     out: &[u8],
     err: &[u8],
 ) -> Result<(), AllocError> {
-    let ran = replay(rt.alloc(), text)?;
+    let ran = replay_in(rt.alloc(), text, 100, 100_000)?;
     assert_eq!(rt; ran.status, status);
     assert!(rt; ran.out.written() == out);
     assert!(rt; ran.err.written() == err);
@@ -151,13 +172,49 @@ fn a_line_has_at_most_4096_bytes(rt: HostRuntime) -> Result<(), Fail> {
 }
 
 #[test]
-fn other_words_are_refused(rt: HostRuntime) -> Result<(), Fail> {
+fn words_are_taken_as_the_command_set_takes_them(rt: HostRuntime) -> Result<(), Fail> {
     let alloc = rt.alloc();
-    let source = MemorySource::new(Vec::from_slice(alloc, HANDED_OVER)?, 10, Vec::new(alloc));
-    let ran = run_over(alloc, "frob", source, sink(alloc), sink(alloc))?;
-    assert_eq!(rt; ran.status, 2);
-    assert!(rt; ran.out.written().is_empty());
-    assert!(rt; ran.err.written() == b"usage\n".as_slice());
+    let rows: [(&[&str], u8); 12] = [
+        (&[], 2),
+        (&["vst"], 2),
+        (&["vst", "replay"], 0),
+        (&["vst", "replay", "--"], 0),
+        (&["vst", "frob"], 2),
+        (&["vst", "check"], 2),
+        (&["vst", "replay", "x"], 2),
+        (&["vst", "replay", "--x"], 2),
+        (&["vst", "replay", "replay"], 2),
+        (&["vst", "--help"], 2),
+        (&["vst", "-h"], 2),
+        (&["vst", "help"], 2),
+    ];
+    for (words, status) in rows {
+        let source = source(alloc, HANDED_OVER, 10, Vec::new(alloc))?;
+        let out = sink(alloc, 100, Vec::new(alloc));
+        let err = sink(alloc, 100, Vec::new(alloc));
+        let ran = run_over(alloc, words, source, out, err)?;
+        assert_eq!(rt; ran.status, status);
+        if status == 2 {
+            assert!(rt; ran.out.written().is_empty());
+            assert!(rt; ran.err.written() == b"usage\n".as_slice());
+            assert_eq!(rt; ran.source.calls(), 0);
+        }
+    }
+    Ok(())
+}
+
+#[test]
+fn small_reads_and_writes_change_nothing(rt: HostRuntime) -> Result<(), Fail> {
+    let refused = b"schedule 1 bag lock 2\nin 1 lock\ndeliver 0\ndeliver 0\n".as_slice();
+    for read in [1, 3, 7] {
+        let ran = replay_in(rt.alloc(), HANDED_OVER, read, 1)?;
+        assert_eq!(rt; ran.status, 0);
+        assert!(rt; ran.out.written() == HANDED_OVER_ANSWER);
+        let ran = replay_in(rt.alloc(), refused, read, 1)?;
+        assert_eq!(rt; ran.status, 3);
+        assert!(rt; ran.out.written() == b"in 1 lock\n".as_slice());
+        assert!(rt; ran.err.written() == b"line 4: no copy\n".as_slice());
+    }
     Ok(())
 }
 
@@ -175,37 +232,72 @@ fn a_read_that_fails_leaves_the_trace_of_the_whole_lines(rt: HostRuntime) -> Res
     ];
     for (i, trace) in traces.iter().enumerate() {
         let failing = vec![in alloc; i as u64 + 1]?;
-        let source = MemorySource::new(Vec::from_slice(alloc, HANDED_OVER)?, 10, failing);
-        let ran = run_over(alloc, "replay", source, sink(alloc), sink(alloc))?;
+        let source = source(alloc, HANDED_OVER, 10, failing)?;
+        let out = sink(alloc, 100, Vec::new(alloc));
+        let err = sink(alloc, 100, Vec::new(alloc));
+        let ran = run_over(alloc, &["vst", "replay"], source, out, err)?;
         assert_eq!(rt; ran.status, 4);
         assert!(rt; ran.out.written() == *trace);
         assert!(rt; ran.err.written() == b"read\n".as_slice());
     }
+    let source = source(alloc, HANDED_OVER, 10, vec![in alloc; 8]?)?;
+    let out = sink(alloc, 100, Vec::new(alloc));
+    let err = sink(alloc, 100, Vec::new(alloc));
+    let ran = run_over(alloc, &["vst", "replay"], source, out, err)?;
+    assert_eq!(rt; ran.status, 0);
+    assert_eq!(rt; ran.source.calls(), 7);
     Ok(())
 }
 
 #[test]
-fn a_write_that_fails_leaves_a_front_of_the_output(rt: HostRuntime) -> Result<(), Fail> {
+fn a_refused_line_comes_before_a_read_that_would_fail(rt: HostRuntime) -> Result<(), Fail> {
     let alloc = rt.alloc();
-    let source = MemorySource::new(Vec::from_slice(alloc, HANDED_OVER)?, 10, Vec::new(alloc));
-    let out = MemorySink::new(alloc, 1, vec![in alloc; 2]?, Vec::new(alloc));
-    let ran = run_over(alloc, "replay", source, out, sink(alloc))?;
-    assert_eq!(rt; ran.status, 5);
-    assert!(rt; ran.out.written() == b"i".as_slice());
-    let source = MemorySource::new(Vec::new(alloc), 10, Vec::new(alloc));
-    let err = MemorySink::new(alloc, 100, vec![in alloc; 1]?, Vec::new(alloc));
-    let ran = run_over(alloc, "replay", source, sink(alloc), err)?;
-    assert_eq!(rt; ran.status, 5);
+    let text = b"schedule 1 bag lock 2\ndeliver 7\n# more\n".as_slice();
+    let source = source(alloc, text, 32, vec![in alloc; 2]?)?;
+    let out = sink(alloc, 100, Vec::new(alloc));
+    let err = sink(alloc, 100, Vec::new(alloc));
+    let ran = run_over(alloc, &["vst", "replay"], source, out, err)?;
+    assert_eq!(rt; ran.status, 3);
+    assert!(rt; ran.err.written() == b"line 2: no copy\n".as_slice());
+    assert_eq!(rt; ran.source.calls(), 1);
     Ok(())
 }
 
 #[test]
-fn an_error_stream_that_wants_memory_is_answered_so(rt: HostRuntime) -> Result<(), Fail> {
+fn each_write_that_fails_leaves_a_front_of_the_output(rt: HostRuntime) -> Result<(), Fail> {
     let alloc = rt.alloc();
-    let source = MemorySource::new(Vec::new(alloc), 10, Vec::new(alloc));
-    let err = MemorySink::new(alloc, 100, Vec::new(alloc), vec![in alloc; 1]?);
-    let ran = run_over(alloc, "replay", source, sink(alloc), err)?;
+    let whole = HANDED_OVER_ANSWER.len();
+    for call in 1..=whole {
+        let source = source(alloc, HANDED_OVER, 10, Vec::new(alloc))?;
+        let out = sink(alloc, 1, vec![in alloc; call as u64]?);
+        let err = sink(alloc, 100, Vec::new(alloc));
+        let ran = run_over(alloc, &["vst", "replay"], source, out, err)?;
+        assert_eq!(rt; ran.status, 5);
+        assert_eq!(rt; ran.out.written().len(), call - 1);
+        assert!(rt; HANDED_OVER_ANSWER.starts_with(ran.out.written()));
+    }
+    let source = source(alloc, HANDED_OVER, 10, Vec::new(alloc))?;
+    let out = sink(alloc, 1, vec![in alloc; whole as u64 + 1]?);
+    let err = sink(alloc, 100, Vec::new(alloc));
+    let ran = run_over(alloc, &["vst", "replay"], source, out, err)?;
+    assert_eq!(rt; ran.status, 0);
+    Ok(())
+}
+
+#[test]
+fn an_error_stream_that_fails_is_answered_so(rt: HostRuntime) -> Result<(), Fail> {
+    let alloc = rt.alloc();
+    let text = b"schedule 1 bag lock 2\ndeliver 7\n".as_slice();
+    let failing = source(alloc, text, 10, Vec::new(alloc))?;
+    let out = sink(alloc, 100, Vec::new(alloc));
+    let err = sink(alloc, 100, vec![in alloc; 1]?);
+    let ran = run_over(alloc, &["vst", "replay"], failing, out, err)?;
+    assert_eq!(rt; ran.status, 5);
+    let wanting = source(alloc, text, 10, Vec::new(alloc))?;
+    let out = sink(alloc, 100, Vec::new(alloc));
+    let err = MemorySink::new(alloc, 3, Vec::new(alloc), vec![in alloc; 2]?);
+    let ran = run_over(alloc, &["vst", "replay"], wanting, out, err)?;
     assert_eq!(rt; ran.status, 8);
-    assert!(rt; ran.err.written().is_empty());
+    assert!(rt; ran.err.written() == b"lin".as_slice());
     Ok(())
 }

@@ -2,7 +2,7 @@
 //! and ends with its status.
 #![tactic(auto)]
 
-use outside::{Sink, WriteOutcome};
+use outside::{WriteFault, write_all};
 use outside_real::{ReaderSource, RealDevice, WriterSink};
 use std::env;
 use std::io::{self, ErrorKind};
@@ -23,8 +23,11 @@ fn main(rt: HostRuntime) -> ExitCode {
         // Words that are no UTF-8 name no command.
         Err(fault) if fault.kind() == ErrorKind::InvalidData => Vec::new(rt.alloc()),
         Err(_) => {
-            let _: WriteOutcome = err.write(b"memory\n");
-            return ExitCode::from(8);
+            let status = match write_all(&mut err, b"memory\n") {
+                Err(WriteFault::Failed) => 5,
+                Ok(()) | Err(WriteFault::Memory) => 8,
+            };
+            return ExitCode::from(status);
         }
     };
     let mut input = ReaderSource::new(rt.stdin());

@@ -1,50 +1,120 @@
-use Rattle.std.proofs.Common.{◌≡◌, refl, ℕ, ◌+◌, ◌∷◌, List, [], Ok, arith, sym, ap, ◌∙◌, subst, if◌then◌else◌}
+use Rattle.std.proofs.Common.{List, map, Ok, Some, arith, ap, ◌∙◌, sym, subst, refl}
+use Rattle.std.proofs.lemmas.Result.{err_from_is_err_and}
 use Rattle.net_semantics.specs.Shown.{IsSound}
 use Rattle.vst_base.specs.declared.step.Step.{Step}
-use Rattle.schedule_text.specs.Lines.{lines_of}
-use Rattle.schedule_text.specs.Reading.{read_line}
-use Rattle.schedule_text.specs.Schedules.{script, script_line}
-use Rattle.xform_stack.specs.Running.{HasRun}
-use Rattle.schedule_replay.specs.Playing.{TookLine}
-use Rattle.schedule_replay.proofs.Progress.{Progress, progress-start, progress-next, progress-end, progress-halt, bool_byte-if}
+use Rattle.vst_base.specs.declared.step.Item.{Item}
+use Rattle.xform_stack.specs.Running.{RunView, HasRun}
+use Rattle.xform_stack.specs.RunningLaws.{sound-forget}
+use Rattle.schedule_replay.specs.Stacks.{texts_of}
+use Rattle.schedule_replay.specs.Playing.{TookStep}
+use Rattle.schedule_replay.proofs.Plays.{played-start, played-written, played-more, played-halts, played-front, playing-front}
 use Rattle.schedule_replay.proofs.play.play.Goals as goal
 
-pub loop-line-preserved : goal.loop-line-preserved
-loop-line-preserved g c =
+pub loop-halt-init : goal.loop-halt-init
+loop-halt-init g c =
     let h = g.H.Handlers in
-    let inv = c.loop-line.invariant in
-    let old = c.loop-line.running in
-    let new = c.take_line.new.running in
-    let start = c.args.running.now.world.handlers in
-    let input_of = g.A.AppText.input_of in
-    let line = read_line input_of c.loop-line.number c.loop-line.events c.in-Some.line.now in
-    let stepped = c.in_ok-stepped.stepped in
-    let took = subst (λ (v : g.row.H.Denot). (ss : List (Step g.row.H-Input.Denot)) → HasRun (h.meaning v) ss old
-    → TookLine (h.meaning v) new ss line c.loop-line.number (Ok stepped)) inv.handlers c.in_ok-stepped.ensures.took in
-    let sound = subst (λ (v : g.row.H.Denot). IsSound (h.meaning v) (h.sound v) (h.spent v) new.world) inv.handlers c.in_ok-stepped.ensures.sound in
-    let old_net = c.args.running.now.world.net in
-    let m = h.meaning start in
-    let behind = lines_of c.in-Some.behind.now in
-    let whole = script input_of c.args.first 0 (lines_of c.args.lines.now) in
-    let one : c.from-events.result ≡ (if stepped then 1 else 0) = c.from-events.ensures ∙ bool_byte-if stepped in
-    let before = subst (λ (ls : List (List ℕ)). Progress old_net m old whole (script input_of c.loop-line.number c.loop-line.events ls)) c.in-Some.ensures.first inv.progress in
-    let net = c.in_ok-stepped.ensures.net ∙ inv.net in
+    let a = g.A.AppText in
+    let v = c.args.running.now in
     record {
-      handlers = c.in_ok-stepped.ensures.handlers ∙ inv.handlers;
-      net = net;
-      sound = sound;
-      counted = c.in_ok-stepped.ensures.taken ∙ ap (λ k. c.loop-line.events + k) (sym one);
-      few_lines = omega (arith, c.in_ok-stepped.ensures.few_lines);
-      progress = subst (λ (k : ℕ). Progress old_net m new whole (script input_of (c.loop-line.number + 1) (c.loop-line.events + k) behind)) (sym one)
-          (progress-next old_net m old new whole line c.loop-line.number c.loop-line.events (λ e. script input_of (c.loop-line.number + 1) e behind) stepped before net (took before.done before.ran));
+      handlers = refl;
+      net = refl;
+      sound = c.requires.sound;
+      most = refl;
+      counted = omega (arith, c.requires.started.counted);
+      empty = c.requires.started.traced;
+      played = played-start (h.meaning v.world.handlers) (texts_of a.input_of a.input_text a.output_text) v c.args.tally.now c.args.reader.now (g.S.Source.left c.args.source.now) (g.K.Sink.written c.args.sink.now) c.requires.started c.requires.tally;
+      stays = λ is. is;
+      reads = omega arith;
+      writes = omega arith;
     }
 
-pub returns-clause-played : goal.returns-clause-played
-returns-clause-played g c =
+pub returns-in_err-halt-clause-front : goal.returns-in_err-halt-clause-front
+returns-in_err-halt-clause-front g c =
     let h = g.H.Handlers in
-    let inv = c.loop-line.invariant in
+    let a = g.A.AppText in
+    let t = texts_of a.input_of a.input_text a.output_text in
+    let p = err_from_is_err_and c.from_residual.result c.from_residual.ensures.1 in
     let m = h.meaning c.args.running.now.world.handlers in
-    let input_of = g.A.AppText.input_of in
-    let whole = script input_of c.args.first 0 (lines_of c.args.lines.now) in
-    let left = subst (λ (bs : List ℕ). Progress c.args.running.now.world.net m c.loop-line.running whole (script input_of c.loop-line.number c.loop-line.events (lines_of bs))) (c.in_default.ensures.none.0 refl) inv.progress in
-    progress-end c.args.running.now.world.net m c.loop-line.running whole left inv.net
+    let inv = c.loop-halt.invariant in
+    rw p.1 (λ rest has. played-front m t c.args.header.now c.loop-halt.running c.loop-halt.tally c.args.reader.now c.loop-halt.reader
+    (g.S.Source.left c.args.source.now) (g.S.Source.left c.loop-halt.source) (g.K.Sink.written c.args.sink.now) (g.K.Sink.written c.loop-halt.sink) inv.played (inv.net ∙ (c.requires.net.0 ∙ sym c.requires.net.1)) rest has)
+
+pub returns-in-Some-clause-halted : goal.returns-in-Some-clause-halted
+returns-in-Some-clause-halted g c =
+    let h = g.H.Handlers in
+    let a = g.A.AppText in
+    let t = texts_of a.input_of a.input_text a.output_text in
+    let m = h.meaning c.args.running.now.world.handlers in
+    let inv = c.loop-halt.invariant in
+    let v = c.loop-halt.running in
+    let w = c.take_step.new.running in
+    let net = c.take_step.ensures.net ∙ (inv.net ∙ (c.requires.net.0 ∙ sym c.requires.net.1)) in
+    let answer = c.in_ok-halt.field-0 in
+    let took = subst (λ (x : g.row.H.Denot). (ss : List (Step g.row.H-Input.Denot)) (gone : List (Item g.row.H-Input.Denot g.row.H-Output.Denot)) → HasRun (h.meaning x) ss gone v
+    → TookStep (h.meaning x) a.input_of w ss gone c.loop-halt.reader c.take_step.new.reader (g.S.Source.left c.loop-halt.source) (g.S.Source.left c.take_step.new.source) answer) inv.handlers c.in_ok-halt.ensures.took in
+    let same = c.take_step.ensures.unchanged c.in-Some.halt (c.in_ok-halt.was ∙ ap Ok c.in-Some.is) in
+    played-halts m t c.args.header.now v w c.loop-halt.tally c.args.reader.now c.loop-halt.reader c.take_step.new.reader
+    (g.S.Source.left c.args.source.now) (g.S.Source.left c.loop-halt.source) (g.S.Source.left c.take_step.new.source) (g.K.Sink.written c.args.sink.now) (g.K.Sink.written c.loop-halt.sink)
+    inv.played net c.in-Some.halt (ap (λ (r : RunView g.row.H.Denot g.row.H-State.Denot g.row.H-Input.Denot g.row.H-Output.Denot g.row.H-Msg.Denot). r.world.trace) same ∙ inv.empty)
+    (rw c.in-Some.is at took (map (λ q. q.1) inv.played.steps) inv.played.gone inv.played.ran)
+
+pub returns-in_err-write_trace-clause-front : goal.returns-in_err-write_trace-clause-front
+returns-in_err-write_trace-clause-front g c =
+    let h = g.H.Handlers in
+    let a = g.A.AppText in
+    let t = texts_of a.input_of a.input_text a.output_text in
+    let p = err_from_is_err_and c.from_residual-in_err-write_trace.result c.from_residual-in_err-write_trace.ensures.1 in
+    let m = h.meaning c.args.running.now.world.handlers in
+    let inv = c.loop-halt.invariant in
+    let v = c.loop-halt.running in
+    let w = c.take_step.new.running in
+    let out = g.K.Sink.written c.args.sink.now in
+    let mid = g.K.Sink.written c.loop-halt.sink in
+    let answer = c.in_ok-halt.field-0 in
+    let took = subst (λ (x : g.row.H.Denot). (ss : List (Step g.row.H-Input.Denot)) (gone : List (Item g.row.H-Input.Denot g.row.H-Output.Denot)) → HasRun (h.meaning x) ss gone v
+    → TookStep (h.meaning x) a.input_of w ss gone c.loop-halt.reader c.take_step.new.reader (g.S.Source.left c.loop-halt.source) (g.S.Source.left c.take_step.new.source) answer) inv.handlers c.in_ok-halt.ensures.took in
+    let none = c.in_ok-halt.was ∙ ap Ok c.in_default.is in
+    let played = played-more m t v w c.loop-halt.tally c.args.reader.now c.loop-halt.reader c.take_step.new.reader
+    (g.S.Source.left c.args.source.now) (g.S.Source.left c.loop-halt.source) (g.S.Source.left c.take_step.new.source) out mid
+    inv.played (rw c.in_default.is at took (map (λ q. q.1) inv.played.steps) inv.played.gone inv.played.ran) (c.take_step.ensures.events none) c.take_step.ensures.most in
+    rw p.1 (λ rest has. playing-front m t c.args.header.now w c.loop-halt.tally c.args.reader.now c.take_step.new.reader
+    (g.S.Source.left c.args.source.now) (g.S.Source.left c.take_step.new.source) out mid (g.K.Sink.written c.write_trace.new.sink)
+    played (c.take_step.ensures.net ∙ (inv.net ∙ (c.requires.net.0 ∙ sym c.requires.net.1))) rest has c.in_err-write_trace.ensures.err)
+
+pub loop-halt-preserved : goal.loop-halt-preserved
+loop-halt-preserved g c =
+    let h = g.H.Handlers in
+    let a = g.A.AppText in
+    let t = texts_of a.input_of a.input_text a.output_text in
+    let old = c.args.running.now.world.handlers in
+    let m = h.meaning old in
+    let inv = c.loop-halt.invariant in
+    let v = c.loop-halt.running in
+    let w = c.take_step.new.running in
+    let u = c.write_trace.new.running in
+    let out = g.K.Sink.written c.args.sink.now in
+    let mid = g.K.Sink.written c.loop-halt.sink in
+    let answer = c.in_ok-halt.field-0 in
+    let took = subst (λ (x : g.row.H.Denot). (ss : List (Step g.row.H-Input.Denot)) (gone : List (Item g.row.H-Input.Denot g.row.H-Output.Denot)) → HasRun (h.meaning x) ss gone v
+    → TookStep (h.meaning x) a.input_of w ss gone c.loop-halt.reader c.take_step.new.reader (g.S.Source.left c.loop-halt.source) (g.S.Source.left c.take_step.new.source) answer) inv.handlers c.in_ok-halt.ensures.took in
+    let none = c.in_ok-halt.was ∙ ap Ok c.in_default.is in
+    let events = c.take_step.ensures.events none in
+    let played = played-more m t v w c.loop-halt.tally c.args.reader.now c.loop-halt.reader c.take_step.new.reader
+    (g.S.Source.left c.args.source.now) (g.S.Source.left c.loop-halt.source) (g.S.Source.left c.take_step.new.source) out mid
+    inv.played (rw c.in_default.is at took (map (λ q. q.1) inv.played.steps) inv.played.gone inv.played.ran) events c.take_step.ensures.most in
+    let sound = subst (λ (x : g.row.H.Denot). IsSound (h.meaning x) (h.sound x) (h.spent x) w.world) inv.handlers c.in_ok-halt.ensures.sound in
+    let forgets = c.in_ok-write_trace.ensures.forgets in
+    record {
+      handlers = ap (λ (r : RunView g.row.H.Denot g.row.H-State.Denot g.row.H-Input.Denot g.row.H-Output.Denot g.row.H-Msg.Denot). r.world.handlers) forgets ∙ (c.take_step.ensures.handlers ∙ inv.handlers);
+      net = ap (λ (r : RunView g.row.H.Denot g.row.H-State.Denot g.row.H-Input.Denot g.row.H-Output.Denot g.row.H-Msg.Denot). r.world.net) forgets ∙ (c.take_step.ensures.net ∙ inv.net);
+      sound = sound-forget m (h.sound old) (h.spent old) w u forgets sound;
+      most = c.take_step.ensures.most ∙ inv.most;
+      counted = omega (arith, events, c.take_step.ensures.taken none, inv.counted, ap (λ (r : RunView g.row.H.Denot g.row.H-State.Denot g.row.H-Input.Denot g.row.H-Output.Denot g.row.H-Msg.Denot). r.world.taken) forgets);
+      empty = ap (λ (r : RunView g.row.H.Denot g.row.H-State.Denot g.row.H-Input.Denot g.row.H-Output.Denot g.row.H-Msg.Denot). r.world.trace) forgets;
+      played = played-written m t w u c.loop-halt.tally c.write_trace.new.tally c.args.reader.now c.take_step.new.reader
+          (g.S.Source.left c.args.source.now) (g.S.Source.left c.take_step.new.source) out mid (g.K.Sink.written c.write_trace.new.sink)
+          played c.in_ok-write_trace.ensures.ok forgets c.in_ok-write_trace.ensures.tally;
+      stays = λ is. c.take_step.ensures.stays (inv.stays is);
+      reads = omega (arith, inv.reads, c.take_step.ensures.counts);
+      writes = omega (arith, inv.writes, c.write_trace.ensures.counts);
+    }

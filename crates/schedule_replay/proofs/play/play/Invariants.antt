@@ -1,24 +1,27 @@
-use Rattle.std.proofs.Common.{◌≡◌, ◌≤◌, length}
+use Rattle.std.proofs.Common.{◌≡◌, ◌-◌, ◌≤◌, [], true}
 use Rattle.net_semantics.specs.Shown.{IsSound}
-use Rattle.schedule_text.specs.Lines.{lines_of}
-use Rattle.schedule_text.specs.Schedules.{script}
-use Rattle.schedule_replay.proofs.Progress.{Progress}
+use Rattle.schedule_replay.specs.Stacks.{texts_of}
+use Rattle.schedule_replay.proofs.Plays.{Played}
 use Rattle.schedule_replay.proofs.play.play.Given as goal
 
--- some steps were taken, and what is left goes on from them
-abbrev pub invariant-loop-line : goal.invariant-loop-line
-invariant-loop-line g l =
+-- some steps were taken, and what is left of the text goes on from them
+abbrev pub invariant-loop-halt : goal.invariant-loop-halt
+invariant-loop-halt g l =
     let h = g.H.Handlers in
+    let a = g.A.AppText in
     let started = l.fn.running.world in
-    let input_of = g.A.AppText.input_of in
     record {
       handlers : l.running.world.handlers ≡ started.handlers;
       net : l.running.world.net ≡ started.net;
       sound : IsSound (h.meaning started.handlers) (h.sound started.handlers) (h.spent started.handlers) l.running.world;
-      counted : l.running.world.taken ≡ l.events;
-      few_lines : l.number ≤ 2000001;
-      progress : Progress started.net (h.meaning started.handlers) l.running (script input_of l.first 0 (lines_of l.lines)) (script input_of l.number l.events (lines_of l.rest));
+      most : l.reader.most ≡ l.fn.reader.most;
+      counted : l.running.world.taken ≤ l.reader.events;
+      empty : l.running.world.trace ≡ [];
+      played : Played (h.meaning started.handlers) (texts_of a.input_of a.input_text a.output_text) l.running l.tally l.fn.reader l.reader (g.S.Source.left l.fn.source) (g.S.Source.left l.source) (g.K.Sink.written l.fn.sink) (g.K.Sink.written l.sink);
+      stays : l.fn.reader.ended ≡ true → l.reader.ended ≡ true;
+      reads : g.S.Source.faults l.fn.source ≤ g.S.Source.faults l.source;
+      writes : g.K.Sink.faults l.fn.sink ≤ g.K.Sink.faults l.sink;
     }
 
-abbrev pub decreases-loop-line : goal.decreases-loop-line
-decreases-loop-line g l = length l.rest
+abbrev pub decreases-loop-halt : goal.decreases-loop-halt
+decreases-loop-halt g l = l.reader.most - l.reader.number

@@ -1,16 +1,17 @@
 -- These print numbers, whose digits have to be computed.
 use Rattle.std.proofs.Common.{refl}
 use Rattle.std.specs.Fmt.{digits}
+use Rattle.command_line.proofs.OnLiterals.{words_on_literals}
 use Rattle.top_call.proofs.examples.worked.Goals as goal
 
 pub returns-clause-handed_over : goal.returns-clause-handed_over
-unfolding digits
+unfolding digits words_on_literals
 returns-clause-handed_over c = refl
 
 pub returns-clause-delivered_twice : goal.returns-clause-delivered_twice
-unfolding digits
+unfolding digits words_on_literals
 returns-clause-delivered_twice c = refl
 
 pub returns-clause-no_header : goal.returns-clause-no_header
-unfolding digits
+unfolding digits words_on_literals
 returns-clause-no_header c = refl

@@ -1,0 +1,167 @@
+-- What a replay comes to, by where its steps ended.
+use Rattle.std.specs.Prelude.{◌≡◌, ℕ, Bool, true, false, ◌+◌, ◌-◌, ◌≤◌, List, [], ◌∷◌, ◌++◌, map, length, fold, cond, count_by, Option, Some, None, Ok, Err, codes, refl}
+use Rattle.std.specs.List.{flat_map}
+use Rattle.std.proofs.Common.{ap, ◌∙◌, sym, subst, append_assoc, arith, length-append, zero-add}
+use Rattle.std.proofs.lemmas.List.{append-nil, length-map}
+use Rattle.handler_trait.specs.Handling.{Meaning}
+use Rattle.vst_base.specs.declared.step.Step.{Step}
+use Rattle.vst_base.specs.declared.step.Item.{Item}
+use Rattle.vst_base.specs.declared.step.Item.TheVariants as item
+use Rattle.net_semantics.specs.Runs.{trace, no_recovery}
+use Rattle.outside.specs.Wholes.{Gained, GainedFront}
+use Rattle.outside.proofs.Wholes.{gained-both, gained-some}
+use Rattle.line_reader.specs.declared.why.Why.{Why}
+use Rattle.line_reader.specs.Lines.{lines_of, whole_lines, decided}
+use Rattle.line_reader.specs.Readers.{ReaderView, HasRest}
+use Rattle.line_reader.specs.Outcomes.{StandsAt}
+use Rattle.line_reader.specs.declared.fault.LineFault.{LineFault}
+use Rattle.line_reader.specs.declared.fault.LineFault.TheVariants as line
+use Rattle.schedule_text.specs.Sending.{HasWriteCause}
+use Rattle.schedule_replay.specs.Faults.{replay_fault}
+use Rattle.schedule_text.specs.declared.header.Header.{Header}
+use Rattle.schedule_text.specs.Headers.{header_text}
+use Rattle.schedule_text.specs.Printing.{as_line, step_text, steps_text}
+use Rattle.schedule_text.specs.Schedules.{Script, script}
+use Rattle.xform_stack.specs.Running.{RunView}
+use Rattle.schedule_replay.specs.declared.done.Done.{Done}
+use Rattle.schedule_replay.specs.declared.fault.ReplayFault.TheVariants as fault
+use Rattle.schedule_replay.specs.declared.halt.Halt.{Halt}
+use Rattle.schedule_replay.specs.declared.halt.Halt.TheVariants as halt
+use Rattle.schedule_replay.specs.declared.tally.Tally.{Tally}
+use Rattle.schedule_replay.specs.Stacks.{Stack, Texts, plain_stack}
+use Rattle.schedule_replay.specs.Tallying.{tallied}
+use Rattle.schedule_replay.specs.Finishing.{image_text, counted_done}
+use Rattle.schedule_replay.specs.Replaying.{Replayed, is_output, is_reply_by, ended, replayed_script, stop, taken, trace_lines, image_lines, counts_of}
+use Rattle.schedule_replay.specs.Replays.{rest_whole, rest_so_far}
+use Rattle.schedule_replay.specs.Outcomes.{HasGiven, ComesTo, HasCause}
+use Rattle.schedule_replay.specs.Playing.{TraceWritten, Halted}
+use Rattle.schedule_replay.proofs.Plays.{written-front}
+
+-- a script by what is taken of it and where it stops
+ended-at : {S K I O M : Type 0} (st : Stack S K I O M) (whole : Bool) (sc : Script I) (ss : List (Step I)) (o : Option (ℕ × Why)) → taken st sc ≡ ss → stop st sc ≡ o → replayed_script st whole sc ≡ ended st whole ss o
+ended-at st whole sc ss o e f = rw (e, f) refl
+
+-- what was given of a rest, where a reader stands at the byte that decided a line
+pub given-of : (old new : ReaderView) (left' : Option (List ℕ)) (rest : List ℕ) (n : ℕ) → StandsAt old new left' rest n
+    → (given : List ℕ) × HasGiven rest left' given × (length given ≤ decided (n - old.number) rest + 4096)
+given-of old new left' rest n s = (
+  s.used ++ new.ahead,
+  record {
+    others = s.left.behind;
+    whole = s.whole ∙ (ap (λ xs. s.used ++ xs) s.left.rest_is ∙ sym (append_assoc s.used new.ahead s.left.behind));
+    left_is = s.left.left_is;
+  },
+  omega (arith, length-append s.used new.ahead, s.decides, s.few),
+)
+
+-- the lines of steps are the steps' lines
+lines-map : {I : Type 0} (t : I → List ℕ) (ss : List (Step I)) → flat_map as_line (map (step_text t) ss) ≡ steps_text t ss
+lines-map t [] = refl
+lines-map t (s ∷ ss) = ap (λ bs. as_line (step_text t s) ++ bs) (lines-map t ss)
+
+-- each output is a reply
+replies-from : {I O : Type 0} (a : ℕ) (xs : List (Item I O)) → fold (λ n x. n + cond (is_reply_by (λ _. true) x) 1 0) a xs ≡ fold (λ n x. n + cond (is_output x) 1 0) a xs
+replies-from a [] = refl
+replies-from a (item.Input n i ∷ xs) = replies-from (a + 0) xs
+replies-from a (item.Output n o ∷ xs) = replies-from (a + 1) xs
+
+replies : {I O : Type 0} (xs : List (Item I O)) → count_by (is_reply_by (λ _. true)) xs ≡ count_by is_output xs
+replies xs = replies-from 0 xs
+
+module _ {S I O M : Type 0} (h : Header) (m : Meaning S I O M) (t : Texts I O) where
+  image-same : (ss : List (Step I)) → image_text t.input_text h ss ≡ image_lines (plain_stack h m t) ss
+  image-same ss =
+      ap (λ bs. (as_line (codes "below") ++ bs) ++ steps_text t.input_text ss) (sym (append-nil (as_line (header_text h))))
+      ∙ ap (λ bs. (as_line (codes "below") ++ (as_line (header_text h) ++ [])) ++ bs) (sym (lines-map t.input_text ss))
+
+  counts-same : (ss : List (Step I)) → counted_done (tallied (record { inputs = 0; outputs = 0 }) (trace m (no_recovery {S = S}) ss)) ss ≡ counts_of (plain_stack h m t) ss
+  counts-same ss = rw (zero-add, zero-add, replies (trace m (no_recovery {S = S}) ss), length-map ss (step_text t.input_text)) refl
+
+module _ {H S I O M : Type 0} (h : Header) (m : Meaning S I O M) (t : Texts I O) where
+  module _ (v : RunView H S I O M) (tally : Tally) (old new : ReaderView) (left left' out mid : Option (List ℕ)) (rest : List ℕ) (has : HasRest old left rest) where
+    all-gone : (x : Halt) (a : Halted (plain_stack h m t) t v tally old new left left' out mid x) → a.gone ≡ trace m (no_recovery {S = S}) a.steps
+    all-gone x a = sym (ap (λ items. a.gone ++ items) a.empty ∙ append-nil a.gone) ∙ a.ran.traced
+
+    -- the whole trace was written
+    all-written : (x : Halt) (a : Halted (plain_stack h m t) t v tally old new left left' out mid x) → TraceWritten t (trace m (no_recovery {S = S}) a.steps) out mid tally
+    all-written x a = subst (λ (items : List (Item I O)). TraceWritten t items out mid tally) (all-gone x a) a.written
+
+    pub bag-read : Halted (plain_stack h m t) t v tally old new left left' out mid halt.Read
+        → ComesTo (rest_whole (plain_stack h m t) old) (rest_so_far (plain_stack h m t) old) old.number rest left' out mid (Err fault.Read)
+    bag-read a =
+        let by = a.halts rest has in
+        let part = by.0 in
+        let before = all-written halt.Read a in
+        let same = ended-at (plain_stack h m t) false (script old.most t.input_of (old.number + 1) old.events (whole_lines part)) a.steps None by.2.1 by.2.0 in
+        record {
+          given = part;
+          gave = record { others = by.1.rest'; whole = by.1.whole; left_is = by.1.left_is };
+          short = by.1.short;
+          taken = ap (λ (r : Replayed). r.refused) same;
+          written = subst (λ (r : Replayed). Gained out mid r.out) (sym same) before.written;
+          front = written-front m t h v a.steps a.gone a.ran true (script old.most t.input_of (old.number + 1) old.events (lines_of rest)) (a.front rest has) out mid tally a.written;
+        }
+
+    pub bag-refused : (line : ℕ) (why : Why) → Halted (plain_stack h m t) t v tally old new left left' out mid (halt.Refused line why)
+        → ComesTo (rest_whole (plain_stack h m t) old) (rest_so_far (plain_stack h m t) old) old.number rest left' out mid (Err (fault.Refused line why))
+    bag-refused line why a =
+        let by = a.halts rest has in
+        let before = all-written (halt.Refused line why) a in
+        let same = ended-at (plain_stack h m t) true (script old.most t.input_of (old.number + 1) old.events (lines_of rest)) a.steps (Some (line, why)) by.2 by.1 in
+        let gave = given-of old new left' rest line by.0 in
+        record {
+          refused = ap (λ (r : Replayed). r.refused) same;
+          written = subst (λ (r : Replayed). Gained out mid r.out) (sym same) before.written;
+          given = gave.0;
+          gave = gave.1;
+          later = by.0.later;
+          ahead = gave.2;
+        }
+
+    image-of : (x : Halt) (a : Halted (plain_stack h m t) t v tally old new left left' out mid x) → v.image ≡ a.steps
+    image-of x a = a.ran.imaged
+
+    pub bag-finishing : (out' : Option (List ℕ)) → Halted (plain_stack h m t) t v tally old new left left' out mid halt.End → GainedFront mid out' (image_text t.input_text h v.image)
+        → GainedFront out out' (rest_whole (plain_stack h m t) old rest).out
+    bag-finishing out' a more =
+        let by = a.halts rest has in
+        let before = all-written halt.End a in
+        let same = ended-at (plain_stack h m t) true (script old.most t.input_of (old.number + 1) old.events (lines_of rest)) a.steps None by.2 by.1 in
+        let image = ap (image_text t.input_text h) (image-of halt.End a) ∙ image-same h m t a.steps in
+        let lines = trace_lines (plain_stack h m t) a.steps in
+        let below = image_lines (plain_stack h m t) a.steps in
+        subst (λ (r : Replayed). GainedFront out out' r.out) (sym same)
+        (gained-some out mid out' lines below (lines ++ below) [] (ap (λ bs. lines ++ bs) (sym (append-nil below))) before.written (subst (λ (bs : List ℕ). GainedFront mid out' bs) image more))
+
+    pub bag-done : (out' : Option (List ℕ)) (done : Done) → Halted (plain_stack h m t) t v tally old new left left' out mid halt.End → Gained mid out' (image_text t.input_text h v.image)
+        → done ≡ counted_done tally v.image
+        → ComesTo (rest_whole (plain_stack h m t) old) (rest_so_far (plain_stack h m t) old) old.number rest left' out out' (Ok done)
+    bag-done out' done a more counts =
+        let by = a.halts rest has in
+        let before = all-written halt.End a in
+        let same = ended-at (plain_stack h m t) true (script old.most t.input_of (old.number + 1) old.events (lines_of rest)) a.steps None by.2 by.1 in
+        let image = ap (image_text t.input_text h) (image-of halt.End a) ∙ image-same h m t a.steps in
+        let lines = trace_lines (plain_stack h m t) a.steps in
+        let below = image_lines (plain_stack h m t) a.steps in
+        record {
+          ended = by.0;
+          taken = ap (λ (r : Replayed). r.refused) same;
+          counts = counts ∙ (ap (λ (ss : List (Step I)). counted_done tally ss) (image-of halt.End a) ∙ (ap (λ (x : Tally). counted_done x a.steps) before.counted ∙ (counts-same h m t a.steps ∙ ap (λ (r : Replayed). r.counts) (sym same))));
+          written = subst (λ (r : Replayed). Gained out out' r.out) (sym same) (gained-both out mid out' lines below before.written (subst (λ (bs : List ℕ). Gained mid out' bs) image more));
+        }
+
+-- a write that failed, or want of memory
+pub bag-fails : (whole so_far : List ℕ → Replayed) (before : ℕ) (rest : List ℕ) (left' out out' : Option (List ℕ)) (f f' : ℕ) (found : LineFault) → HasWriteCause f f' found → GainedFront out out' (whole rest).out
+    → ComesTo whole so_far before rest left' out out' (Err (replay_fault found))
+bag-fails whole so_far before rest left' out out' f f' line.Write cause front = front
+bag-fails whole so_far before rest left' out out' f f' line.Memory cause front = front
+bag-fails whole so_far before rest left' out out' f f' line.End cause front = absurd cause
+bag-fails whole so_far before rest left' out out' f f' line.Read cause front = absurd cause
+bag-fails whole so_far before rest left' out out' f f' (line.Refused n w) cause front = absurd cause
+
+pub fails-cause : (ended : Bool) (read read' f0 f f' : ℕ) (found : LineFault) → f0 ≤ f → HasWriteCause f f' found → HasCause ended read read' f0 f' (replay_fault found)
+fails-cause ended read read' f0 f f' line.Write grew cause = (omega (arith, cause, grew), λ e. cc)
+fails-cause ended read read' f0 f f' line.Memory grew cause = (tt, λ e. cc)
+fails-cause ended read read' f0 f f' line.End grew cause = absurd cause
+fails-cause ended read read' f0 f f' line.Read grew cause = absurd cause
+fails-cause ended read read' f0 f f' (line.Refused n w) grew cause = absurd cause

@@ -1,0 +1,156 @@
+-- What a replay comes to, by how its text opens.
+use Rattle.std.specs.Prelude.{◌≡◌, ℕ, Bool, true, false, ◌+◌, ◌-◌, ◌≤◌, List, [], ◌++◌, length, Option, Some, None, IfSome, IfErr, Result, Ok, Err, refl}
+use Rattle.std.proofs.Common.{ap, ◌∙◌, sym, subst, append_assoc, arith, length-append}
+use Rattle.outside.specs.Wholes.{Gained, GainedFront}
+use Rattle.outside.proofs.Wholes.{gained-nothing}
+use Rattle.vst_base.specs.declared.stack.StackId.{StackId}
+use Rattle.vst_base.specs.declared.stack.StackId.TheVariants as stack
+use Rattle.line_reader.specs.declared.why.Why.{Why}
+use Rattle.line_reader.specs.declared.fault.LineFault.{LineFault}
+use Rattle.line_reader.specs.declared.fault.LineFault.TheVariants as line
+use Rattle.line_reader.specs.Lines.{lines_of, whole_lines, decided}
+use Rattle.line_reader.specs.Readers.{ReaderView, HasRest, fresh}
+use Rattle.line_reader.specs.Outcomes.{Uses, HasReadCause}
+use Rattle.line_reader.proofs.Lining.{whole-append, last-append}
+use Rattle.line_reader.proofs.Using.{decided-behind}
+use Rattle.app_text.specs.LockTexts.{input_of}
+use Rattle.schedule_text.specs.declared.header.Header.{Header}
+use Rattle.schedule_text.specs.Schedules.{Opening, Opened, RefusedAt, EndedAt, opening, opening_refusal, script}
+use Rattle.schedule_text.specs.Streams.{ReadsHeader}
+use Rattle.schedule_text.proofs.ScheduleLaws.{opening_with, opening-append}
+use Rattle.schedule_replay.specs.declared.done.Done.{Done}
+use Rattle.schedule_replay.specs.declared.fault.ReplayFault.{ReplayFault}
+use Rattle.schedule_replay.specs.declared.fault.ReplayFault.TheVariants as fault
+use Rattle.schedule_replay.specs.Faults.{replay_fault}
+use Rattle.schedule_replay.specs.Replaying.{Replayed, replayed_script}
+use Rattle.schedule_replay.specs.Replays.{lock_stack, most_lines, replayed_stack, replayed_opening, replayed, replayed_so_far, rest_whole, rest_so_far}
+use Rattle.schedule_replay.specs.Outcomes.{HasGiven, ComesTo, HasFault, HasCause}
+use Rattle.schedule_replay.proofs.Endings.{given-of}
+use Rattle.schedule_replay.proofs.Finishing.{front-none}
+
+-- a text that is refused for its opening has no trace
+refused-opening : (o : Opening) (r : ℕ × Why) → opening_refusal o ≡ Some r → ((replayed_opening true o).refused ≡ Some r) × ((replayed_opening true o).out ≡ [])
+refused-opening (Opened h n ls) r e = cc
+refused-opening (RefusedAt n w) r e = (e, refl)
+refused-opening (EndedAt n) r e = (e, refl)
+
+gained-none : (out : Option (List ℕ)) (text : List ℕ) → text ≡ [] → Gained out out text
+gained-none out text none = rw none (gained-nothing out)
+
+-- no header was read
+pub header-comes : (new : ReaderView) (left' out : Option (List ℕ)) (bytes : List ℕ) (found : LineFault) → ReadsHeader (fresh most_lines) new left' bytes (Err found)
+    → ComesTo replayed replayed_so_far 0 bytes left' out out (Err (replay_fault found))
+header-comes new left' out bytes line.Read (part, breaks, n, none) = record {
+  given = part;
+  gave = record { others = breaks.rest'; whole = breaks.whole; left_is = breaks.left_is };
+  short = breaks.short;
+  taken = ap (λ (o : Opening). (replayed_opening false o).refused) none;
+  written = gained-none out (replayed_so_far part).out (ap (λ (o : Opening). (replayed_opening false o).out) none);
+  front = front-none out (replayed bytes).out;
+}
+header-comes new left' out bytes (line.Refused n w) (stands, refused) =
+    let both = refused-opening (opening most_lines 1 (lines_of bytes)) (n, w) refused in
+    let gave = given-of (fresh most_lines) new left' bytes n stands in
+    record {
+      refused = both.0;
+      written = gained-none out (replayed bytes).out both.1;
+      given = gave.0;
+      gave = gave.1;
+      later = stands.later;
+      ahead = gave.2;
+    }
+header-comes new left' out bytes line.Memory reads = front-none out (replayed bytes).out
+header-comes new left' out bytes line.Write reads = absurd reads
+header-comes new left' out bytes line.End reads = absurd reads
+
+pub header-fault : (old : ReaderView) (f f' w w' : ℕ) (found : LineFault) → HasReadCause old f f' found → HasFault f f' w w' (replay_fault found)
+header-fault old f f' w w' line.Read cause = cause.0
+header-fault old f f' w w' line.Write cause = absurd cause
+header-fault old f f' w w' line.End cause = tt
+header-fault old f f' w w' line.Memory cause = tt
+header-fault old f f' w w' (line.Refused n x) cause = tt
+
+-- what a text is by its header
+stack-same : (whole : Bool) (h : Header) (s : StackId) (n : ℕ) (ls : List (List ℕ)) → s ≡ stack.Lock → replayed_stack whole h s n ls ≡ replayed_script (lock_stack h) whole (script most_lines input_of n 0 ls)
+stack-same whole h s n ls e = rw e refl
+
+module _ (h : Header) (r : ReaderView) (is : h.stack ≡ stack.Lock) (most : r.most ≡ most_lines) (events : r.events ≡ 0) (used : List ℕ) (opens : opening most_lines 1 (lines_of used) ≡ Opened h (r.number + 1) []) where
+  lines-same : (ls : List (List ℕ)) → script most_lines input_of (r.number + 1) 0 ls ≡ script r.most input_of (r.number + 1) r.events ls
+  lines-same ls = rw (most, events) refl
+
+  opened-same : (whole : Bool) (ls : List (List ℕ)) → replayed_opening whole (opening most_lines 1 (lines_of used ++ ls)) ≡ replayed_script (lock_stack h) whole (script r.most input_of (r.number + 1) r.events ls)
+  opened-same whole ls =
+      ap (replayed_opening whole) (opening-append most_lines 1 (lines_of used) ls ∙ ap (λ (o : Opening). opening_with o ls most_lines) opens)
+      ∙ (stack-same whole h h.stack (r.number + 1) ls is ∙ ap (replayed_script (lock_stack h) whole) (lines-same ls))
+
+  module _ (left left' out out' : Option (List ℕ)) (bytes : List ℕ) (u : Uses (fresh most_lines) r left bytes used) where
+    whole-same : replayed bytes ≡ rest_whole (lock_stack h) r u.rest'
+    whole-same = ap (λ ls. replayed_opening true (opening most_lines 1 ls)) u.lines ∙ opened-same true (lines_of u.rest')
+
+    so_far-same : (given : List ℕ) → r.ended ≡ false → replayed_so_far (used ++ given) ≡ rest_so_far (lock_stack h) r given
+    so_far-same given going = ap (λ ls. replayed_opening false (opening most_lines 1 ls)) (whole-append used given (u.closed going)) ∙ opened-same false (whole_lines given)
+
+    gave-all : (given : List ℕ) → HasGiven u.rest' left' given → HasGiven bytes left' (used ++ given)
+    gave-all given gave = record {
+      others = gave.others;
+      whole = u.whole ∙ (ap (λ xs. used ++ xs) gave.whole ∙ sym (append_assoc used given gave.others));
+      left_is = gave.left_is;
+    }
+
+    front-same : GainedFront out out' (rest_whole (lock_stack h) r u.rest').out → GainedFront out out' (replayed bytes).out
+    front-same front = subst (λ (x : Replayed). GainedFront out out' x.out) (sym whole-same) front
+
+    pub header-then : (result : Result Done ReplayFault) → (result ≡ Err fault.Read → r.ended ≡ false)
+        → ComesTo (rest_whole (lock_stack h) r) (rest_so_far (lock_stack h) r) r.number u.rest' left' out out' result → ComesTo replayed replayed_so_far 0 bytes left' out out' result
+    header-then (Ok done) going a = record {
+      ended = a.ended;
+      taken = ap (λ (x : Replayed). x.refused) whole-same ∙ a.taken;
+      counts = a.counts ∙ ap (λ (x : Replayed). x.counts) (sym whole-same);
+      written = subst (λ (x : Replayed). Gained out out' x.out) (sym whole-same) a.written;
+    }
+    header-then (Err fault.Read) going a =
+        let same = so_far-same a.given (going refl) in
+        record {
+          given = used ++ a.given;
+          gave = gave-all a.given a.gave;
+          short = subst (λ (xs : List ℕ). length xs ≤ 4096) (sym (last-append used a.given (u.closed (going refl)))) a.short;
+          taken = ap (λ (x : Replayed). x.refused) same ∙ a.taken;
+          written = subst (λ (x : Replayed). Gained out out' x.out) (sym same) a.written;
+          front = front-same a.front;
+        }
+    header-then (Err (fault.Refused n w)) going a =
+        let k = length (lines_of used) in
+        let j = n - r.number in
+        let there : n - 0 ≡ k + j = omega (arith, a.later, u.number) in
+        let size = ap length u.whole ∙ length-append used u.rest' in
+        let decides = ap (λ i. decided i bytes) there ∙ decided-behind k j bytes u.rest' u.behind (omega (arith, a.later)) in
+        record {
+          refused = ap (λ (x : Replayed). x.refused) whole-same ∙ a.refused;
+          written = subst (λ (x : Replayed). Gained out out' x.out) (sym whole-same) a.written;
+          given = used ++ a.given;
+          gave = gave-all a.given a.gave;
+          later = omega (arith, a.later);
+          ahead = omega (arith, length-append used a.given, a.ahead, decides, size);
+        }
+    header-then (Err fault.Write) going a = front-same a
+    header-then (Err fault.Memory) going a = front-same a
+
+-- a reader that has read nothing has the whole text before it
+pub fresh-rest : (r : ReaderView) (left : Option (List ℕ)) (bytes : List ℕ) → r ≡ fresh most_lines → left ≡ Some bytes → HasRest r left bytes
+fresh-rest r left bytes is told = record {
+  behind = bytes;
+  left_is = told;
+  rest_is = ap (λ (v : ReaderView). v.ahead ++ bytes) (sym is);
+  at_end = λ over. let both : ◌≡◌ {A = Bool} false true = sym (ap (λ (v : ReaderView). v.ended) is) ∙ over in cc;
+}
+
+-- what holds of a source that tells
+pub if-told : (left : Option (List ℕ)) (P : List ℕ → Type 0) → ((bytes : List ℕ) → left ≡ Some bytes → P bytes) → IfSome left P
+if-told None P h = tt
+if-told (Some bytes) P h = h bytes refl
+
+-- a read that failed was made before the end was met
+pub going-of : (ended : Bool) (f f' w w' : ℕ) (result : Result Done ReplayFault) → IfErr result (HasCause ended f f' w w') → result ≡ Err fault.Read → ended ≡ false
+going-of ended f f' w w' result cause is =
+    let both : HasCause ended f f' w w' fault.Read = subst (λ (r : Result Done ReplayFault). IfErr r (HasCause ended f f' w w')) is cause in
+    both.1 refl

@@ -1,0 +1,291 @@
+-- Playing the steps of a schedule one by one.
+use Rattle.std.specs.Prelude.{◌≡◌, ℕ, Bool, true, false, ◌+◌, List, [], ◌∷◌, ◌++◌, map, length, count_by, cond, Option, Some, None, Ok, refl}
+use Rattle.std.specs.List.{flat_map}
+use Rattle.std.proofs.Common.{inl, inr, ap, ◌∙◌, sym, subst, append_assoc, arith, length-append}
+use Rattle.std.proofs.lemmas.List.{append-nil, map-append}
+use Rattle.std.proofs.lemmas.List.Sums.{sum_by-append}
+use Rattle.std.proofs.lemmas.Grind.{flat_map-append}
+use Rattle.handler_trait.specs.Handling.{Meaning}
+use Rattle.vst_base.specs.declared.net.Net.{Net}
+use Rattle.vst_base.specs.declared.step.Step.{Step}
+use Rattle.vst_base.specs.declared.step.Item.{Item}
+use Rattle.net_semantics.specs.Worlds.{first_world}
+use Rattle.net_semantics.specs.Steps.{refusal_of}
+use Rattle.net_semantics.specs.Runs.{run, trace, trace_from, first_refused, no_recovery}
+use Rattle.net_semantics.specs.RunLaws.{trace_from-append}
+use Rattle.outside.specs.Wholes.{Gained, GainedFront}
+use Rattle.outside.proofs.Wholes.{gained-both, gained-front, gained-some, gained-nothing}
+use Rattle.line_reader.specs.declared.why.Why.{Why}
+use Rattle.line_reader.specs.declared.fault.LineFault.TheVariants as fault
+use Rattle.line_reader.specs.Lines.{lines_of, whole_lines}
+use Rattle.line_reader.specs.Readers.{ReaderView, HasRest}
+use Rattle.line_reader.specs.Outcomes.{Uses, StandsAt}
+use Rattle.line_reader.proofs.Lining.{whole-append}
+use Rattle.line_reader.proofs.Using.{uses-none, uses-more, lines-more, stands-behind, breaks-behind}
+use Rattle.schedule_text.specs.Printing.{as_line, item_text, trace_text}
+use Rattle.schedule_text.specs.Schedules.{Script, script, no_steps, with_step}
+use Rattle.schedule_text.specs.Streams.{ReadsStep}
+use Rattle.schedule_text.proofs.ScheduleLaws.{prefixed, script-behind}
+use Rattle.xform_stack.specs.Running.{RunView, HasRun}
+use Rattle.xform_stack.specs.RunningLaws.{has_run-forget}
+use Rattle.schedule_replay.specs.declared.halt.Halt.{Halt}
+use Rattle.schedule_replay.specs.declared.halt.Halt.TheVariants as halt
+use Rattle.schedule_replay.specs.declared.tally.Tally.{Tally}
+use Rattle.schedule_text.specs.declared.header.Header.{Header}
+use Rattle.schedule_replay.specs.Stacks.{Stack, Texts, plain_stack}
+use Rattle.schedule_replay.specs.Tallying.{tallied}
+use Rattle.schedule_replay.specs.Replaying.{is_input, is_output, why_of, stop, taken, trace_of, trace_lines, image_lines, ended, replayed_script}
+use Rattle.schedule_replay.specs.Playing.{TraceWritten, TookStep, HaltsBy, Halted}
+use Rattle.schedule_replay.proofs.Scripts.{all-taken, refused-behind, taken-front}
+
+-- the lines that were used of a rest say these steps
+pub record Reads {I : Type 0} (f : List ℕ → Option I) (old now : ReaderView) (left' : Option (List ℕ)) (rest : List ℕ) (steps : List (ℕ × Step I)) : Type 0 where
+  pub used : List ℕ
+  pub uses : Uses old now left' rest used
+  pub says : script old.most f (old.number + 1) old.events (lines_of used) ≡ record { steps = steps; fault = None }
+
+-- steps were taken, what was let go of their trace was written, and the lines so far say them
+pub record Played {H S I O M : Type 0} (m : Meaning S I O M) (t : Texts I O) (v : RunView H S I O M) (tally : Tally) (old now : ReaderView) (left left' out out' : Option (List ℕ)) : Type 0 where
+  pub steps : List (ℕ × Step I)
+  pub gone : List (Item I O)
+  pub ran : HasRun m (map (λ p. p.1) steps) gone v
+  pub written : TraceWritten t gone out out' tally
+  pub events : now.events ≡ old.events + length steps
+  pub most : now.most ≡ old.most
+  pub reads : (rest : List ℕ) → HasRest old left rest → Reads t.input_of old now left' rest steps
+
+-- how a replay's text begins
+module _ {S K I O M : Type 0} (st : Stack S K I O M) where
+  ended-front : (whole : Bool) (ss : List (Step I)) (o : Option (ℕ × Why)) → (more : List ℕ) × ((ended st whole ss o).out ≡ trace_lines st ss ++ more)
+  ended-front whole ss (Some y) = ([], sym (append-nil (trace_lines st ss)))
+  ended-front true ss None = (image_lines st ss, refl)
+  ended-front false ss None = ([], sym (append-nil (trace_lines st ss)))
+
+  trace-front : (ss ts : List (Step I)) → (more : List ℕ) × (trace_lines st (ss ++ ts) ≡ trace_lines st ss ++ more)
+  trace-front ss ts =
+      let m = st.meaning in
+      let r = st.recovery in
+      let f = λ (x : Item I O). as_line (item_text st.input_text st.output_text x) in
+      let behind = trace_from m r (run m r ss) ts in
+      (flat_map f behind, ap (λ xs. flat_map f xs) (trace_from-append m r (first_world m) ss ts) ∙ flat_map-append f (trace_of st ss) behind)
+
+count-append : {X : Type 0} (p : X → Bool) (xs ys : List X) → count_by p (xs ++ ys) ≡ count_by p xs + count_by p ys
+count-append p xs ys = sum_by-append (λ x. cond (p x) 1 0) xs ys
+
+module _ {I O : Type 0} (t : Texts I O) where
+  lines-append : (xs ys : List (Item I O)) → trace_text t.input_text t.output_text (xs ++ ys) ≡ trace_text t.input_text t.output_text xs ++ trace_text t.input_text t.output_text ys
+  lines-append xs ys = flat_map-append (λ x. as_line (item_text t.input_text t.output_text x)) xs ys
+
+  pub written-more : (gone items : List (Item I O)) (out mid out' : Option (List ℕ)) (tally tally' : Tally) → TraceWritten t gone out mid tally → Gained mid out' (trace_text t.input_text t.output_text items)
+      → tally' ≡ tallied tally items → TraceWritten t (gone ++ items) out out' tally'
+  written-more gone items out mid out' tally tally' before more is = record {
+    written = subst (λ (bs : List ℕ). Gained out out' bs) (sym (lines-append gone items)) (gained-both out mid out' (trace_text t.input_text t.output_text gone) (trace_text t.input_text t.output_text items) before.written more);
+    counted = is ∙ (ap (λ (x : Tally). tallied x items) before.counted ∙ sums);
+  } where
+    sums : tallied (tallied (record { inputs = 0; outputs = 0 }) gone) items ≡ tallied (record { inputs = 0; outputs = 0 }) (gone ++ items)
+    sums =
+        let ins : (0 + count_by is_input gone) + count_by is_input items ≡ 0 + count_by is_input (gone ++ items) = omega (arith, count-append is_input gone items) in
+        let outs : (0 + count_by is_output gone) + count_by is_output items ≡ 0 + count_by is_output (gone ++ items) = omega (arith, count-append is_output gone items) in
+        rw (ins, outs) refl
+
+module _ {H S I O M : Type 0} (m : Meaning S I O M) (t : Texts I O) where
+  pub played-start : (v : RunView H S I O M) (tally : Tally) (r : ReaderView) (left out : Option (List ℕ)) → HasRun m [] [] v → tally ≡ record { inputs = 0; outputs = 0 } → Played m t v tally r r left left out out
+  played-start v tally r left out ran is = record {
+    steps = [];
+    gone = [];
+    ran = ran;
+    written = record { written = gained-nothing out; counted = is };
+    events = omega arith;
+    most = refl;
+    reads = λ rest has. record { used = []; uses = uses-none r left rest has; says = refl };
+  }
+
+  pub played-written : (v u : RunView H S I O M) (tally tally' : Tally) (old now : ReaderView) (left left' out mid out' : Option (List ℕ)) → Played m t v tally old now left left' out mid
+      → Gained mid out' (trace_text t.input_text t.output_text v.world.trace) → u ≡ record v { world = record v.world { trace = [] } } → tally' ≡ tallied tally v.world.trace
+      → Played m t u tally' old now left left' out out'
+  played-written v u tally tally' old now left left' out mid out' p more forgets is = record {
+    steps = p.steps;
+    gone = p.gone ++ v.world.trace;
+    ran = has_run-forget m (map (λ p. p.1) p.steps) p.gone v u forgets p.ran;
+    written = written-more t p.gone v.world.trace out mid out' tally tally' p.written more is;
+    events = p.events;
+    most = p.most;
+    reads = p.reads;
+  }
+
+-- what lines say behind those that were used
+module _ {I : Type 0} (f : List ℕ → Option I) (old now : ReaderView) (left' : Option (List ℕ)) (rest : List ℕ) (steps : List (ℕ × Step I))
+    (events : now.events ≡ old.events + length steps) (most : now.most ≡ old.most) (r : Reads f old now left' rest steps) where
+  script-moved : (done : List (ℕ × Step I)) (n e : ℕ) (ls : List (List ℕ)) → done ≡ steps → n ≡ now.number + 1 → e ≡ now.events
+      → prefixed done (script old.most f n e ls) ≡ prefixed steps (script now.most f (now.number + 1) now.events ls)
+  script-moved done n e ls same there counted = rw (same, there, counted, most) refl
+
+  pub script-on : (ls : List (List ℕ)) → script old.most f (old.number + 1) old.events (lines_of r.used ++ ls) ≡ prefixed steps (script now.most f (now.number + 1) now.events ls)
+  script-on ls =
+      let before = script old.most f (old.number + 1) old.events (lines_of r.used) in
+      let none : before.fault ≡ None = ap (λ (sc : Script I). sc.fault) r.says in
+      let done : before.steps ≡ steps = ap (λ (sc : Script I). sc.steps) r.says in
+      script-behind old.most f (old.number + 1) old.events (lines_of r.used) ls none
+      ∙ script-moved before.steps ((old.number + 1) + length (lines_of r.used)) (old.events + length before.steps) ls done
+      (omega (arith, r.uses.number)) (omega (arith, events, ap length done))
+
+  -- what the whole rest says
+  pub script-rest : script old.most f (old.number + 1) old.events (lines_of rest) ≡ prefixed steps (script now.most f (now.number + 1) now.events (lines_of r.uses.rest'))
+  script-rest = ap (script old.most f (old.number + 1) old.events) r.uses.lines ∙ script-on (lines_of r.uses.rest')
+
+  module _ (new : ReaderView) (after : Option (List ℕ)) (s : Step I) (read : ReadsStep f now new after r.uses.rest' (Ok s)) where
+    -- one more step was read
+    pub reads-more : Reads f old new after rest (steps ++ (new.number, s) ∷ [])
+    reads-more = record {
+      used = r.used ++ read.0;
+      uses = uses-more old now new left' after rest r.used read.0 r.uses read.1;
+      says = ap (script old.most f (old.number + 1) old.events) (lines-more old now new left' after rest r.used read.0 r.uses read.1) ∙ (script-on (lines_of read.0) ∙ ap (prefixed steps) read.3);
+    }
+
+    -- it stands ahead in the rest
+    pub step-ahead : (tail : Script I) × (script old.most f (old.number + 1) old.events (lines_of rest) ≡ prefixed steps (with_step new.number s tail))
+    step-ahead =
+        let first = script now.most f (now.number + 1) now.events (lines_of read.0) in
+        let none : first.fault ≡ None = ap (λ (sc : Script I). sc.fault) read.3 in
+        let tail = script now.most f ((now.number + 1) + length (lines_of read.0)) (now.events + length first.steps) (lines_of read.1.rest') in (
+          tail,
+          script-rest ∙ ap (prefixed steps) (ap (script now.most f (now.number + 1) now.events) read.1.lines
+              ∙ (script-behind now.most f (now.number + 1) now.events (lines_of read.0) (lines_of read.1.rest') none
+              ∙ ap (λ (done : List (ℕ × Step I)). prefixed done tail) (ap (λ (sc : Script I). sc.steps) read.3))),
+        )
+
+  -- the whole lines of a part that a failed read broke off
+  pub script-part : (part : List ℕ) → now.ended ≡ false → script now.most f (now.number + 1) now.events (whole_lines part) ≡ no_steps
+      → script old.most f (old.number + 1) old.events (whole_lines (r.used ++ part)) ≡ record { steps = steps; fault = None }
+  script-part part going none =
+      ap (script old.most f (old.number + 1) old.events) (whole-append r.used part (r.uses.closed going))
+      ∙ (script-on (whole_lines part) ∙ (ap (prefixed steps) none ∙ ap (λ (done : List (ℕ × Step I)). record { steps = done; fault = None }) (append-nil steps)))
+
+nothing-left : (new : ReaderView) (left : Option (List ℕ)) → HasRest new left [] → left ≡ Some []
+nothing-left new left has = has.left_is ∙ ap Some (behind-nothing new.ahead has.behind (sym has.rest_is)) where
+  behind-nothing : (xs ys : List ℕ) → xs ++ ys ≡ [] → ys ≡ []
+  behind-nothing [] ys e = e
+  behind-nothing (x ∷ xs) ys e = cc
+
+module _ {H S I O M : Type 0} (m : Meaning S I O M) (t : Texts I O) where
+  pub played-more : (v u : RunView H S I O M) (tally : Tally) (old now new : ReaderView) (left left' after out out' : Option (List ℕ)) (p : Played m t v tally old now left left' out out')
+      → TookStep m t.input_of u (map (λ p. p.1) p.steps) p.gone now new left' after None → new.events ≡ now.events + 1 → new.most ≡ now.most
+      → Played m t u tally old new left after out out'
+  played-more v u tally old now new left left' after out out' p (s, ran, reads) counted most = record {
+    steps = p.steps ++ (new.number, s) ∷ [];
+    gone = p.gone;
+    ran = subst (λ (ss : List (Step I)). HasRun m ss p.gone u) (sym (map-append (λ (q : ℕ × Step I). q.1) p.steps ((new.number, s) ∷ []))) ran;
+    written = p.written;
+    events = omega (arith, counted, p.events, length-append p.steps ((new.number, s) ∷ []));
+    most = most ∙ p.most;
+    reads = λ rest has.
+        let r = p.reads rest has in
+        reads-more t.input_of old now left' rest p.steps p.events p.most r new after s (reads r.uses.rest' r.uses.left);
+  }
+
+  -- where the steps end
+  module _ (h : Header) (v u : RunView H S I O M) (tally : Tally) (old now new : ReaderView) (left left' after out out' : Option (List ℕ)) (p : Played m t v tally old now left left' out out')
+      (net : u.world.net ≡ h.net) where
+    front : (ran : HasRun m (map (λ p. p.1) p.steps) p.gone u) → (rest : List ℕ) → HasRest old left rest
+        → (more : List (Step I)) × (taken (plain_stack h m t) (script old.most t.input_of (old.number + 1) old.events (lines_of rest)) ≡ map (λ p. p.1) p.steps ++ more)
+    front ran rest has =
+        let r = p.reads rest has in
+        let none = subst (λ (n : Net). first_refused n m (no_recovery {S = S}) (map (λ p. p.1) p.steps) ≡ None) net ran.allowed in
+        taken-front h.net m no_recovery (first_world m) p.steps none (script now.most t.input_of (now.number + 1) now.events (lines_of r.uses.rest'))
+        (script old.most t.input_of (old.number + 1) old.events (lines_of rest)) (script-rest t.input_of old now left' rest p.steps p.events p.most r)
+
+    halts-by : (x : Halt) → TookStep m t.input_of u (map (λ p. p.1) p.steps) p.gone now new left' after (Some x) → (ran : HasRun m (map (λ p. p.1) p.steps) p.gone u)
+        → (rest : List ℕ) → HasRest old left rest → HaltsBy (plain_stack h m t) (map (λ p. p.1) p.steps) old new after rest x
+    halts-by halt.End (same, reads) ran rest has =
+        let r = p.reads rest has in
+        let none = subst (λ (n : Net). first_refused n m (no_recovery {S = S}) (map (λ p. p.1) p.steps) ≡ None) net ran.allowed in
+        let read = reads r.uses.rest' r.uses.left in
+        let sc = script old.most t.input_of (old.number + 1) old.events (lines_of rest) in
+        let both = all-taken h.net m no_recovery (first_world m) p.steps none None sc
+        (script-rest t.input_of old now left' rest p.steps p.events p.most r ∙ (ap (prefixed p.steps) read.1 ∙ ap (λ (done : List (ℕ × Step I)). record { steps = done; fault = None }) (append-nil p.steps))) in
+        (nothing-left new after read.0.left, both.0, both.1)
+    halts-by halt.Read (same, reads, going) ran rest has =
+        let r = p.reads rest has in
+        let none = subst (λ (n : Net). first_refused n m (no_recovery {S = S}) (map (λ p. p.1) p.steps) ≡ None) net ran.allowed in
+        let read = reads r.uses.rest' r.uses.left in
+        let part = r.used ++ read.0 in
+        let both = all-taken h.net m no_recovery (first_world m) p.steps none None (script old.most t.input_of (old.number + 1) old.events (whole_lines part))
+        (script-part t.input_of old now left' rest p.steps p.events p.most r read.0 going read.2) in
+        (part, breaks-behind old now left' after rest r.used read.0 r.uses (r.uses.closed going) read.1, both)
+    halts-by (halt.Refused number w) (same, reads) ran rest has =
+        let r = p.reads rest has in
+        let none = subst (λ (n : Net). first_refused n m (no_recovery {S = S}) (map (λ p. p.1) p.steps) ≡ None) net ran.allowed in
+        let sc = script old.most t.input_of (old.number + 1) old.events (lines_of rest) in
+        elim (reads r.uses.rest' r.uses.left) [
+          | inl read ↦
+              let both = all-taken h.net m no_recovery (first_world m) p.steps none (Some (number, w)) sc
+              (script-rest t.input_of old now left' rest p.steps p.events p.most r ∙ (ap (prefixed p.steps) read.1 ∙ ap (λ (done : List (ℕ × Step I)). record { steps = done; fault = Some (number, w) }) (append-nil p.steps))) in
+              (stands-behind old now new left' after rest r.used number r.uses read.0, both.0, both.1)
+          | inr found ↦
+              let s = found.0 in
+              let read = found.2 in
+              let ahead = step-ahead t.input_of old now left' rest p.steps p.events p.most r new after s read in
+              let refused = subst (λ (n : Net). refusal_of n m (run m (no_recovery {S = S}) (map (λ p. p.1) p.steps)) s ≡ Some found.1) net found.4 in
+              let both = refused-behind h.net m no_recovery (first_world m) p.steps none new.number s ahead.0 sc found.1 ahead.1 refused in
+              let stands = subst (λ (n : ℕ). StandsAt now new after r.uses.rest' n) (sym found.3) read.2 in
+              (stands-behind old now new left' after rest r.used number r.uses stands, both.0 ∙ (ap (λ n. Some (n, why_of found.1)) (sym found.3) ∙ ap (λ x. Some (number, x)) (sym found.5)), both.1)
+        ]
+
+    ran-at : (x : Halt) → TookStep m t.input_of u (map (λ p. p.1) p.steps) p.gone now new left' after (Some x) → HasRun m (map (λ p. p.1) p.steps) p.gone u
+    ran-at halt.End took = took.0
+    ran-at halt.Read took = took.0
+    ran-at (halt.Refused number w) took = took.0
+
+    pub played-halts : (x : Halt) → u.world.trace ≡ [] → TookStep m t.input_of u (map (λ p. p.1) p.steps) p.gone now new left' after (Some x) → Halted (plain_stack h m t) t u tally old new left after out out' x
+    played-halts x empty took = record {
+      empty = empty;
+      steps = map (λ p. p.1) p.steps;
+      gone = p.gone;
+      ran = ran-at x took;
+      written = p.written;
+      halts = halts-by x took (ran-at x took);
+      front = front (ran-at x took);
+    }
+
+  -- what was written is a front of what the whole rest makes
+  module _ (h : Header) (v : RunView H S I O M) (steps : List (Step I)) (gone : List (Item I O)) (ran : HasRun m steps gone v) (whole : Bool) (sc : Script I)
+      (front : (more : List (Step I)) × (taken (plain_stack h m t) sc ≡ steps ++ more)) where
+    text-front : (more : List ℕ) × ((replayed_script (plain_stack h m t) whole sc).out ≡ trace_text t.input_text t.output_text gone ++ (trace_text t.input_text t.output_text v.world.trace ++ more))
+    text-front =
+        let st = plain_stack h m t in
+        let a = ended-front st whole (taken st sc) (stop st sc) in
+        let b = trace-front st steps front.0 in
+        let text = trace_text t.input_text t.output_text in
+        let lines : trace_lines st steps ≡ text gone ++ text v.world.trace = ap text (sym ran.traced) ∙ lines-append t gone v.world.trace in (
+          b.0 ++ a.0,
+          a.1 ∙ (ap (λ ss. trace_lines st ss ++ a.0) front.1 ∙ (ap (λ xs. xs ++ a.0) b.1 ∙ (append_assoc (trace_lines st steps) b.0 a.0
+              ∙ (ap (λ xs. xs ++ (b.0 ++ a.0)) lines ∙ append_assoc (text gone) (text v.world.trace) (b.0 ++ a.0))))),
+        )
+
+    pub written-front : (out out' : Option (List ℕ)) (tally : Tally) → TraceWritten t gone out out' tally → GainedFront out out' (replayed_script (plain_stack h m t) whole sc).out
+    written-front out out' tally before = gained-front out out' (trace_text t.input_text t.output_text gone) (trace_text t.input_text t.output_text v.world.trace ++ text-front.0) _ text-front.1 before.written
+
+    pub writing-front : (out mid out' : Option (List ℕ)) (tally : Tally) → TraceWritten t gone out mid tally → GainedFront mid out' (trace_text t.input_text t.output_text v.world.trace)
+        → GainedFront out out' (replayed_script (plain_stack h m t) whole sc).out
+    writing-front out mid out' tally before more =
+        gained-some out mid out' (trace_text t.input_text t.output_text gone) (trace_text t.input_text t.output_text v.world.trace) _ text-front.0 text-front.1 before.written more
+
+-- what was written while steps are played is a front of what the whole rest makes
+module _ {H S I O M : Type 0} (m : Meaning S I O M) (t : Texts I O) (h : Header) (v : RunView H S I O M) (tally : Tally) (old now : ReaderView) (left left' out out' : Option (List ℕ)) where
+  ahead : (p : Played m t v tally old now left left' out out') → v.world.net ≡ h.net → (rest : List ℕ) → HasRest old left rest
+      → (more : List (Step I)) × (taken (plain_stack h m t) (script old.most t.input_of (old.number + 1) old.events (lines_of rest)) ≡ map (λ p. p.1) p.steps ++ more)
+  ahead p net rest has =
+      let r = p.reads rest has in
+      let none = subst (λ (n : Net). first_refused n m (no_recovery {S = S}) (map (λ p. p.1) p.steps) ≡ None) net p.ran.allowed in
+      taken-front h.net m no_recovery (first_world m) p.steps none (script now.most t.input_of (now.number + 1) now.events (lines_of r.uses.rest'))
+      (script old.most t.input_of (old.number + 1) old.events (lines_of rest)) (script-rest t.input_of old now left' rest p.steps p.events p.most r)
+
+  pub played-front : (p : Played m t v tally old now left left' out out') → v.world.net ≡ h.net → (rest : List ℕ) → HasRest old left rest
+      → GainedFront out out' (replayed_script (plain_stack h m t) true (script old.most t.input_of (old.number + 1) old.events (lines_of rest))).out
+  played-front p net rest has = written-front m t h v (map (λ p. p.1) p.steps) p.gone p.ran true (script old.most t.input_of (old.number + 1) old.events (lines_of rest)) (ahead p net rest has) out out' tally p.written
+
+pub playing-front : {H S I O M : Type 0} (m : Meaning S I O M) (t : Texts I O) (h : Header) (v : RunView H S I O M) (tally : Tally) (old now : ReaderView) (left left' out mid out' : Option (List ℕ))
+    → (p : Played m t v tally old now left left' out mid) → v.world.net ≡ h.net → (rest : List ℕ) → HasRest old left rest → GainedFront mid out' (trace_text t.input_text t.output_text v.world.trace)
+    → GainedFront out out' (replayed_script (plain_stack h m t) true (script old.most t.input_of (old.number + 1) old.events (lines_of rest))).out
+playing-front m t h v tally old now left left' out mid out' p net rest has more =
+    writing-front m t h v (map (λ p. p.1) p.steps) p.gone p.ran true (script old.most t.input_of (old.number + 1) old.events (lines_of rest)) (ahead m t h v tally old now left left' out mid p net rest has) out mid out' tally p.written more

@@ -1,0 +1,36 @@
+use Rattle.std.proofs.Common.{◌≡◌, Some, inl, inr, sym, subst}
+use Rattle.vst_base.specs.declared.net.Net.{Net}
+use Rattle.net_semantics.specs.Steps.{refusal_of}
+use Rattle.net_semantics.specs.Runs.{run, no_recovery}
+use Rattle.xform_stack.specs.Running.{HasRun}
+use Rattle.schedule_replay.proofs.taking.take_step.Goals as goal
+
+pub returns-in-Err-End-clause-took : goal.returns-in-Err-End-clause-took
+returns-in-Err-End-clause-took g c = λ ss gone ran. (ran, λ rest has. rw c.in-Err-End.field-0-is at c.in-Err-End.ensures.told rest has)
+
+pub returns-in-Err-Read-clause-took : goal.returns-in-Err-Read-clause-took
+returns-in-Err-Read-clause-took g c =
+    let cause = rw c.in-Err-Read.field-0-is at c.in-Err-Read.ensures.fault in
+    λ ss gone ran. (ran, λ rest has. rw c.in-Err-Read.field-0-is at c.in-Err-Read.ensures.told rest has, cause.1)
+
+pub returns-in-Err-Refused-clause-took : goal.returns-in-Err-Refused-clause-took
+returns-in-Err-Refused-clause-took g c = λ ss gone ran. (ran, λ rest has. inl (rw c.in-Err-Refused.field-0-is at c.in-Err-Refused.ensures.told rest has))
+
+pub returns-in-Ok-step-clause-took : goal.returns-in-Ok-step-clause-took
+returns-in-Ok-step-clause-took g c = λ ss gone ran. (c.in-Ok.step, c.in-Ok-step.ensures.next ss gone ran, λ rest has. c.in-Ok.ensures.told rest has)
+
+pub returns-in-Ok-clause-took : goal.returns-in-Ok-clause-took
+returns-in-Ok-clause-took g c = λ ss gone ran.
+    let m = g.H.Handlers.meaning c.args.running.now.world.handlers in
+    let refused = rw c.in-Err-Step.field-0-is at c.in-Err-Step.ensures.refused ss gone ran in
+    let same = (rw c.in-Err-Step.field-0-is at c.in-Err-Step.ensures.unchanged) (λ e. cc) in (
+      subst (HasRun m ss gone) (sym same) ran,
+      λ rest has. inr (
+        c.in-Ok.step,
+        c.in-Err-Step.why,
+        c.in-Ok.ensures.told rest has,
+        c.number.ensures,
+        subst (λ (n : Net). refusal_of n m (run m no_recovery ss) c.in-Ok.step ≡ Some c.in-Err-Step.why) (sym c.step.ensures.net) refused.0,
+        c.why_of.ensures,
+      ),
+    )

@@ -1,0 +1,49 @@
+ghost use Rattle.std.specs.Prelude.{◌≡◌, ◌≤◌, IfErr, IfOk, OnErr, OnOk};
+ghost use Rattle.outside.specs.Wholes.{Gained, GainedFront};
+ghost use Rattle.schedule_text.specs.Sending.{HasWriteCause};
+ghost use Rattle.schedule_replay.specs.Finishing.{counted_done, image_head, image_text};
+
+use crate::Done;
+use crate::tally::Tally;
+use app_text::AppText;
+use outside::Sink;
+use schedule_text::{Header, LineFault, NEWLINE, print_steps, print_text};
+use std::alloc::{AllocError, Global};
+use vst_base::Step;
+
+// The line between a trace and its image, and the image's header.
+fn image_head(alloc: Global, header: &Header) -> Result<Vec<u8>, AllocError>
+    ensures { IfOk result (λ head. head.items ≡ image_head header.now) }
+{
+    let mut head = Vec::new(alloc);
+    head.extend_from_slice(b"below\n")?;
+    header.push_text(&mut head)?;
+    head.push(NEWLINE)?;
+    Ok(head)
+}
+
+// Writes the image of steps that were taken, and tells the counts.
+pub(crate) fn finish<A: AppText, K: Sink>(
+    alloc: Global,
+    header: &Header,
+    steps: &[Step<A::Input>],
+    tally: &Tally,
+    sink: &mut K,
+) -> Result<Done, LineFault>
+    ensures ok { OnOk result (Gained (K.written sink.old) (K.written sink.new) (image_text A.input_text header.now steps.now)) }
+    ensures err { OnErr result (GainedFront (K.written sink.old) (K.written sink.new) (image_text A.input_text header.now steps.now)) }
+    ensures done { IfOk result (λ done. done ≡ counted_done tally.now steps.now) }
+    ensures fault { IfErr result (HasWriteCause (K.faults sink.old) (K.faults sink.new)) }
+    ensures counts { K.faults sink.old ≤ K.faults sink.new }
+{
+    let head = image_head(alloc, header)?;
+    print_text(sink, &head)?;
+    print_steps::<A, K>(alloc, sink, steps)?;
+    Ok(Done {
+        events: steps.len() as u64,
+        inputs: tally.inputs,
+        outputs: tally.outputs,
+        replies: tally.outputs,
+        image: steps.len() as u64,
+    })
+}

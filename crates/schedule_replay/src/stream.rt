@@ -1,0 +1,57 @@
+ghost use Rattle.std.specs.Prelude.{◌≡◌, ◌≤◌, ℕ, List, IfErr, IfSome};
+ghost use Rattle.line_reader.specs.Readers.{HasRest};
+ghost use Rattle.schedule_replay.specs.Openings.{IsKnown};
+ghost use Rattle.schedule_replay.specs.Outcomes.{ComesTo, HasCause, HasFault};
+ghost use Rattle.schedule_replay.specs.Replays.{lock_stack, replayed, replayed_so_far, rest_so_far, rest_whole};
+
+use crate::bag::replay_bag;
+use crate::{Done, ReplayFault};
+use app_text::LockText;
+use lock_server::LockServer;
+use outside::{Sink, Source};
+use schedule_text::{Header, MAX_LINES, Reader, read_header};
+use std::alloc::Global;
+use vst_base::StackId;
+
+// Replays what stands behind a header, by its stack.
+fn replay_stack<S: Source, K: Sink>(
+    alloc: Global,
+    header: &Header,
+    reader: &mut Reader,
+    source: &mut S,
+    sink: &mut K,
+) -> Result<Done, ReplayFault>
+    requires known { IsKnown header.now }
+    ensures told { (rest : List ℕ) → HasRest reader.old (S.left source.old) rest
+        → ComesTo (rest_whole (lock_stack header.now) reader.old) (rest_so_far (lock_stack header.now) reader.old)
+        reader.old.number rest (S.left source.new) (K.written sink.old) (K.written sink.new) result }
+    ensures fault { IfErr result (HasCause reader.old.ended (S.faults source.old) (S.faults source.new) (K.faults sink.old) (K.faults sink.new)) }
+    ensures reads { S.faults source.old ≤ S.faults source.new }
+    ensures writes { K.faults sink.old ≤ K.faults sink.new }
+{
+    match header.stack {
+        StackId::Lock => {
+            let handlers = LockServer::new(header.nodes);
+            replay_bag::<LockServer, LockText, S, K>(alloc, handlers, header, reader, source, sink)
+        }
+        _ => unreachable!(),
+    }
+}
+
+/// Replays the schedule that a source gives, in a stream: each step is taken as its line comes, and what clients saw
+/// of it is written at once. Where no line is refused, the image is written below the trace. Where a line
+/// is, at most 4,096 bytes were read past the byte that decided it.
+pub fn replay<S: Source, K: Sink>(
+    alloc: Global,
+    source: &mut S,
+    sink: &mut K,
+) -> Result<Done, ReplayFault>
+    ensures told { IfSome (S.left source.old) (λ bytes. ComesTo replayed replayed_so_far 0 bytes (S.left source.new) (K.written sink.old) (K.written sink.new) result) }
+    ensures fault { IfErr result (HasFault (S.faults source.old) (S.faults source.new) (K.faults sink.old) (K.faults sink.new)) }
+    ensures reads { S.faults source.old ≤ S.faults source.new }
+    ensures writes { K.faults sink.old ≤ K.faults sink.new }
+{
+    let mut reader = Reader::new(alloc, MAX_LINES)?;
+    let header = read_header(&mut reader, source)?;
+    replay_stack(alloc, &header, &mut reader, source, sink)
+}

@@ -1,0 +1,70 @@
+ghost use Rattle.std.specs.Prelude.{◌≡◌, ◌+◌, ◌<◌, ◌≤◌, List, true, false, None, Some, Ok, IfOk, OnOk};
+ghost use Rattle.net_semantics.specs.Shown.{IsSound};
+ghost use Rattle.outside.specs.Counting.{Rose};
+ghost use Rattle.vst_base.specs.declared.step.Step.{Step};
+ghost use Rattle.vst_base.specs.declared.step.Item.{Item};
+ghost use Rattle.schedule_replay.specs.declared.halt.Halt.{Halt};
+ghost use Rattle.xform_stack.specs.Running.{HasRun};
+ghost use Rattle.schedule_replay.specs.Playing.{TookStep};
+ghost use Rattle.schedule_replay.specs.Replaying.{why_of};
+
+use crate::halt::Halt;
+use app_text::AppText;
+use handler_trait::Handlers;
+use outside::Source;
+use schedule_text::{LineFault, Reader, Why, read_step};
+use std::alloc::{AllocError, Global};
+use vst_base::StepRefusal;
+use xform_stack::{RunFault, Running};
+
+// A world's refusal as a line's. Want of memory is no refusal.
+fn why_of(refusal: StepRefusal) -> Why
+    ensures { result ≡ why_of refusal }
+{
+    match refusal {
+        StepRefusal::NotThisNet => Why::NotThisNet,
+        StepRefusal::NoSuchNode => Why::NoSuchNode,
+        StepRefusal::NoInputHere => Why::NoInputHere,
+        StepRefusal::NodeDown => Why::NodeDown,
+        StepRefusal::NodeUp => Why::NodeUp,
+        StepRefusal::NoCopy | StepRefusal::Memory => Why::NoCopy,
+    }
+}
+
+// Reads the next step and takes it, or says where the steps come to their end, which changes nothing.
+pub(crate) fn take_step<H: Handlers, A: AppText<Input = H::Input, Output = H::Output>, S: Source>(
+    alloc: Global,
+    running: &mut Running<H>,
+    reader: &mut Reader,
+    source: &mut S,
+) -> Result<Option<Halt>, AllocError>
+    requires sound { IsSound (H.meaning running.old.world.handlers) (H.sound running.old.world.handlers) (H.spent running.old.world.handlers) running.old.world }
+    requires counted { running.old.world.taken ≤ reader.old.events }
+    ensures took { IfOk result (λ answer. (ss : List (Step H.Input)) (gone : List (Item H.Input H.Output)) → HasRun (H.meaning running.old.world.handlers) ss gone running.old
+        → TookStep (H.meaning running.old.world.handlers) A.input_of running.new ss gone reader.old reader.new (S.left source.old) (S.left source.new) answer) }
+    ensures handlers { running.new.world.handlers ≡ running.old.world.handlers }
+    ensures net { running.new.world.net ≡ running.old.world.net }
+    ensures taken { result ≡ Ok None → running.new.world.taken ≡ running.old.world.taken + 1 }
+    ensures sound { OnOk result (IsSound (H.meaning running.old.world.handlers) (H.sound running.old.world.handlers) (H.spent running.old.world.handlers) running.new.world) }
+    ensures events { result ≡ Ok None → reader.new.events ≡ reader.old.events + 1 }
+    ensures number { result ≡ Ok None → (reader.old.number < reader.new.number) × (reader.new.number ≤ reader.new.most) }
+    ensures most { reader.new.most ≡ reader.old.most }
+    ensures unchanged { (halt : Halt) → result ≡ Ok (Some halt) → running.new ≡ running.old }
+    ensures read { result ≡ Ok (Some Halt.Read) → Rose (S.faults source.old) (S.faults source.new) }
+    ensures going { result ≡ Ok (Some Halt.Read) → reader.old.ended ≡ false }
+    ensures stays { reader.old.ended ≡ true → reader.new.ended ≡ true }
+    ensures counts { S.faults source.old ≤ S.faults source.new }
+{
+    match read_step::<A, S>(alloc, reader, source) {
+        Ok(step) => match running.step(&step) {
+            Ok(()) => Ok(None),
+            Err(RunFault::Memory) => Err(AllocError),
+            Err(RunFault::Step(why, _)) => Ok(Some(Halt::Refused(reader.number(), why_of(why)))),
+        },
+        Err(LineFault::End) => Ok(Some(Halt::End)),
+        Err(LineFault::Read) => Ok(Some(Halt::Read)),
+        Err(LineFault::Refused { line, why }) => Ok(Some(Halt::Refused(line, why))),
+        // A write never fails here.
+        Err(LineFault::Memory | LineFault::Write) => Err(AllocError),
+    }
+}

@@ -1,0 +1,76 @@
+ghost use Rattle.std.specs.Prelude.{◌≡◌, ◌≢◌, ◌≤◌, ℕ};
+ghost use Rattle.outside.specs.Counting.{Rose};
+ghost use Rattle.schedule_replay.specs.Replays.{replayed};
+ghost use Rattle.top_call.specs.Answers.{answer_of};
+ghost use Rattle.top_call.specs.Clauses.{HasReadFailed, HasWriteFailed, IsComplete, IsDone, IsLineRefused, IsOutOfMemory, IsStatus};
+
+use crate::refuse::refuse;
+use crate::say::say;
+use crate::status::{DONE, OUT_OF_MEMORY, READ_FAILED, WRITE_FAILED};
+use outside::{Sink, Source};
+use schedule_replay::{ReplayFault, replay};
+use std::alloc::Global;
+
+// The command replay: a schedule on the input, its trace and its image on the output.
+pub(crate) fn run_replay<S: Source, O: Sink, E: Sink>(
+    alloc: Global,
+    input: &mut S,
+    out: &mut O,
+    err: &mut E,
+) -> u8
+    ensures status { IsStatus result }
+    ensures complete { IsComplete (λ bytes. answer_of (replayed bytes)) (S.left input.old) (Rose (S.faults input.old) (S.faults input.new))
+        (Rose (O.faults out.old) (O.faults out.new)) (Rose (E.faults err.old) (E.faults err.new)) result }
+    ensures done { result ≡ 0 → IsDone (λ bytes. answer_of (replayed bytes)) (record {
+      left = S.left input.old;
+      left' = S.left input.new;
+      out = O.written out.old;
+      out' = O.written out.new;
+      err = E.written err.old;
+      err' = E.written err.new;
+    }) }
+    ensures words { result ≢ 2 }
+    ensures refused { result ≡ 3 → IsLineRefused (λ bytes. answer_of (replayed bytes)) (record {
+      left = S.left input.old;
+      left' = S.left input.new;
+      out = O.written out.old;
+      out' = O.written out.new;
+      err = E.written err.old;
+      err' = E.written err.new;
+    }) }
+    ensures read { result ≡ 4 → HasReadFailed (S.faults input.old) (S.faults input.new) (record {
+      left = S.left input.old;
+      left' = S.left input.new;
+      out = O.written out.old;
+      out' = O.written out.new;
+      err = E.written err.old;
+      err' = E.written err.new;
+    }) }
+    ensures write { result ≡ 5 → HasWriteFailed (λ bytes. answer_of (replayed bytes)) (O.faults out.old) (O.faults out.new) (E.faults err.old) (E.faults err.new) (record {
+      left = S.left input.old;
+      left' = S.left input.new;
+      out = O.written out.old;
+      out' = O.written out.new;
+      err = E.written err.old;
+      err' = E.written err.new;
+    }) }
+    ensures memory { result ≡ 8 → IsOutOfMemory (λ bytes. answer_of (replayed bytes)) ⊥ (Rose (S.faults input.old) (S.faults input.new)) (E.wants err.old) (E.wants err.new) (record {
+      left = S.left input.old;
+      left' = S.left input.new;
+      out = O.written out.old;
+      out' = O.written out.new;
+      err = E.written err.old;
+      err' = E.written err.new;
+    }) }
+    ensures reads { S.faults input.old ≤ S.faults input.new }
+    ensures writes { O.faults out.old ≤ O.faults out.new }
+    ensures complains { E.faults err.old ≤ E.faults err.new }
+{
+    match replay(alloc, input, out) {
+        Ok(_) => DONE,
+        Err(ReplayFault::Read) => say(err, b"read\n", READ_FAILED),
+        Err(ReplayFault::Write) => WRITE_FAILED,
+        Err(ReplayFault::Refused { line, why }) => refuse(alloc, err, line, why),
+        Err(ReplayFault::Memory) => say(err, b"memory\n", OUT_OF_MEMORY),
+    }
+}
