@@ -1,4 +1,10 @@
+pub mod Committing
+pub mod Elections
+pub mod Entries
 pub mod Examples
 pub mod Firsts
+pub mod LogExamples
+pub mod Logs
 pub mod Machines
 pub mod Nets
+pub mod Tokens

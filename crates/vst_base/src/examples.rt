@@ -1,8 +1,9 @@
-ghost use Rattle.std.specs.Prelude.{◌≡◌, [], ◌∷◌, true, false, Some, None, filter};
+ghost use Rattle.std.specs.Prelude.{◌≡◌, [], ◌∷◌, true, false, Some, None, filter, replicate, codes};
 ghost use Rattle.vst_base.specs.Examples.{kinds, counter};
 ghost use Rattle.vst_base.specs.Firsts.{first_of};
 ghost use Rattle.vst_base.specs.Machines.{fold, state_after};
 ghost use Rattle.vst_base.specs.Nets.{has_kind};
+ghost use Rattle.vst_base.specs.Tokens.{is_token, token_of};
 
 use crate::{Net, StepKind, StepRefusal};
 
@@ -22,4 +23,22 @@ pub fn worked()
     ensures no_outputs { fold counter [] ≡ [] }
     ensures last_state { state_after counter 5 (3 ∷ 4 ∷ []) ≡ 12 }
     ensures first_state { state_after counter 5 [] ≡ 5 }
+{}
+
+/// Which bytes are tokens, at the borders of their number and of each byte.
+pub fn worked_tokens()
+    ensures no_bytes { is_token 64 [] ≡ false }
+    ensures one_byte { is_token 64 (codes "a") ≡ true }
+    ensures full_key { is_token 64 (replicate 64 0x61) ≡ true }
+    ensures over_full_key { is_token 64 (replicate 65 0x61) ≡ false }
+    ensures full_value { is_token 1024 (replicate 1024 0x61) ≡ true }
+    ensures over_full_value { is_token 1024 (replicate 1025 0x61) ≡ false }
+    ensures space { (is_token 64 (0x20 ∷ []) ≡ false) × (is_token 64 (codes "a b") ≡ false) }
+    ensures first_byte { is_token 64 (0x21 ∷ []) ≡ true }
+    ensures last_byte { is_token 64 (0x7E ∷ []) ≡ true }
+    ensures delete { (is_token 64 (0x7F ∷ []) ≡ false) × (is_token 64 (0x61 ∷ 0x7F ∷ []) ≡ false) }
+    ensures newline { is_token 64 (codes "a\n") ≡ false }
+    ensures no_ascii { is_token 64 (0x80 ∷ []) ≡ false }
+    ensures token { token_of 64 (codes "a") ≡ Some (codes "a") }
+    ensures no_token { token_of 64 [] ≡ None }
 {}

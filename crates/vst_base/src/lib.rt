@@ -1,23 +1,42 @@
 //! What every other crate speaks of: nodes, networks, stacks, the steps of a schedule, the items of a
-//! trace, the values of the applications, and state machines. It knows nothing of handlers, packets
-//! in flight, texts or bytes.
+//! trace, the values of the applications, the tokens that they hold, the messages of transformers, state
+//! machines, the entries of logs, and what decides votes and commits. It knows nothing of handlers,
+//! packets in flight or the texts of commands.
 #![tactic(auto)]
 
+mod client;
+mod entry;
 mod examples;
 mod lock;
 mod machine;
 mod net;
 mod node;
+mod pb_msg;
+mod pb_out;
+mod raft_examples;
+mod request;
+mod seq;
 mod stack;
 mod step;
+mod token;
 
-pub use examples::worked;
+pub use client::ClientId;
+pub use entry::{Entry, MAX_TERM};
+pub use examples::{worked, worked_tokens};
 pub use lock::{LockInput, LockMsg, LockOutput};
 pub use machine::Machine;
 pub use net::Net;
 pub use node::Node;
+pub use pb_msg::PbMsg;
+pub use pb_out::PbOut;
+pub use raft_examples::{majorities_meet, worked_commits, worked_elections, worked_logs};
+pub use request::ReqId;
+pub use seq::SeqMsg;
 pub use stack::StackId;
 pub use step::{Item, Step, StepKind, StepRefusal};
+pub use token::{Key, MAX_KEY, MAX_VALUE, Token, Value};
 
+#[cfg(test)]
+mod entry_tests;
 #[cfg(test)]
 mod tests;

@@ -2,6 +2,8 @@ ghost use Rattle.vst_base.specs.Examples.{counter};
 
 use super::*;
 use std::alloc::{AllocError, Global};
+use std::collections::HashSet;
+use std::hash::Hash;
 use std::test::Fail;
 
 // Adds its commands up to 255, and answers with the sum before.
@@ -99,4 +101,44 @@ fn steps_have_their_kinds(rt: HostRuntime) {
     ] {
         assert_eq!(rt; step.kind(), kind);
     }
+}
+
+#[test]
+fn tokens_are_told_by_their_bytes(rt: HostRuntime) -> Result<(), Fail> {
+    let full = [b'a'; 64];
+    let over = [b'a'; 65];
+    for (bytes, is_key) in [
+        (b"a".as_slice(), true),
+        (b"!~".as_slice(), true),
+        (full.as_slice(), true),
+        (b"".as_slice(), false),
+        (over.as_slice(), false),
+        (b"a b".as_slice(), false),
+        (b"\x7f".as_slice(), false),
+    ] {
+        let key = Key::new(rt.alloc(), bytes)?;
+        assert_eq!(rt; Key::is_token(bytes), is_key, "{bytes:?}");
+        assert_eq!(rt; key.is_some(), is_key, "{bytes:?}");
+        if let Some(key) = key {
+            assert_eq!(rt; key.copy(rt.alloc())?.as_bytes(), bytes);
+        }
+    }
+    assert_eq!(rt; Value::is_token(&over), true);
+    Ok(())
+}
+
+// Whether a set that holds the first key has the second.
+fn finds<K: Eq + Hash + Drop>(alloc: Global, held: K, sought: &K) -> Result<bool, Fail> {
+    let mut keys = HashSet::new(alloc);
+    keys.insert(held)?;
+    Ok(keys.contains(sought))
+}
+
+#[test]
+fn equal_tokens_are_one_key(rt: HostRuntime) -> Result<(), Fail> {
+    let a = Key::new(rt.alloc(), b"a")?.ok_or("a")?;
+    let b = Key::new(rt.alloc(), b"b")?.ok_or("b")?;
+    assert_eq!(rt; finds(rt.alloc(), a.copy(rt.alloc())?, &a)?, true);
+    assert_eq!(rt; finds(rt.alloc(), a, &b)?, false);
+    Ok(())
 }
