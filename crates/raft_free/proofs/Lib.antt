@@ -1,0 +1,11 @@
+pub mod Applied
+pub mod Completeness
+pub mod Electing
+pub mod Leaders
+pub mod Origins
+pub mod Quiet
+pub mod Refusals
+pub mod Replicating
+pub mod Running
+pub mod Sound
+pub mod Stepping

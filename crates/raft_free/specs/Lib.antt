@@ -1,0 +1,5 @@
+pub mod Events
+pub mod Nodes
+pub mod Runs
+pub mod Safety
+pub mod Stories

@@ -1,0 +1,154 @@
+-- Runs of three nodes that the definitions are computed on.
+use Rattle.std.specs.Prelude.{◌≡◌, ℕ, None, Some, false, true, List, [], ◌∷◌, ◌++◌}
+use Rattle.vst_base.specs.declared.entry.Entry.{Entry}
+use Rattle.raft_free.specs.Nodes.{Append, Candidate, Follower, FreeWorld, Leader, RequestVote, Vote, first_world}
+use Rattle.raft_free.specs.Events.{Accept, Allowed, Apply, Ask, Comes, Commit, Count, Crash, Event, Grant, Lead, Learn, Match, Propose, Reboot, Refuse, Replicate, StepDown, Timeout, actor, effect}
+use Rattle.raft_free.specs.Runs.{Run}
+
+-- the world after these events
+abbrev pub after_from : {C : Type 0} → FreeWorld C → List (Event C) → FreeWorld C
+after_from w [] = w
+after_from w (e ∷ es) = after_from (effect w e) es
+
+abbrev pub after : {C : Type 0} → List (Event C) → FreeWorld C
+after {C = C} events = after_from (first_world C) events
+
+-- in a cluster of three these events may come in this order, from the first world on
+abbrev pub Happens : (C : Type 0) → List (Event C) → Type 0
+Happens C events = Run 3 (first_world C) events (after events)
+
+-- the event is not allowed in the world after these events
+abbrev pub IsRefusedAfter : (C : Type 0) → List (Event C) → Event C → Type 0
+IsRefusedAfter C events e = Allowed 3 (after events).sent ((after events).node (actor e)) e → ⊥
+
+abbrev pub entry : {C : Type 0} → ℕ → C → Entry C
+entry term cmd = record { term = term; client = 7; request = 1; origin = 0; cmd = cmd }
+
+-- node 0 is elected in term 1 by the vote of node 1
+abbrev pub elected : {C : Type 0} → List (Event C)
+elected =
+    Timeout 0 ∷ Ask 0 1 ∷ Learn 1 (record { source = 0; destination = 1; term = 1; message = RequestVote 0 0 }) ∷ Grant 1 0 0 0
+    ∷ Count 0 1 ∷ Lead 0 ∷ []
+
+-- then it takes a command, commits it with node 1, and both apply it
+abbrev pub committed : {C : Type 0} → C → List (Event C)
+committed c =
+    elected
+    ++ Propose 0 (entry 1 c) ∷ Replicate 0 1 0 1 0 ∷ Accept 1 0 0 0 (entry 1 c ∷ []) 0 ∷ Match 0 1 1 ∷ Commit 0 1 ∷ Apply 0 1
+    ∷ Replicate 0 1 1 1 1 ∷ Accept 1 0 1 1 [] 1 ∷ Apply 1 1 ∷ []
+
+-- two nodes elect, commit and apply without the third
+abbrev pub TwoOfThreeCommit : Type 0 → Type 0
+TwoOfThreeCommit C =
+    (c : C) → Happens C (committed c)
+    × (((after (committed c)).node 0).role ≡ Leader) × (((after (committed c)).node 1).role ≡ Follower)
+    × (((after (committed c)).node 0).log ≡ entry 1 c ∷ []) × (((after (committed c)).node 0).applied ≡ 1)
+    × (((after (committed c)).node 1).log ≡ entry 1 c ∷ []) × (((after (committed c)).node 1).applied ≡ 1)
+    × (((after (committed c)).node 2).log ≡ [])
+
+-- nodes 0 and 2 become candidates of term 1, and both ask node 1, which votes for node 0
+abbrev pub two_candidates : {C : Type 0} → List (Event C)
+two_candidates =
+    Timeout 0 ∷ Timeout 2 ∷ Ask 0 1 ∷ Ask 2 1
+    ∷ Learn 1 (record { source = 2; destination = 1; term = 1; message = RequestVote 0 0 }) ∷ Grant 1 0 0 0 ∷ []
+
+abbrev pub then_it_reboots : {C : Type 0} → List (Event C)
+then_it_reboots = two_candidates ++ Crash 1 ∷ Reboot 1 0 0 ∷ []
+
+abbrev pub then_one_leads : {C : Type 0} → List (Event C)
+then_one_leads = two_candidates ++ Count 0 1 ∷ Lead 0 ∷ []
+
+-- the other candidate's request has come too, and gets no vote, also after a reboot; so it cannot lead
+abbrev pub SecondCandidateFails : Type 0 → Type 0
+SecondCandidateFails C =
+    Happens C then_it_reboots × Happens C then_one_leads
+    × Comes {C = C} (after two_candidates).sent ((after two_candidates).node 1) 2 1 (RequestVote 0 0)
+    × IsRefusedAfter C two_candidates (Grant 1 2 0 0) × IsRefusedAfter C then_it_reboots (Grant 1 2 0 0)
+    × (((after {C = C} then_one_leads).node 0).role ≡ Leader) × (((after {C = C} then_one_leads).node 2).role ≡ Candidate)
+    × (((after {C = C} then_one_leads).node 0).term ≡ ((after {C = C} then_one_leads).node 2).term)
+    × IsRefusedAfter C then_one_leads (Lead 2)
+
+-- node 2, which has nothing of it, becomes a candidate of term 2 then, and asks node 1
+abbrev pub behind : {C : Type 0} → C → List (Event C)
+behind c =
+    committed c
+    ++ Timeout 2 ∷ Timeout 2 ∷ Ask 2 1 ∷ Learn 1 (record { source = 2; destination = 1; term = 2; message = RequestVote 0 0 }) ∷ []
+
+-- it gets no vote, though node 1 is free to vote
+abbrev pub BehindGetsNoVote : Type 0 → Type 0
+BehindGetsNoVote C =
+    (c : C) → Happens C (behind c) × (((after (behind c)).node 1).voted ≡ None)
+    × Comes (after (behind c)).sent ((after (behind c)).node 1) 2 1 (RequestVote 0 0)
+    × IsRefusedAfter C (behind c) (Grant 1 2 0 0)
+
+-- node 0 leads in term 1, takes a command and crashes, leads again in term 2, and node 1 gets the entry of term 1
+abbrev pub old_term : {C : Type 0} → C → List (Event C)
+old_term c =
+    elected
+    ++ Propose 0 (entry 1 c) ∷ Crash 0 ∷ Reboot 0 0 0
+    ∷ Timeout 0 ∷ Ask 0 1 ∷ Learn 1 (record { source = 0; destination = 1; term = 2; message = RequestVote 1 1 }) ∷ Grant 1 0 1 1
+    ∷ Count 0 1 ∷ Lead 0 ∷ Replicate 0 1 0 1 0 ∷ Accept 1 0 0 0 (entry 1 c ∷ []) 0 ∷ Match 0 1 1 ∷ []
+
+-- then it takes another command, which node 1 gets too
+abbrev pub then_its_own : {C : Type 0} → C → C → List (Event C)
+then_its_own c d =
+    old_term c
+    ++ Propose 0 (entry 2 d) ∷ Replicate 0 1 1 1 0 ∷ Accept 1 0 1 1 (entry 2 d ∷ []) 0 ∷ Match 0 1 2 ∷ Commit 0 2 ∷ []
+
+-- an entry of an earlier term is on two of three nodes and is not committed, until one of the leader's term is
+abbrev pub OldTermWaits : Type 0 → Type 0
+OldTermWaits C =
+    (c d : C) → Happens C (old_term c) × (((after (old_term c)).node 1).log ≡ entry 1 c ∷ [])
+    × (((after (old_term c)).node 0).matched 1 ≡ 1) × IsRefusedAfter C (old_term c) (Commit 0 1)
+    × Happens C (then_its_own c d) × (((after (then_its_own c d)).node 0).commit ≡ 2)
+
+-- node 0 leads in term 1 and takes a command that reaches nobody, and crashes. Node 1 leads in term 2, by the vote of
+-- node 2, and takes another command. Node 0 starts again and is sent that one
+abbrev pub replaced : {C : Type 0} → C → C → List (Event C)
+replaced c d =
+    elected
+    ++ Propose 0 (entry 1 c) ∷ Crash 0
+    ∷ Timeout 1 ∷ Ask 1 2 ∷ Learn 2 (record { source = 1; destination = 2; term = 2; message = RequestVote 0 0 }) ∷ Grant 2 1 0 0
+    ∷ Count 1 2 ∷ Lead 1 ∷ Propose 1 (entry 2 d) ∷ Reboot 0 0 0 ∷ Replicate 1 0 0 1 0
+    ∷ Learn 0 (record { source = 1; destination = 0; term = 2; message = Append 0 0 (entry 2 d ∷ []) 0 })
+    ∷ Accept 0 1 0 0 (entry 2 d ∷ []) 0 ∷ Match 1 0 1 ∷ Commit 1 1 ∷ []
+
+-- a log that nobody else had is cut, and what replaces it is committed
+abbrev pub UncommittedIsReplaced : Type 0 → Type 0
+UncommittedIsReplaced C =
+    (c d : C) → Happens C (replaced c d)
+    × (((after (replaced c d)).node 0).log ≡ entry 2 d ∷ []) × (((after (replaced c d)).node 0).term ≡ 2)
+    × (((after (replaced c d)).node 0).role ≡ Follower) × (((after (replaced c d)).node 1).role ≡ Leader)
+    × (((after (replaced c d)).node 1).log ≡ entry 2 d ∷ []) × (((after (replaced c d)).node 1).commit ≡ 1)
+
+-- the other candidate learns by an empty Append that another leads, and says no to whoever asks
+abbrev pub steps_down : {C : Type 0} → List (Event C)
+steps_down = then_one_leads ++ Replicate 0 2 0 0 0 ∷ StepDown 2 0 0 0 [] 0 ∷ Refuse 2 1 (Vote false) ∷ []
+
+-- then it follows, and has still voted for itself
+abbrev pub CandidateStepsDown : Type 0 → Type 0
+CandidateStepsDown C =
+    Happens C steps_down × (((after {C = C} steps_down).node 2).role ≡ Follower) × (((after {C = C} steps_down).node 2).voted ≡ Some 2)
+    × IsRefusedAfter C then_one_leads (Refuse 2 1 (Vote true))
+
+-- once a command is committed in term 1, node 1 leads in term 2 by the vote of node 2
+abbrev pub later_leader : {C : Type 0} → C → List (Event C)
+later_leader c =
+    committed c
+    ++ Timeout 1 ∷ Ask 1 2 ∷ Learn 2 (record { source = 1; destination = 2; term = 2; message = RequestVote 1 1 }) ∷ Grant 2 1 1 1
+    ∷ Count 1 2 ∷ Lead 1 ∷ []
+
+-- it has the entry that was committed
+abbrev pub LaterLeaderHasIt : Type 0 → Type 0
+LaterLeaderHasIt C =
+    (c : C) → Happens C (later_leader c) × (((after (later_leader c)).node 0).commit ≡ 1)
+    × (((after (later_leader c)).node 1).role ≡ Leader) × (((after (later_leader c)).node 1).term ≡ 2)
+    × (((after (later_leader c)).node 1).log ≡ entry 1 c ∷ [])
+
+-- what may not happen once a command is committed: the leader commits or applies more than it has, proposes an entry of
+-- another term, or notes more than it has; and a node that is down starts again with a commit over what it was
+abbrev pub OverreachIsRefused : Type 0 → Type 0
+OverreachIsRefused C =
+    (c : C) → IsRefusedAfter C (committed c) (Commit 0 2) × IsRefusedAfter C (committed c) (Apply 0 2)
+    × IsRefusedAfter C (committed c) (Propose 0 (entry 2 c)) × IsRefusedAfter C (committed c) (Match 0 1 2)
+    × IsRefusedAfter C (committed c ++ Crash 1 ∷ []) (Reboot 1 2 0) × IsRefusedAfter C (committed c ++ Crash 1 ∷ []) (Timeout 1)
