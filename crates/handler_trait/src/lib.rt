@@ -4,9 +4,11 @@
 
 mod effects;
 mod handlers;
+mod rebootable;
 
 pub use effects::Effects;
 pub use handlers::{Handlers, MAX_SENDS, SPENT_MAX, STEP_COST};
+pub use rebootable::Rebootable;
 
 #[cfg(test)]
 mod tests;

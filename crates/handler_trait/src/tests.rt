@@ -1,4 +1,4 @@
-ghost use Rattle.std.specs.Prelude.{◌≡◌, ◌+◌, ◌<◌, ◌==◌, max, refl, [], ◌∷◌, IsTrue};
+ghost use Rattle.std.specs.Prelude.{◌≡◌, ◌+◌, ◌<◌, ◌==◌, max, refl, [], ◌∷◌, IsTrue, IfOk};
 ghost use Rattle.std.proofs.Common.{arith};
 ghost use Rattle.handler_trait.specs.Handling.{IsModest};
 
@@ -116,6 +116,25 @@ impl Handlers for Echo {
     ghost modest_timeout = { λ h n s below sound. record { few = Prim.omega arith; to_nodes = (below, tt); cheap = Prim.omega arith } };
 }
 
+// A node keeps its state, and is at least its number when it starts again.
+impl Rebootable for Echo {
+    type Kept = u8;
+
+    ghost recovery = { λ _. record { keep = λ s. s; reboot = λ n k. max n k } };
+
+    ghost fits = { λ _ _. Unit {0} };
+
+    fn keep(&self, _alloc: Global, state: &u8) -> Result<u8, AllocError> {
+        Ok(*state)
+    }
+
+    fn reboot(&self, _alloc: Global, node: Node, kept: u8) -> Result<u8, AllocError> {
+        Ok(node.index().max(kept))
+    }
+
+    ghost rebooted_fresh = { λ h n k below fits. refl };
+}
+
 // What the node's first events leave: an input where it takes any, a packet from itself and its timer.
 fn first_events<H: Handlers>(
     alloc: Global,
@@ -154,5 +173,31 @@ fn events_gather_their_effects(rt: HostRuntime) -> Result<(), Fail> {
     assert_eq!(rt; state, 7);
     assert_eq!(rt; effects.outputs(), [5].as_slice());
     assert_eq!(rt; effects.sends(), [(first, 7), (second, 7)].as_slice());
+    Ok(())
+}
+
+// The node's first state, stopped and started again as the other node.
+fn restarted<H: Rebootable>(
+    alloc: Global,
+    handlers: &H,
+    from: Node,
+    to: Node,
+) -> Result<H::State, AllocError>
+    requires from { from < (H.meaning handlers.now).nodes }
+    requires to { to < (H.meaning handlers.now).nodes }
+    ensures { IfOk result (λ state. state ≡ (H.recovery handlers.now).reboot to ((H.recovery handlers.now).keep ((H.meaning handlers.now).init from))) }
+{
+    let state = handlers.init(alloc, from)?;
+    let kept = handlers.keep(alloc, &state)?;
+    handlers.reboot(alloc, to, kept)
+}
+
+#[test]
+fn a_node_starts_again_from_what_was_kept(rt: HostRuntime) -> Result<(), Fail> {
+    let first = Node::new(0, Echo.nodes()).ok_or("no such node")?;
+    let second = Node::new(1, Echo.nodes()).ok_or("no such node")?;
+    assert_eq!(rt; restarted(rt.alloc(), &Echo, first, second)?, 1);
+    assert_eq!(rt; restarted(rt.alloc(), &Echo, second, first)?, 1);
+    assert_eq!(rt; restarted(rt.alloc(), &Echo, first, first)?, 0);
     Ok(())
 }

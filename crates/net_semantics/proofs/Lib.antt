@@ -2,3 +2,6 @@ pub mod Places
 pub mod Eventful
 pub mod Showing
 pub mod Taken
+pub mod Stops
+pub mod FailShowing
+pub mod FailTaken

@@ -1,7 +1,8 @@
--- Lists read, changed and joined place by place.
-use Rattle.std.proofs.Common.{◌≡◌, ◌≢◌, ℕ, zero, suc, ◌<◌, List, [], ◌∷◌, ◌++◌, length, get_or, set, Some, refl, ap, arith}
-use Rattle.std.specs.Prelude.{slice_get, IfSome}
-use Rattle.net_semantics.specs.Worlds.{change_at}
+-- Functions and lists read, changed and joined place by place.
+use Rattle.std.proofs.Common.{◌≡◌, ◌≢◌, ℕ, zero, suc, ◌<◌, List, [], ◌∷◌, ◌++◌, length, get_or, set, Some, refl, ap, arith, eqb}
+use Rattle.std.specs.Prelude.{slice_get, IfSome, true, false}
+use Rattle.std.proofs.lemmas.Bool.{eq-eqb, ne_eqb}
+use Rattle.net_semantics.specs.Worlds.{put, change_at}
 
 pub set-change_at : {X : Type 0} (f : X → X) (xs : List X) (k : ℕ) (d y : X) → k < length xs → y ≡ f (get_or xs k d) → set xs k y ≡ change_at f k xs
 set-change_at f [] k d y h e = absurd (omega arith)
@@ -52,3 +53,10 @@ pub slice_get_there : {X : Type 0} (xs : List X) (k : ℕ) → k < length xs →
 slice_get_there [] k h = absurd (omega arith)
 slice_get_there (x ∷ xs) zero h = (x, refl)
 slice_get_there (x ∷ xs) (suc k) h = slice_get_there xs k (omega arith)
+
+-- a function with a value put in one place
+pub put-there : {A : Type 0} (f : ℕ → A) (n : ℕ) (a : A) (k : ℕ) → k ≡ n → put f n a k ≡ a
+put-there f n a k e = let t : eqb k n ≡ true = eq-eqb k n e in rw t refl
+
+pub put-elsewhere : {A : Type 0} (f : ℕ → A) (n : ℕ) (a : A) (k : ℕ) → k ≢ n → put f n a k ≡ f k
+put-elsewhere f n a k ne = let t : eqb k n ≡ false = ne_eqb k n ne in rw t refl

@@ -1,9 +1,9 @@
 -- How the packets that are kept stand for a world's, as both change.
-use Rattle.std.proofs.Common.{◌≡◌, ℕ, zero, suc, ◌+◌, ◌-◌, ◌<◌, List, [], ◌∷◌, ◌++◌, length, map, Option, Some, None, refl, ap, arith, eqb, false}
+use Rattle.std.proofs.Common.{◌≡◌, ℕ, zero, suc, ◌+◌, ◌-◌, ◌<◌, List, [], ◌∷◌, ◌++◌, length, map, Option, Some, None, refl, ap, ◌∙◌, arith, eqb, false}
 use Rattle.std.proofs.lemmas.Bool.{ne_eqb}
 use Rattle.std.specs.Prelude.{◌==◌, slice_get, if◌then◌else◌}
 use Rattle.net_semantics.specs.Worlds.{Packet, change_at, one_more, one_less, sent_by, copies_of, ends_of}
-use Rattle.net_semantics.specs.Shown.{Shown, ShowsPacket, ShowsAt}
+use Rattle.net_semantics.specs.Shown.{Shown, ShowsPacket, ShowsAt, WorldView}
 use Rattle.net_semantics.specs.Kept.{kept_sent, kept_more, kept_less, kept_copies, kept_ends}
 
 abbrev pub ShowsAll : {M : Type 0} → List (Shown M) → List (Packet M) → Type 0
@@ -82,3 +82,10 @@ pub kept_within : {M : Type 0} (ps : List (Shown M)) (k : ℕ) → 0 < kept_copi
 kept_within [] k h = absurd (omega arith)
 kept_within (p ∷ ps) zero h = omega arith
 kept_within (p ∷ ps) (suc k) h = let l = kept_within ps k h in omega arith
+
+-- a view in which the step changed the states alone
+abbrev pub with_states : {H S I O M : Type 0} → WorldView H S I O M → List S → WorldView H S I O M
+with_states v states = record v { states = states; taken = v.taken + 1 }
+
+pub restarted : {H S I O M : Type 0} (v v2 : WorldView H S I O M) (states : List S) (n : ℕ) (s : S) → v ≡ v2 → states ≡ change_at (λ _. s) n v.states → with_states v states ≡ with_states v2 (change_at (λ _. s) n v2.states)
+restarted v v2 states n s e f = ap (with_states v) f ∙ ap (λ u. with_states u (change_at (λ _. s) n u.states)) e

@@ -17,15 +17,9 @@ use Rattle.net_semantics.specs.Steps.{refusal_of, input_item, delivery, after_ev
 use Rattle.net_semantics.specs.Shown.{Shown, WorldView, Shows, ShowsAt, IsSound, IsSoundPacket, IsSoundState}
 use Rattle.net_semantics.specs.Kept.{kept_sent, kept_more, kept_less, kept_copies}
 use Rattle.net_semantics.specs.Taking.{Happens, Takes}
-use Rattle.net_semantics.proofs.Places.{length-change_at, change_at-there, change_at-elsewhere, each-append, each-change_at, slice_get_there}
+use Rattle.net_semantics.proofs.Places.{put-there, put-elsewhere, length-change_at, change_at-there, change_at-elsewhere, each-append, each-change_at, slice_get_there}
 use Rattle.net_semantics.proofs.Eventful.{if_some_at, if_some_given}
 use Rattle.net_semantics.proofs.Showing.{ShowsAll, shown-append, shown_sent, shown-change_at, shown_more, shown_less, packet_of_shown}
-
-put-there : {A : Type 0} (f : ℕ → A) (n : ℕ) (a : A) (k : ℕ) → k ≡ n → put f n a k ≡ a
-put-there f n a k e = let t : eqb k n ≡ true = eq-eqb k n e in rw t refl
-
-put-elsewhere : {A : Type 0} (f : ℕ → A) (n : ℕ) (a : A) (k : ℕ) → k ≢ n → put f n a k ≡ f k
-put-elsewhere f n a k ne = let t : eqb k n ≡ false = ne_eqb k n ne in rw t refl
 
 -- each packet that a node sends is sound
 each_sent : {M : Type 0} (nodes taken n : ℕ) → n < nodes → 1 ≤ taken → (sends : List (ℕ × M)) → AreSentBelow nodes sends → (k : ℕ) → IfSome (slice_get (map (kept_sent n) sends) k) (IsSoundPacket nodes taken)
@@ -36,7 +30,7 @@ each_sent nodes taken n lt one (p ∷ ps) below (suc k) = each_sent nodes taken 
 later : {M : Type 0} (nodes taken taken2 : ℕ) → taken ≤ taken2 → (p : Shown M) → IsSoundPacket nodes taken p → IsSoundPacket nodes taken2 p
 later nodes taken taken2 le p h = record { source = h.source; destination = h.destination; copies = let l = h.copies in omega arith; content = h.content; gone = h.gone }
 
-each_later : {M : Type 0} (nodes taken taken2 : ℕ) → taken ≤ taken2 → (ps : List (Shown M)) → ((k : ℕ) → IfSome (slice_get ps k) (IsSoundPacket nodes taken)) → (k : ℕ) → IfSome (slice_get ps k) (IsSoundPacket nodes taken2)
+pub each_later : {M : Type 0} (nodes taken taken2 : ℕ) → taken ≤ taken2 → (ps : List (Shown M)) → ((k : ℕ) → IfSome (slice_get ps k) (IsSoundPacket nodes taken)) → (k : ℕ) → IfSome (slice_get ps k) (IsSoundPacket nodes taken2)
 each_later nodes taken taken2 le ps h k = IfSome_then (slice_get ps k) (h k) (λ p s. later nodes taken taken2 le p s)
 
 less_content : {M : Type 0} (n : ℕ) (o : Option M) → 0 < n → IsSome o → IsSome (if n == 0 then None else o)
@@ -45,7 +39,7 @@ less_content n o h s = let f : eqb n 0 ≡ false = ne_eqb n 0 (λ z. omega arith
 less_gone : {M : Type 0} (n : ℕ) (o : Option M) → n ≡ 0 → (if n == 0 then None else o) ≡ None
 less_gone n o z = let t : eqb n 0 ≡ true = eq-eqb n 0 z in rw t refl
 
-less_sound : {M : Type 0} (nodes taken : ℕ) (p : Shown M) → IsSoundPacket nodes taken p → IsSoundPacket nodes taken (kept_less p)
+pub less_sound : {M : Type 0} (nodes taken : ℕ) (p : Shown M) → IsSoundPacket nodes taken p → IsSoundPacket nodes taken (kept_less p)
 less_sound nodes taken p h = record {
   source = h.source;
   destination = h.destination;
@@ -109,6 +103,9 @@ module _ {H S I O M : Type 0} (m : Meaning S I O M) (sound : ℕ → S → Type 
   pub trace_shown : (w : World S S M) → Shows m.nodes v w → v2.trace ≡ v.trace ++ (input_item n input ++ map (λ o. item.Output n o) (event (w.state n)).outputs)
   trace_shown w sh = h.trace ∙ ap (λ os. v.trace ++ (input_item n input ++ map (λ o. item.Output n o) os)) (outputs_shown w sh)
 
+  pub trace_grows : length v.trace ≤ length v2.trace
+  trace_grows = let size = ap length h.trace ∙ length-append v.trace (input_item n input ++ map (λ o. item.Output n o) gathered.outputs) in omega arith
+
   was_state : IsSoundState (sound n) spent v.taken stood.0
   was_state = if_some_given (IsSoundState (sound n) spent v.taken) (slice_get v.states n) stood.0 stood.1 (h.was.states n)
 
@@ -160,6 +157,7 @@ module _ {H S I O M : Type 0} (m : Meaning S I O M) (sound : ℕ → S → Type 
       packets = packets_shown m sound spent v v2 n (Some i) (λ s. m.input n s i) gathered v.packets h w sh w.packets sh.packets;
     };
     sees = λ w sh. trace_shown m sound spent v v2 n (Some i) (λ s. m.input n s i) gathered v.packets h w sh;
+    grows = trace_grows m sound spent v v2 n (Some i) (λ s. m.input n s i) gathered v.packets h;
     counts = h.taken;
     keeps = alone n (Some i) (λ s. m.input n s i) gathered h;
   }
@@ -172,6 +170,7 @@ module _ {H S I O M : Type 0} (m : Meaning S I O M) (sound : ℕ → S → Type 
       packets = packets_shown m sound spent v v2 n None (λ s. m.timeout n s) gathered v.packets h w sh w.packets sh.packets;
     };
     sees = λ w sh. trace_shown m sound spent v v2 n None (λ s. m.timeout n s) gathered v.packets h w sh;
+    grows = trace_grows m sound spent v v2 n None (λ s. m.timeout n s) gathered v.packets h;
     counts = h.taken;
     keeps = alone n None (λ s. m.timeout n s) gathered h;
   }
@@ -202,14 +201,29 @@ module _ {H S I O M : Type 0} (m : Meaning S I O M) (sound : ℕ → S → Type 
     takes_deliver = record {
       leads = λ w sh. subst (λ o. Shows m.nodes v2 (after_event (with_packets w (change_at one_less k w.packets)) (delivery m w o))) (sym (delivered w sh)) (leads_on w sh);
       sees = λ w sh. subst (λ o. v2.trace ≡ v.trace ++ items_of_event (delivery m w o)) (sym (delivered w sh)) (trace_shown m sound spent v v2 p.destination None (λ s. m.message p.destination s p.source c) gathered (change_at kept_less k v.packets) h w sh);
+      grows = trace_grows m sound spent v v2 p.destination None (λ s. m.message p.destination s p.source c) gathered (change_at kept_less k v.packets) h;
       counts = h.taken;
       keeps = sound_after m sound spent v v2 p.destination None (λ s. m.message p.destination s p.source c) gathered (change_at kept_less k v.packets) h less_sounds (length-change_at kept_less v.packets k);
     }
 
-  module _ (k : ℕ) (copy : 0 < kept_copies (slice_get v.packets k)) (was : IsSound m sound spent v) (few : v.taken < 1000000) (states : v2.states ≡ v.states) (packets : v2.packets ≡ change_at kept_more k v.packets) (trace : v2.trace ≡ v.trace) (taken : v2.taken ≡ v.taken + 1) where
-    state_on : (j : ℕ) (s : S) → IsSoundState (sound j) spent v.taken s → IsSoundState (sound j) spent v2.taken s
-    state_on j s p = record { keeps = p.keeps; little = let a = p.little in omega arith }
+  -- a step in which no event happens: a state and a packet are as before, or sound after it
+  pub sound_quiet : IsSound m sound spent v → v.taken < 1000000 → v2.taken ≡ v.taken + 1
+      → length v2.states ≡ length v.states → ((n : ℕ) → IfSome (slice_get v2.states n) (IsSoundState (sound n) spent v2.taken))
+      → length v2.packets ≡ length v.packets → ((k : ℕ) → IfSome (slice_get v2.packets k) (IsSoundPacket m.nodes v2.taken)) → IsSound m sound spent v2
+  sound_quiet was few taken same_nodes states same_packets packets = record {
+    nodes = same_nodes ∙ was.nodes;
+    states = states;
+    packets = packets;
+    few_packets = let b = was.few_packets in omega arith;
+    few_steps = omega arith;
+  }
 
+  pub each_state_later : IsSound m sound spent v → v.taken ≤ v2.taken → v2.states ≡ v.states → (n : ℕ) → IfSome (slice_get v2.states n) (IsSoundState (sound n) spent v2.taken)
+  each_state_later was le states n =
+      subst (λ xs. IfSome (slice_get xs n) (IsSoundState (sound n) spent v2.taken)) (sym states)
+      (IfSome_then (slice_get v.states n) (was.states n) (λ (s : S) (p : IsSoundState (sound n) spent v.taken s). record { keeps = p.keeps; little = let a = p.little in omega arith }))
+
+  module _ (k : ℕ) (copy : 0 < kept_copies (slice_get v.packets k)) (was : IsSound m sound spent v) (few : v.taken < 1000000) (states : v2.states ≡ v.states) (packets : v2.packets ≡ change_at kept_more k v.packets) (trace : v2.trace ≡ v.trace) (taken : v2.taken ≡ v.taken + 1) where
     pub takes_dup : Takes m sound spent (step.Dup k) v v2
     takes_dup = record {
       leads = λ w sh. record {
@@ -218,16 +232,12 @@ module _ {H S I O M : Type 0} (m : Meaning S I O M) (sound : ℕ → S → Type 
         packets = subst (λ ps. ShowsAll ps (change_at one_more k w.packets)) (sym packets) (shown-change_at kept_more one_more (λ l. 0 < l) shown_more v.packets w.packets k copy sh.packets);
       };
       sees = λ w sh. trace ∙ sym (append-nil v.trace);
+      grows = let size = ap length trace in omega arith;
       counts = taken;
-      keeps = record {
-        nodes = ap length states ∙ was.nodes;
-        states = λ n. subst (λ xs. IfSome (slice_get xs n) (IsSoundState (sound n) spent v2.taken)) (sym states) (IfSome_then (slice_get v.states n) (was.states n) (state_on n));
-        packets = subst (λ ps. (j : ℕ) → IfSome (slice_get ps j) (IsSoundPacket m.nodes v2.taken)) (sym packets)
-            (each-change_at (IsSoundPacket m.nodes v2.taken) kept_more v.packets k (each_later m.nodes v.taken v2.taken (omega arith) v.packets was.packets)
-            (subst (λ t. IfSome (slice_get v.packets k) (λ p. IsSoundPacket m.nodes t (kept_more p))) (sym taken) (more_sound m.nodes v.taken (slice_get v.packets k) copy (was.packets k))));
-        few_packets = let a : length v2.packets ≡ length v.packets = ap length packets ∙ length-change_at kept_more v.packets k in let b = was.few_packets in omega arith;
-        few_steps = omega arith;
-      };
+      keeps = sound_quiet was few taken (ap length states) (each_state_later was (omega arith) states) (ap length packets ∙ length-change_at kept_more v.packets k)
+          (subst (λ ps. (j : ℕ) → IfSome (slice_get ps j) (IsSoundPacket m.nodes v2.taken)) (sym packets)
+          (each-change_at (IsSoundPacket m.nodes v2.taken) kept_more v.packets k (each_later m.nodes v.taken v2.taken (omega arith) v.packets was.packets)
+          (subst (λ t. IfSome (slice_get v.packets k) (λ p. IsSoundPacket m.nodes t (kept_more p))) (sym taken) (more_sound m.nodes v.taken (slice_get v.packets k) copy (was.packets k)))));
     }
 
 -- the trace after an input and its outputs

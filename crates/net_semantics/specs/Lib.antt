@@ -4,7 +4,12 @@ pub mod Runs
 pub mod Shown
 pub mod Kept
 pub mod Taking
+pub mod ShownFail
+pub mod TakingFail
 pub mod RunLaws
 pub mod Echo
 pub mod EchoLaws
 pub mod ShownLaws
+pub mod Once
+pub mod OnceLaws
+pub mod BelowPb

@@ -1,5 +1,5 @@
 -- What one step makes of a `World`, as its parts do it.
-use Rattle.std.specs.Prelude.{◌≡◌, ◌≢◌, ℕ, ◌+◌, ◌≤◌, ◌++◌, List, Result, IfSome, IfErr, OnOk, slice_get}
+use Rattle.std.specs.Prelude.{◌≡◌, ◌≢◌, ℕ, ◌+◌, ◌≤◌, ◌++◌, List, length, Result, IfSome, IfErr, OnOk, slice_get}
 use Rattle.handler_trait.specs.Handling.{Meaning, Effect}
 use Rattle.handler_trait.specs.Gathering.{Gathered}
 use Rattle.vst_base.specs.declared.step.Step.{Step}
@@ -25,6 +25,7 @@ pub record Happens {S O M : Type 0} (event : S → Effect S O M) (n : ℕ) (befo
 pub record Takes {H S I O M : Type 0} (m : Meaning S I O M) (sound : ℕ → S → Type 0) (spent : S → ℕ) (s : Step I) (before after : WorldView H S I O M) : Type 0 where
   pub leads : (w : World S S M) → Shows m.nodes before w → Shows m.nodes after (next m no_recovery w s)
   pub sees : (w : World S S M) → Shows m.nodes before w → after.trace ≡ before.trace ++ items_of m w s
+  pub grows : length before.trace ≤ length after.trace
   pub counts : after.taken ≡ before.taken + 1
   pub keeps : IsSound m sound spent after
 

@@ -4,16 +4,23 @@
 #![tactic(auto)]
 
 mod events;
+mod fail_world;
 mod packets;
 mod pins;
 mod refusals;
+mod stopped;
 mod trace;
 mod world;
 
-pub use pins::{refusals_in_order, runs_and_traces, steps_of_a_world};
+pub use fail_world::FailWorld;
+pub use pins::{
+    kept_by_place, refusals_in_order, repeats_left_out, runs_and_traces, steps_of_a_world,
+};
 pub use trace::Trace;
 pub use vst_base::{Item, Net, Node, Step, StepKind, StepRefusal};
 pub use world::{MAX_STEPS, World};
 
+#[cfg(test)]
+mod fail_tests;
 #[cfg(test)]
 mod tests;

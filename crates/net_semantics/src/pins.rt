@@ -1,6 +1,8 @@
-ghost use Rattle.std.specs.Prelude.{◌≡◌, [], ◌∷◌, true, false, Some, None};
+ghost use Rattle.std.specs.Prelude.{◌≡◌, ℕ, [], ◌∷◌, true, false, Some, None, slice_get};
 ghost use Rattle.net_semantics.specs.Worlds.{copies, ends};
 ghost use Rattle.net_semantics.specs.Runs.{trace, first_refused, machine, machine_trace, no_recovery};
+ghost use Rattle.net_semantics.specs.Once.{once};
+ghost use Rattle.net_semantics.specs.ShownFail.{kept_at};
 ghost use Rattle.net_semantics.specs.Echo.{echo, echo_recovery, echo_after, echo_refuses, adder};
 
 use vst_base::{Item, Net, Step, StepRefusal};
@@ -92,4 +94,20 @@ pub fn runs_and_traces()
     ensures machine_answers { machine_trace adder (3 ∷ 4 ∷ []) ≡ Item.Input 0 3 ∷ Item.Output 0 0 ∷ Item.Input 0 4 ∷ Item.Output 0 3 ∷ [] }
     ensures machine_as_handlers { trace (machine adder) no_recovery (Step.In 0 3 ∷ Step.In 0 4 ∷ []) ≡ machine_trace adder (3 ∷ 4 ∷ []) }
     ensures machine_alone { first_refused Net.One (machine adder) no_recovery (Step.In 0 3 ∷ Step.In 1 4 ∷ []) ≡ Some (1, StepRefusal.NoSuchNode) }
+{}
+
+/// Schedules without their repeats.
+pub fn repeats_left_out()
+    ensures copy_left_out { once {I = ℕ} (Step.In 1 5 ∷ Step.Dup 0 ∷ Step.Deliver 0 ∷ Step.Deliver 1 ∷ Step.Deliver 0 ∷ []) ≡ Step.In 1 5 ∷ Step.Deliver 0 ∷ Step.Deliver 1 ∷ [] }
+    ensures first_delivery_stays { once {I = ℕ} (Step.Deliver 0 ∷ Step.Tick 1 ∷ Step.Deliver 0 ∷ Step.Tick 2 ∷ []) ≡ Step.Deliver 0 ∷ Step.Tick 1 ∷ Step.Tick 2 ∷ [] }
+    ensures in_any_order { once {I = ℕ} (Step.In 1 5 ∷ Step.In 1 5 ∷ Step.Deliver 1 ∷ Step.Deliver 0 ∷ []) ≡ Step.In 1 5 ∷ Step.In 1 5 ∷ Step.Deliver 1 ∷ Step.Deliver 0 ∷ [] }
+    ensures others_stay { once {I = ℕ} (Step.Lose 0 ∷ Step.Lose 0 ∷ Step.Crash 1 ∷ Step.Reboot 1 ∷ Step.Tick 1 ∷ Step.Tick 1 ∷ []) ≡ Step.Lose 0 ∷ Step.Lose 0 ∷ Step.Crash 1 ∷ Step.Reboot 1 ∷ Step.Tick 1 ∷ Step.Tick 1 ∷ [] }
+    ensures no_steps { once {I = ℕ} (Step.Dup 0 ∷ Step.Dup 0 ∷ []) ≡ [] }
+{}
+
+/// What the nodes of these places have kept.
+pub fn kept_by_place()
+    ensures up { kept_at {K = ℕ} (slice_get (None ∷ Some 10 ∷ []) 0) ≡ None }
+    ensures down { kept_at {K = ℕ} (slice_get (None ∷ Some 10 ∷ []) 1) ≡ Some 10 }
+    ensures no_node { kept_at {K = ℕ} (slice_get (None ∷ Some 10 ∷ []) 2) ≡ None }
 {}

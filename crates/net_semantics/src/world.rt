@@ -1,9 +1,9 @@
-ghost use Rattle.std.specs.Prelude.{◌≡◌, ◌≢◌, ◌⊎◌, ℕ, ◌+◌, ◌<◌, [], ◌++◌, length, IsTrue, IsOk, IfOk, IfErr, OnOk, OnErr, Some, None, Ok, Err, slice_get};
-ghost use Rattle.net_semantics.specs.Worlds.{World as DefinedWorld, first_world, copies, ends};
+ghost use Rattle.std.specs.Prelude.{◌≡◌, ◌≢◌, ◌⊎◌, ℕ, ◌+◌, ◌<◌, ◌≤◌, [], ◌++◌, length, IsTrue, IsOk, IfOk, IfErr, OnOk, OnErr, Some, None, Ok, Err, slice_get};
+ghost use Rattle.net_semantics.specs.Worlds.{World as DefinedWorld, first_world, change_at, copies, ends};
 ghost use Rattle.net_semantics.specs.Steps.{next, refusal_of, items_of, IsAnswer};
 ghost use Rattle.net_semantics.specs.Runs.{no_recovery};
 ghost use Rattle.net_semantics.specs.Shown.{Shows, IsSound};
-ghost use Rattle.net_semantics.specs.Kept.{kept_copies};
+ghost use Rattle.net_semantics.specs.Kept.{kept_copies, kept_less};
 ghost use Rattle.net_semantics.specs.Taking.{Takes, Answers};
 ghost use Rattle.vst_base.specs.Nets.{has_kind};
 
@@ -87,6 +87,7 @@ impl<H: Handlers> World<H> {
             → Shows (H.meaning self.old.handlers).nodes self.new (next (H.meaning self.old.handlers) no_recovery w step.now)) }
         ensures trace { OnOk result ((w : DefinedWorld H.State H.State H.Msg) → Shows (H.meaning self.old.handlers).nodes self.old w
             → self.new.trace ≡ self.old.trace ++ items_of (H.meaning self.old.handlers) w step.now) }
+        ensures trace_grows { OnOk result (length self.old.trace ≤ length self.new.trace) }
         ensures taken { OnOk result (self.new.taken ≡ self.old.taken + 1) }
         ensures handlers { self.new.handlers ≡ self.old.handlers }
         ensures net { self.new.net ≡ self.old.net }
@@ -174,6 +175,14 @@ impl<H: Handlers> World<H> {
         requires sound { IsSound (H.meaning self.now.handlers) (H.sound self.now.handlers) (H.spent self.now.handlers) self.now }
         requires node { n < (H.meaning self.now.handlers).nodes }
         ensures { (w : DefinedWorld H.State H.State H.Msg) → Shows (H.meaning self.now.handlers).nodes self.now w → result.now ≡ w.state n }
+    {
+        self.held_state(n)
+    }
+
+    /// The state that is held for node `n`.
+    pub(crate) fn held_state(&self, n: Node) -> &H::State
+        requires { n < length self.now.states }
+        ensures { slice_get self.now.states n ≡ Some result.now }
     {
         &self.states[usize::from(n.index())]
     }
@@ -295,5 +304,40 @@ impl<H: Handlers> World<H> {
         publish(node, &mut self.effects, &mut self.trace, &mut self.packets)?;
         self.taken += 1;
         Ok(())
+    }
+}
+
+// What a network does that loses packets and restarts nodes, and that stands on this one.
+impl<H: Handlers> World<H> {
+    /// A step in which a copy of packet `k` is lost. It takes no memory.
+    pub(crate) fn lose(&mut self, k: u32) -> Result<(), StepRefusal>
+        requires { self.old.taken < 1000000 }
+        ensures copy { OnOk result (0 < kept_copies (slice_get self.old.packets k)) }
+        ensures lost { OnOk result (self.new ≡ record self.old { packets = change_at kept_less k self.old.packets; taken = self.old.taken + 1 }) }
+        ensures why { IfErr result (λ why. (why ≡ StepRefusal.NoCopy) × (kept_copies (slice_get self.old.packets k) ≡ 0)) }
+        ensures unchanged { OnErr result (self.new ≡ self.old) }
+    {
+        let place = self.packets.in_flight(k)?;
+        self.packets.take_copy(place);
+        self.taken += 1;
+        Ok(())
+    }
+
+    /// A step that changes nothing here.
+    pub(crate) fn count_step(&mut self)
+        requires { self.old.taken < 1000000 }
+        ensures { self.new ≡ record self.old { taken = self.old.taken + 1 } }
+    {
+        self.taken += 1;
+    }
+
+    /// A step in which node `n` starts again from this state.
+    pub(crate) fn restart(&mut self, n: Node, state: H::State)
+        requires node { n < length self.old.states }
+        requires steps { self.old.taken < 1000000 }
+        ensures { self.new ≡ record self.old { states = change_at (λ _. state) n self.old.states; taken = self.old.taken + 1 } }
+    {
+        self.states[usize::from(n.index())] = state;
+        self.taken += 1;
     }
 }

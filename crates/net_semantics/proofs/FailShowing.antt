@@ -1,0 +1,111 @@
+-- What a `FailWorld` shows, by what the world shows that it stands on.
+use Rattle.std.proofs.Common.{◌≡◌, ℕ, zero, suc, ◌<◌, List, [], ◌∷◌, Option, Some, None, true, false, length, refl, ap, sym, ◌∙◌, subst, inl, inr}
+use Rattle.std.specs.Prelude.{slice_get, is_none, IfSome}
+use Rattle.std.proofs.lemmas.Bool.{cases_eq, false≢true}
+use Rattle.handler_trait.specs.Handling.{Meaning, Recovery}
+use Rattle.vst_base.specs.declared.net.Net.TheVariants as net
+use Rattle.vst_base.specs.declared.step.Step.{Step}
+use Rattle.vst_base.specs.declared.step.Step.TheVariants as step
+use Rattle.vst_base.specs.Nets.{has_kind, kind_of}
+use Rattle.net_semantics.specs.Worlds.{World, Packet, put, change_at, one_less}
+use Rattle.net_semantics.specs.Steps.{next, refusal_of, items_of, acting, fails, delivery, after_event, with_packets}
+use Rattle.net_semantics.specs.Runs.{no_recovery}
+use Rattle.net_semantics.specs.Shown.{WorldView, Shows, IsSound}
+use Rattle.net_semantics.specs.ShownFail.{FailView, ShowsFail, IsSoundFail, kept_at}
+use Rattle.net_semantics.proofs.Places.{put-there, put-elsewhere, change_at-there, change_at-elsewhere, slice_get_there}
+
+-- what is shown where nodes have kept this
+abbrev pub fail_view : {H S K I O M : Type 0} → WorldView H S I O M → List (Option K) → FailView H S K I O M
+fail_view u kept = record { handlers = u.handlers; states = u.states; kept = kept; packets = u.packets; trace = u.trace; taken = u.taken }
+
+-- the world with its nodes up
+abbrev pub all_up : {S K M : Type 0} → World S K M → World S S M
+all_up w = record { state = w.state; is_up = λ _. true; kept = λ _. None; packets = w.packets }
+
+pub shows_up : {H S K I O M : Type 0} (nodes : ℕ) (u : WorldView H S I O M) (kept : List (Option K)) (w : World S K M) → ShowsFail nodes (fail_view u kept) w → Shows nodes u (all_up w)
+shows_up nodes u kept w sh = record { states = sh.states; up = λ n. refl; packets = sh.packets }
+
+pub sound_up : {H S K I O M : Type 0} (m : Meaning S I O M) (sound : ℕ → S → Type 0) (spent : S → ℕ) (fits : K → Type 0) (u : WorldView H S I O M) (kept : List (Option K)) → IsSoundFail m sound spent fits (fail_view u kept) → IsSound m sound spent u
+sound_up m sound spent fits u kept was = record {
+  nodes = was.world.nodes;
+  states = was.world.states;
+  packets = was.world.packets;
+  few_packets = was.world.few_packets;
+  few_steps = was.world.few_steps;
+}
+
+pub sound_fail : {H S K I O M : Type 0} (m : Meaning S I O M) (sound : ℕ → S → Type 0) (spent : S → ℕ) (fits : K → Type 0) (u : WorldView H S I O M) (kept : List (Option K)) → IsSound m sound spent u → length kept ≡ m.nodes → ((n : ℕ) → IfSome (kept_at (slice_get kept n)) fits) → IsSoundFail m sound spent fits (fail_view u kept)
+sound_fail m sound spent fits u kept h nodes fit = record {
+  world = record {
+    nodes = h.nodes;
+    states = h.states;
+    packets = h.packets;
+    few_packets = h.few_packets;
+    few_steps = h.few_steps;
+  };
+  nodes = nodes;
+  kept = fit;
+}
+
+-- what nodes have kept, where one of them keeps something or nothing from now on
+pub put_kept : {K X : Type 0} (g : Option K → X) (f : ℕ → X) (kept : List (Option K)) (n : ℕ) (o : Option K) → n < length kept → ((j : ℕ) → f j ≡ g (kept_at (slice_get kept j))) → (j : ℕ) → put f n (g o) j ≡ g (kept_at (slice_get (change_at (λ _. o) n kept) j))
+put_kept g f kept n o lt h j = elim (cases_eq j n) [
+  | inl e ↦ put-there f n (g o) j e ∙ ap (λ x. g (kept_at x)) (sym (ap (slice_get (change_at (λ _. o) n kept)) e ∙ (let there = slice_get_there kept n lt in change_at-there (λ _. o) kept n there.0 there.1)))
+  | inr ne ↦ put-elsewhere f n (g o) j ne ∙ (h j ∙ ap (λ x. g (kept_at x)) (sym (change_at-elsewhere (λ _. o) kept n j ne)))
+]
+
+pub each_kept : {K : Type 0} (fits : K → Type 0) (kept : List (Option K)) (n : ℕ) (o : Option K) → n < length kept → IfSome o fits → ((j : ℕ) → IfSome (kept_at (slice_get kept j)) fits) → (j : ℕ) → IfSome (kept_at (slice_get (change_at (λ _. o) n kept) j)) fits
+each_kept fits kept n o lt fit h j = elim (cases_eq j n) [
+  | inl e ↦ subst (λ x. IfSome (kept_at x) fits) (sym (ap (slice_get (change_at (λ _. o) n kept)) e ∙ (let there = slice_get_there kept n lt in change_at-there (λ _. o) kept n there.0 there.1))) fit
+  | inr ne ↦ subst (λ x. IfSome (kept_at x) fits) (sym (change_at-elsewhere (λ _. o) kept n j ne)) (h j)
+]
+
+-- a node that has kept nothing stays as it is where it keeps nothing
+pub still_nothing : {K : Type 0} (kept : List (Option K)) (n : ℕ) → kept_at (slice_get kept n) ≡ None → change_at (λ _. None) n kept ≡ kept
+still_nothing [] n h = refl
+still_nothing (x ∷ xs) zero h = ap (λ y. y ∷ xs) (sym h)
+still_nothing (x ∷ xs) (suc n) h = ap (λ ys. x ∷ ys) (still_nothing xs n h)
+
+never_down : (o : Option ℕ) → fails o (λ _. true) ≡ false
+never_down None = refl
+never_down (Some n) = refl
+
+module _ {S K I O M : Type 0} (m : Meaning S I O M) where
+  -- where the node that acts is up, the step is refused as if all were
+  pub refused_up : (w : World S K M) (s : Step I) → has_kind net.Dup (kind_of s) ≡ true → fails (acting w s) w.is_up ≡ false → refusal_of net.Fail m w s ≡ refusal_of net.Dup m (all_up w) s
+  refused_up w (step.In n i) has up = rw up refl
+  refused_up w (step.Deliver k) has up = rw (up, never_down) refl
+  refused_up w (step.Tick n) has up = rw up refl
+  refused_up w (step.Dup k) has up = refl
+  refused_up w (step.Lose k) has up = absurd (false≢true has)
+  refused_up w (step.Crash n) has up = absurd (false≢true has)
+  refused_up w (step.Reboot n) has up = absurd (false≢true has)
+
+  -- and it is seen as if all were
+  pub items_up : (w : World S K M) (s : Step I) → items_of m w s ≡ items_of m (all_up w) s
+  items_up w (step.In n i) = refl
+  items_up w (step.Deliver k) = refl
+  items_up w (step.Tick n) = refl
+  items_up w (step.Dup k) = refl
+  items_up w (step.Lose k) = refl
+  items_up w (step.Crash n) = refl
+  items_up w (step.Reboot n) = refl
+
+module _ {H S K I O M : Type 0} (m : Meaning S I O M) where
+  shows_delivery : (nodes : ℕ) (u : WorldView H S I O M) (kept : List (Option K)) (w : World S K M) (ps : List (Packet M)) (o : Option (Packet M))
+      → ((n : ℕ) → w.kept n ≡ kept_at (slice_get kept n)) → ((n : ℕ) → w.is_up n ≡ is_none (kept_at (slice_get kept n)))
+      → Shows nodes u (after_event (with_packets (all_up w) ps) (delivery m (all_up w) o)) → ShowsFail nodes (fail_view u kept) (after_event (with_packets w ps) (delivery m w o))
+  shows_delivery nodes u kept w ps None keeps up h = record { states = h.states; kept = keeps; up = up; packets = h.packets }
+  shows_delivery nodes u kept w ps (Some p) keeps up h = record { states = h.states; kept = keeps; up = up; packets = h.packets }
+
+  -- a step that changes nothing of which nodes are down leads where it leads if all are up
+  pub shows_next : (r : Recovery S K) (nodes : ℕ) (u : WorldView H S I O M) (kept : List (Option K)) (w : World S K M) (s : Step I) → has_kind net.Dup (kind_of s) ≡ true
+      → ((n : ℕ) → w.kept n ≡ kept_at (slice_get kept n)) → ((n : ℕ) → w.is_up n ≡ is_none (kept_at (slice_get kept n)))
+      → Shows nodes u (next m no_recovery (all_up w) s) → ShowsFail nodes (fail_view u kept) (next m r w s)
+  shows_next r nodes u kept w (step.In n i) has keeps up h = record { states = h.states; kept = keeps; up = up; packets = h.packets }
+  shows_next r nodes u kept w (step.Deliver k) has keeps up h = shows_delivery nodes u kept w (change_at one_less k w.packets) (slice_get w.packets k) keeps up h
+  shows_next r nodes u kept w (step.Tick n) has keeps up h = record { states = h.states; kept = keeps; up = up; packets = h.packets }
+  shows_next r nodes u kept w (step.Dup k) has keeps up h = record { states = h.states; kept = keeps; up = up; packets = h.packets }
+  shows_next r nodes u kept w (step.Lose k) has keeps up h = absurd (false≢true has)
+  shows_next r nodes u kept w (step.Crash n) has keeps up h = absurd (false≢true has)
+  shows_next r nodes u kept w (step.Reboot n) has keeps up h = absurd (false≢true has)

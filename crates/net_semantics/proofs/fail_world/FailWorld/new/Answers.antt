@@ -1,0 +1,20 @@
+use Rattle.std.proofs.Common.{sym, subst, ◌∙◌, ap}
+use Rattle.std.specs.Prelude.{is_none, IfSome}
+use Rattle.net_semantics.proofs.FailShowing.{sound_fail}
+use Rattle.net_semantics.proofs.fail_world.FailWorld.new.Goals as goal
+
+pub returns-clause-first : goal.returns-clause-first
+returns-clause-first g c =
+    let shown = c.in_ok-world.ensures.first in
+    record {
+      states = shown.states;
+      kept = λ n. sym (c.in_ok-stopped.ensures.up n);
+      up = λ n. ap is_none (sym (c.in_ok-stopped.ensures.up n));
+      packets = shown.packets;
+    }
+
+pub returns-clause-sound : goal.returns-clause-sound
+returns-clause-sound g c =
+    sound_fail (g.H.Handlers.meaning c.args.handlers) (g.H.Handlers.sound c.args.handlers) (g.H.Handlers.spent c.args.handlers) (g.H.Rebootable.fits c.args.handlers) c.in_ok-world.world c.in_ok-stopped.stopped
+    c.in_ok-world.ensures.sound (c.in_ok-stopped.ensures.nodes ∙ c.nodes-nodes.ensures)
+    (λ n. subst (λ o. IfSome o (g.H.Rebootable.fits c.args.handlers)) (sym (c.in_ok-stopped.ensures.up n)) tt)

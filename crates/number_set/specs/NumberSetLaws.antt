@@ -1,0 +1,16 @@
+-- What a set of numbers has after one more, in the words of tests on numbers.
+use Rattle.std.specs.Prelude.{◌≡◌, ℕ, false, ◌||◌, ◌==◌}
+use Rattle.std.specs.Ordering.{nat_cmp}
+use Rattle.std.specs.Cmp.{nat_cmp_total, unsigned_tied}
+use Rattle.std.specs.FinSet as set
+use Rattle.std.specs.FinSet.{FinSet, contains-empty, contains-insert}
+use Rattle.std.proofs.Common.{ap, ◌∙◌}
+
+pub contains-more : (s : FinSet nat_cmp) (k q : ℕ) → set.contains (set.insert s k) q ≡ ((q == k) || set.contains s q)
+contains-more s k q = contains-insert nat_cmp_total s k q ∙ ap (λ b. b || set.contains s q) (unsigned_tied q k)
+
+pub contains-nothing : (q : ℕ) → set.contains (set.empty {R = nat_cmp}) q ≡ false
+contains-nothing q = contains-empty nat_cmp q
+
+-- what computes a test on a written-out set
+pub ruleset set_tests = (contains-more, contains-nothing)
