@@ -1,2 +1,4 @@
+pub mod Examples
+pub mod Exclusion
 pub mod LockLaws
 pub mod Locks

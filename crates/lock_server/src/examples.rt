@@ -1,8 +1,11 @@
 ghost use Rattle.std.specs.Prelude.{◌≡◌, [], ◌∷◌, true, false};
+ghost use Rattle.net_semantics.specs.Runs.{IsAllowed, no_recovery, trace};
+ghost use Rattle.lock_server.specs.Examples.{hand_over, copied_hand_over};
+ghost use Rattle.lock_server.specs.Exclusion.{Excludes};
 ghost use Rattle.lock_server.specs.Locks.{lock_server};
 
 use crate::LockState;
-use vst_base::{LockInput, LockMsg, LockOutput};
+use vst_base::{Item, LockInput, LockMsg, LockOutput, Net};
 
 /// The rules, on a server and two clients.
 pub fn worked()
@@ -17,4 +20,23 @@ pub fn worked()
     ensures nobody_waits { (lock_server 3).message 0 (LockState.Server (2 ∷ [])) 2 LockMsg.Unlock ≡ record { state = LockState.Server []; outputs = []; sends = [] } }
     ensures nothing_to_take_back { (lock_server 3).message 0 (LockState.Server []) 2 LockMsg.Unlock ≡ record { state = LockState.Server []; outputs = []; sends = [] } }
     ensures tick { (lock_server 3).timeout 0 (LockState.Server (1 ∷ [])) ≡ record { state = LockState.Server (1 ∷ []); outputs = []; sends = [] } }
+{}
+
+/// A run on a bag on which the lock goes from one client to another, what exclusion takes and refuses, and a
+/// run on which a copied packet breaks it.
+pub fn worked_exclusion()
+    ensures allowed { IsAllowed Net.Bag (lock_server 3) no_recovery hand_over }
+    ensures handed_over { trace (lock_server 3) no_recovery hand_over ≡ Item.Input 1 LockInput.Lock ∷ Item.Input 2 LockInput.Lock ∷ Item.Output 1 LockOutput.Locked ∷ Item.Input 1 LockInput.Unlock ∷ Item.Output 2 LockOutput.Locked ∷ [] }
+
+    ensures nothing { Excludes [] }
+    ensures unlocked_between { Excludes (Item.Output 1 LockOutput.Locked ∷ Item.Input 2 LockInput.Lock ∷ Item.Input 1 LockInput.Unlock ∷ Item.Output 2 LockOutput.Locked ∷ []) }
+    ensures no_other_client { Excludes (Item.Output 1 LockOutput.Locked ∷ Item.Output 1 LockOutput.Locked ∷ []) }
+    ensures two_in_a_row { ¬ Excludes (Item.Output 1 LockOutput.Locked ∷ Item.Output 2 LockOutput.Locked ∷ []) }
+    ensures asked_between { ¬ Excludes (Item.Output 1 LockOutput.Locked ∷ Item.Input 1 LockInput.Lock ∷ Item.Output 2 LockOutput.Locked ∷ []) }
+    ensures unlocked_by_another { ¬ Excludes (Item.Output 1 LockOutput.Locked ∷ Item.Input 2 LockInput.Unlock ∷ Item.Output 2 LockOutput.Locked ∷ []) }
+    ensures unlocked_before { ¬ Excludes (Item.Input 1 LockInput.Unlock ∷ Item.Output 1 LockOutput.Locked ∷ Item.Output 2 LockOutput.Locked ∷ []) }
+    ensures unlocked_behind { ¬ Excludes (Item.Output 1 LockOutput.Locked ∷ Item.Output 2 LockOutput.Locked ∷ Item.Input 1 LockInput.Unlock ∷ []) }
+
+    ensures copied_allowed { IsAllowed Net.Dup (lock_server 3) no_recovery copied_hand_over }
+    ensures copied_breaks_it { ¬ Excludes (trace (lock_server 3) no_recovery copied_hand_over) }
 {}
