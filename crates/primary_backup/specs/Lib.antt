@@ -1,0 +1,5 @@
+pub mod Backed
+pub mod Backup
+pub mod BackupLaws
+pub mod Examples
+pub mod Followed
