@@ -11,17 +11,17 @@ use Rattle.net_semantics.specs.ShownLaws.{shows-forget}
 use Rattle.net_semantics.specs.ShownLaws as shown
 use Rattle.xform_stack.specs.Running.{RunView, HasRun}
 
-pub has_run-forget : {H S I O M : Type 0} (m : Meaning S I O M) (ss : List (Step I)) (gone : List (Item I O)) (v u : RunView H S I O M)
-    → u ≡ record v { world = record v.world { trace = [] } } → HasRun m ss gone v → HasRun m ss (gone ++ v.world.trace) u
-has_run-forget {S} m ss gone v u e ran =
-    subst (HasRun m ss (gone ++ v.world.trace)) (sym e) (record {
+pub has_run-forget : {H S I O M T : Type 0} (m : Meaning S I O M) (follows : T → Meaning S I O M → List (Step I) → Type 0) (ss : List (Step I)) (gone : List (Item I O)) (v u : RunView H S I O M T)
+    → u ≡ record v { world = record v.world { trace = [] } } → HasRun m follows ss gone v → HasRun m follows ss (gone ++ v.world.trace) u
+has_run-forget {S} m follows ss gone v u e ran =
+    subst (HasRun m follows ss (gone ++ v.world.trace)) (sym e) (record {
       shows = shows-forget m.nodes v.world _ (run m (no_recovery {S = S}) ss) refl ran.shows;
       traced = append-nil (gone ++ v.world.trace) ∙ ran.traced;
       allowed = ran.allowed;
       counted = ran.counted;
-      imaged = ran.imaged;
+      followed = ran.followed;
     })
 
-pub sound-forget : {H S I O M : Type 0} (m : Meaning S I O M) (sound : ℕ → S → Type 0) (spent : S → ℕ) (v u : RunView H S I O M)
+pub sound-forget : {H S I O M T : Type 0} (m : Meaning S I O M) (sound : ℕ → S → Type 0) (spent : S → ℕ) (v u : RunView H S I O M T)
     → u ≡ record v { world = record v.world { trace = [] } } → IsSound m sound spent v.world → IsSound m sound spent u.world
 sound-forget m sound spent v u e was = shown.sound-forget m sound spent v.world u.world (ap (λ x. x.world) e) was

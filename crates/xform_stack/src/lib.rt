@@ -2,15 +2,21 @@
 //! explains it. It knows nothing of texts.
 #![tactic(auto)]
 
-mod image;
+mod backed;
+mod laws;
 mod ran;
 mod run;
 mod running;
 
-pub use image::Image;
+pub use backed::{run_backed, run_backed_dup};
+pub use laws::numbered_lock_excludes;
 pub use ran::{Ran, RunFault};
-pub use run::run_bag;
+pub use run::{run_bag, run_dup};
 pub use running::Running;
+pub use seqnum_xform::SeqNum;
+pub use trace_maps::{Image, Itself, RepliedTo, TraceMap, WithoutRepeats};
 
+#[cfg(test)]
+mod backed_tests;
 #[cfg(test)]
 mod tests;

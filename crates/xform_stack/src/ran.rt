@@ -1,6 +1,6 @@
-use crate::Image;
 use net_semantics::Trace;
 use thiserror::Error;
+use trace_maps::Image;
 use vst_base::StepRefusal;
 
 /// What a schedule came to: what clients saw, and what explains it.

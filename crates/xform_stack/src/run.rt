@@ -1,14 +1,42 @@
-ghost use Rattle.std.specs.Prelude.{◌≡◌, ◌≤◌, length, None, OnOk, IfOk, IfErr};
-ghost use Rattle.net_semantics.specs.Runs.{first_refused, trace, no_recovery};
+ghost use Rattle.std.specs.Prelude.{◌≡◌, ◌⊎◌, ◌≤◌, length, None, OnOk, IfOk, IfErr};
+ghost use Rattle.net_semantics.specs.Once.{once};
+ghost use Rattle.net_semantics.specs.Runs.{IsAllowed, first_refused, trace, no_recovery};
+ghost use Rattle.seqnum_xform.specs.Numbering.{sequence_numbered};
 ghost use Rattle.xform_stack.specs.Running.{IsRunRefusal};
 
 use crate::{Ran, RunFault, Running};
 use handler_trait::Handlers;
+use seqnum_xform::{SeqNum, repeats_do_nothing};
 use std::alloc::Global;
+use trace_maps::{Itself, TraceMap, WithoutRepeats};
 use vst_base::{Net, Step};
 
+// Runs a schedule of handlers on a network, with its image by a map.
+pub(crate) fn run_on<H: Handlers, T: TraceMap<H>>(
+    alloc: Global,
+    handlers: H,
+    net: Net,
+    steps: &[Step<H::Input>],
+) -> Result<Ran<H::Input, H::Output, Step<H::Input>>, RunFault>
+    requires net { (net ≡ Net.Bag) ⊎ (net ≡ Net.Dup) }
+    requires few { length steps.now ≤ 1000000 }
+    ensures allowed { OnOk result (first_refused net (H.meaning handlers) no_recovery steps.now ≡ None) }
+    ensures trace { IfOk result (λ ran. ran.trace ≡ trace (H.meaning handlers) no_recovery steps.now) }
+    ensures image { IfOk result (λ ran. ran.image ≡ T.image_of (H.meaning handlers) steps.now) }
+    ensures refused { IfErr result (λ why. IsRunRefusal why (first_refused net (H.meaning handlers) no_recovery steps.now)) }
+{
+    let mut running = match Running::<H, T>::new(alloc, handlers, net) {
+        Ok(running) => running,
+        Err(_) => return Err(RunFault::Memory),
+    };
+    for step in steps {
+        running.step(step)?;
+    }
+    running.finish()
+}
+
 /// Runs a schedule of handlers on a bag: the trace, and the schedule itself as its image. The first step that
-/// the network refuses is answered with its place.
+/// the network refuses is answered with its place, the number of steps before it.
 pub fn run_bag<H: Handlers>(
     alloc: Global,
     handlers: H,
@@ -20,12 +48,25 @@ pub fn run_bag<H: Handlers>(
     ensures image { IfOk result (λ ran. ran.image ≡ steps.now) }
     ensures refused { IfErr result (λ why. IsRunRefusal why (first_refused Net.Bag (H.meaning handlers) no_recovery steps.now)) }
 {
-    let mut running = match Running::bag(alloc, handlers) {
-        Ok(running) => running,
-        Err(_) => return Err(RunFault::Memory),
-    };
-    for step in steps {
-        running.step(step)?;
-    }
-    running.finish()
+    run_on::<H, Itself<H::Input>>(alloc, handlers, Net::Bag, steps)
+}
+
+/// Runs a schedule of handlers, with their packets numbered, on a network that copies packets: the trace, and the schedule
+/// without its repeats as its image. A bag allows the image for the handlers themselves, whose trace under it is the same. The
+/// first step that the network refuses is answered with its place, the number of steps before it.
+pub fn run_dup<H: Handlers>(
+    alloc: Global,
+    handlers: H,
+    steps: &[Step<H::Input>],
+) -> Result<Ran<H::Input, H::Output, Step<H::Input>>, RunFault>
+    requires { length steps.now ≤ 1000000 }
+    ensures allowed { OnOk result (first_refused Net.Dup (sequence_numbered (H.meaning handlers)) no_recovery steps.now ≡ None) }
+    ensures trace { IfOk result (λ ran. ran.trace ≡ trace (sequence_numbered (H.meaning handlers)) no_recovery steps.now) }
+    ensures image { IfOk result (λ ran. ran.image ≡ once steps.now) }
+    ensures image_allowed { IfOk result (λ ran. IsAllowed Net.Bag (H.meaning handlers) (no_recovery {S = H.State}) ran.image) }
+    ensures same_under_image { IfOk result (λ ran. ran.trace ≡ trace (H.meaning handlers) (no_recovery {S = H.State}) ran.image) }
+    ensures refused { IfErr result (λ why. IsRunRefusal why (first_refused Net.Dup (sequence_numbered (H.meaning handlers)) no_recovery steps.now)) }
+{
+    repeats_do_nothing::<H>();
+    run_on::<SeqNum<H>, WithoutRepeats<H::Input>>(alloc, SeqNum::new(handlers), Net::Dup, steps)
 }

@@ -1,5 +1,6 @@
-ghost use Rattle.std.specs.Prelude.{◌≡◌, ◌≢◌, ℕ, ◌+◌, ◌<◌, List, [], ◌∷◌, ◌++◌, length, IfOk, IfErr, OnOk, OnErr};
-ghost use Rattle.net_semantics.specs.Steps.{refusal_of};
+ghost use Rattle.std.specs.Prelude.{◌≡◌, ◌≢◌, ◌⊎◌, ℕ, ◌+◌, ◌<◌, ◌≤◌, drop, List, [], ◌∷◌, ◌++◌, length, IfOk, IfErr, OnOk, OnErr};
+ghost use Rattle.handler_trait.specs.Handling.{Meaning};
+ghost use Rattle.net_semantics.specs.Steps.{items_of, refusal_of};
 ghost use Rattle.net_semantics.specs.Runs.{run, no_recovery};
 ghost use Rattle.net_semantics.specs.Shown.{IsSound, Shows};
 ghost use Rattle.net_semantics.specs.Worlds.{World as DefinedWorld, copies, ends};
@@ -7,61 +8,61 @@ ghost use Rattle.vst_base.specs.declared.step.Step.{Step};
 ghost use Rattle.vst_base.specs.declared.step.Item.{Item};
 ghost use Rattle.xform_stack.specs.Running.{HasRun, IsRunAnswer};
 
-use crate::{Image, Ran, RunFault};
+use crate::{Ran, RunFault};
 use handler_trait::Handlers;
 use net_semantics::{Trace, World};
 use std::alloc::{AllocError, Global};
 use std::marker::Model;
-use vst_base::{Net, Node, Step, StepRefusal};
+use trace_maps::TraceMap;
+use vst_base::{Item, Net, Node, Step, StepRefusal};
 
-/// A schedule that is run one step at a time: the world so far, and the image of the steps so far.
+/// A schedule that is run one step at a time: the world so far, and the map to the image of the steps so far.
 #[derive(Drop)]
-pub struct Running<H: Handlers> {
+pub struct Running<H: Handlers, T: TraceMap<H>> {
     alloc: Global,
     world: World<H>,
-    image: Image<Step<H::Input>>,
+    map: T,
 }
 
-impl<H: Handlers> Model for Running<H> {
+impl<H: Handlers, T: TraceMap<H>> Model for Running<H, T> {
     ghost use Rattle.xform_stack.specs.Running.{RunView};
 
-    ghost Value = { RunView H H.State H.Input H.Output H.Msg };
+    ghost Value = { RunView H H.State H.Input H.Output H.Msg T };
 
-    ghost view = { λ r. record { world = r.world; image = r.image } };
+    ghost view = { λ r. record { world = r.world; map = r.map } };
 }
 
-// An equal step.
-fn copy_step<H: Handlers>(
+// Follows a step that was taken, of which clients saw what stands behind the first `before` items.
+fn follow<H: Handlers, T: TraceMap<H>>(
     alloc: Global,
     handlers: &H,
+    map: &mut T,
     step: &Step<H::Input>,
-) -> Result<Step<H::Input>, AllocError>
-    ensures { IfOk result (λ copy. copy ≡ step.now) }
+    items: &[Item<H::Input, H::Output>],
+    before: usize,
+) -> Result<(), AllocError>
+    requires { before ≤ length items.now }
+    ensures { OnOk result ((ss : List (Step H.Input)) → T.has_followed map.old (H.meaning handlers.now) ss
+        → drop before items.now ≡ items_of (H.meaning handlers.now) (run (H.meaning handlers.now) (no_recovery {S = H.State}) ss) step.now
+        → T.has_followed map.new (H.meaning handlers.now) (ss ++ step.now ∷ [])) }
 {
-    match step {
-        Step::In(n, input) => Ok(Step::In(*n, handlers.copy_input(alloc, input)?)),
-        Step::Deliver(k) => Ok(Step::Deliver(*k)),
-        Step::Tick(n) => Ok(Step::Tick(*n)),
-        Step::Dup(k) => Ok(Step::Dup(*k)),
-        Step::Lose(k) => Ok(Step::Lose(*k)),
-        Step::Crash(n) => Ok(Step::Crash(*n)),
-        Step::Reboot(n) => Ok(Step::Reboot(*n)),
-    }
+    map.follow(alloc, handlers, step, &items[before..])
 }
 
-impl<H: Handlers> Running<H> {
-    /// No step yet of these handlers on a bag. The image is the schedule itself.
-    pub fn bag(alloc: Global, handlers: H) -> Result<Self, AllocError>
+impl<H: Handlers, T: TraceMap<H>> Running<H, T> {
+    /// No step yet of these handlers on a bag, or on a network that copies packets too.
+    pub fn new(alloc: Global, handlers: H, net: Net) -> Result<Self, AllocError>
+        requires { (net ≡ Net.Bag) ⊎ (net ≡ Net.Dup) }
         ensures handlers { IfOk result (λ running. running.world.handlers ≡ handlers) }
-        ensures net { IfOk result (λ running. running.world.net ≡ Net.Bag) }
-        ensures started { IfOk result (λ running. HasRun (H.meaning handlers) [] [] running) }
+        ensures net { IfOk result (λ running. running.world.net ≡ net) }
+        ensures started { IfOk result (λ running. HasRun (H.meaning handlers) T.has_followed [] [] running) }
         ensures sound { IfOk result (λ running. IsSound (H.meaning handlers) (H.sound handlers) (H.spent handlers) running.world) }
     {
-        let world = World::new(alloc, handlers, Net::Bag)?;
+        let world = World::new(alloc, handlers, net)?;
         Ok(Running {
             alloc,
             world,
-            image: Image::new(alloc),
+            map: T::start(alloc),
         })
     }
 
@@ -70,29 +71,35 @@ impl<H: Handlers> Running<H> {
     pub fn step(&mut self, step: &Step<H::Input>) -> Result<(), RunFault>
         requires sound { IsSound (H.meaning self.old.world.handlers) (H.sound self.old.world.handlers) (H.spent self.old.world.handlers) self.old.world }
         requires steps { self.old.world.taken < 1000000 }
-        ensures refused { (ss : List (Step H.Input)) (gone : List (Item H.Input H.Output)) → HasRun (H.meaning self.old.world.handlers) ss gone self.old
+        ensures refused { (ss : List (Step H.Input)) (gone : List (Item H.Input H.Output)) → HasRun (H.meaning self.old.world.handlers) T.has_followed ss gone self.old
             → IsRunAnswer result (refusal_of self.old.world.net (H.meaning self.old.world.handlers) (run (H.meaning self.old.world.handlers) no_recovery ss) step.now) (length ss) }
         ensures unchanged { IfErr result (λ why. why ≢ RunFault.Memory → self.new ≡ self.old) }
-        ensures next { OnOk result ((ss : List (Step H.Input)) (gone : List (Item H.Input H.Output)) → HasRun (H.meaning self.old.world.handlers) ss gone self.old
-            → HasRun (H.meaning self.old.world.handlers) (ss ++ step.now ∷ []) gone self.new) }
+        ensures next { OnOk result ((ss : List (Step H.Input)) (gone : List (Item H.Input H.Output)) → HasRun (H.meaning self.old.world.handlers) T.has_followed ss gone self.old
+            → HasRun (H.meaning self.old.world.handlers) T.has_followed (ss ++ step.now ∷ []) gone self.new) }
         ensures handlers { self.new.world.handlers ≡ self.old.world.handlers }
         ensures net { self.new.world.net ≡ self.old.world.net }
         ensures taken { OnOk result (self.new.world.taken ≡ self.old.world.taken + 1) }
         ensures sound { OnOk result (IsSound (H.meaning self.old.world.handlers) (H.sound self.old.world.handlers) (H.spent self.old.world.handlers) self.new.world) }
     {
         let place = self.world.taken();
+        let before = self.world.trace().items().len();
         match self.world.step(step) {
             Ok(()) => {}
             Err(StepRefusal::Memory) => return Err(RunFault::Memory),
             Err(why) => return Err(RunFault::Step(why, place)),
         }
-        let copy = match copy_step(self.alloc, self.world.handlers(), step) {
-            Ok(copy) => copy,
-            Err(AllocError) => return Err(RunFault::Memory),
-        };
-        if self.image.push(copy).is_err() {
+        let items = self.world.trace().items();
+        let followed = follow(
+            self.alloc,
+            self.world.handlers(),
+            &mut self.map,
+            step,
+            items,
+            before,
+        );
+        let Ok(()) = followed else {
             return Err(RunFault::Memory);
-        }
+        };
         Ok(())
     }
 
@@ -110,11 +117,11 @@ impl<H: Handlers> Running<H> {
         self.world.forget_trace();
     }
 
-    /// The image so far: the steps that were taken, in order.
-    pub fn steps(&self) -> &[Step<H::Input>]
-        ensures { result.now ≡ self.now.image }
+    /// The image of the steps so far.
+    pub fn image(&self) -> &[Step<H::Input>]
+        ensures { (m : Meaning H.State H.Input H.Output H.Msg) (ss : List (Step H.Input)) → T.has_followed self.now.map m ss → result.now ≡ T.image_of m ss }
     {
-        self.image.lines()
+        self.map.steps()
     }
 
     /// How many steps were taken.
@@ -156,12 +163,12 @@ impl<H: Handlers> Running<H> {
     /// What clients saw since it was last let go, and the image of the steps so far.
     pub fn finish(self) -> Result<Ran<H::Input, H::Output, Step<H::Input>>, RunFault>
         ensures trace { IfOk result (λ ran. ran.trace ≡ self.world.trace) }
-        ensures image { IfOk result (λ ran. ran.image ≡ self.image) }
+        ensures image { IfOk result (λ ran. (m : Meaning H.State H.Input H.Output H.Msg) (ss : List (Step H.Input)) → T.has_followed self.map m ss → ran.image ≡ T.image_of m ss) }
         ensures memory { IfErr result (λ why. why ≡ RunFault.Memory) }
     {
         Ok(Ran {
             trace: self.world.into_trace(),
-            image: self.image,
+            image: self.map.into_image(),
         })
     }
 }

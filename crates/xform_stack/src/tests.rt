@@ -1,118 +1,67 @@
-ghost use Rattle.std.specs.Prelude.{[], ◌∷◌, true, refl};
-ghost use Rattle.std.proofs.Common.{lit≤};
-
 use super::*;
-use handler_trait::{Effects, Handlers};
-use std::alloc::{AllocError, Global};
+use lock_server::LockServer;
 use std::test::Fail;
-use vst_base::{Item, Node, Step};
-
-// One node, which says back what it is given.
-#[derive(Drop)]
-struct Parrot;
-
-impl Handlers for Parrot {
-    type State = ();
-
-    type Input = u8;
-
-    type Output = u8;
-
-    type Msg = ();
-
-    ghost meaning = { λ _. record {
-      nodes = 1;
-      takes_input = λ _. true;
-      init = λ _. tt;
-      input = λ _ s i. record { state = s; outputs = i ∷ []; sends = [] };
-      message = λ _ s _ _. record { state = s; outputs = []; sends = [] };
-      timeout = λ _ s. record { state = s; outputs = []; sends = [] };
-    } };
-
-    ghost sound = { λ _ _ _. Unit {0} };
-
-    ghost spent = { λ _ _. 0 };
-
-    fn nodes(&self) -> u8 {
-        1
-    }
-
-    fn takes_input(&self, _node: Node) -> bool {
-        true
-    }
-
-    fn copy_input(&self, _alloc: Global, input: &u8) -> Result<u8, AllocError> {
-        Ok(*input)
-    }
-
-    fn init(&self, _alloc: Global, _node: Node) -> Result<(), AllocError> {
-        Ok(())
-    }
-
-    fn input(
-        &self,
-        _alloc: Global,
-        _node: Node,
-        _state: &mut (),
-        input: &u8,
-        effects: &mut Effects<u8, ()>,
-    ) -> Result<(), AllocError> {
-        effects.output(*input)
-    }
-
-    fn message(
-        &self,
-        _alloc: Global,
-        _node: Node,
-        _state: &mut (),
-        _from: Node,
-        _message: &(),
-        _effects: &mut Effects<u8, ()>,
-    ) -> Result<(), AllocError> {
-        Ok(())
-    }
-
-    fn timeout(
-        &self,
-        _alloc: Global,
-        _node: Node,
-        _state: &mut (),
-        _effects: &mut Effects<u8, ()>,
-    ) -> Result<(), AllocError> {
-        Ok(())
-    }
-
-    ghost fresh = { λ _ _ _. refl };
-
-    ghost modest_input = { λ _ _ _ _ _ _ _. record { few = lit≤ tt; to_nodes = tt; cheap = lit≤ tt } };
-
-    ghost modest_message = { λ _ _ _ _ _ _ _ _. record { few = lit≤ tt; to_nodes = tt; cheap = lit≤ tt } };
-
-    ghost modest_timeout = { λ _ _ _ _ _. record { few = lit≤ tt; to_nodes = tt; cheap = lit≤ tt } };
-}
+use trace_maps::once;
+use vst_base::{Item, LockInput, LockOutput, Net, Node, Step, StepRefusal};
 
 #[test]
 fn a_forgotten_trace_begins_anew(rt: HostRuntime) -> Result<(), Fail> {
-    let mut running = Running::bag(rt.alloc(), Parrot)?;
-    running.step(&Step::In(0, 5))?;
-    assert_eq!(rt; running.trace().items().len(), 2);
+    let server = LockServer::new(2);
+    let mut running = Running::<LockServer, Itself<LockInput>>::new(rt.alloc(), server, Net::Bag)?;
+    running.step(&Step::In(1, LockInput::Lock))?;
+    assert_eq!(rt; running.trace().items().len(), 1);
     running.forget_trace();
     assert_eq!(rt; running.trace().items().len(), 0);
-    running.step(&Step::In(0, 7))?;
-    let node = Node::new(0, 1).unwrap();
-    let seen = [Item::Input(node, 7), Item::Output(node, 7)];
+    running.step(&Step::Deliver(0))?;
+    running.step(&Step::Deliver(1))?;
+    let client = Node::new(1, 2).unwrap();
+    let seen = [Item::Output(client, LockOutput::Locked)];
     assert_eq!(rt; running.trace().items(), seen.as_slice());
+    assert_eq!(rt; running.taken(), 3);
+    let steps = [
+        Step::In(1, LockInput::Lock),
+        Step::Deliver(0),
+        Step::Deliver(1),
+    ];
+    assert_eq!(rt; running.image(), steps.as_slice());
     Ok(())
 }
 
 #[test]
-fn the_steps_so_far_outlast_a_forgotten_trace(rt: HostRuntime) -> Result<(), Fail> {
-    let mut running = Running::bag(rt.alloc(), Parrot)?;
-    running.step(&Step::In(0, 5))?;
-    running.forget_trace();
-    running.step(&Step::Tick(0))?;
-    assert_eq!(rt; running.taken(), 2);
-    let steps = [Step::In(0, 5), Step::Tick(0)];
-    assert_eq!(rt; running.steps(), steps.as_slice());
+fn a_copy_of_a_numbered_packet_does_nothing(rt: HostRuntime) -> Result<(), Fail> {
+    let steps = [
+        Step::In(1, LockInput::Lock),
+        Step::Dup(0),
+        Step::Deliver(0),
+        Step::Deliver(1),
+        Step::Deliver(0),
+    ];
+    let ran = run_dup(rt.alloc(), LockServer::new(2), &steps)?;
+    let client = Node::new(1, 2).unwrap();
+    let seen = [
+        Item::Input(client, LockInput::Lock),
+        Item::Output(client, LockOutput::Locked),
+    ];
+    assert_eq!(rt; ran.trace.items(), seen.as_slice());
+    let image = [
+        Step::In(1, LockInput::Lock),
+        Step::Deliver(0),
+        Step::Deliver(1),
+    ];
+    assert_eq!(rt; ran.image.lines(), image.as_slice());
+    let left = once(rt.alloc(), &LockServer::new(2), &steps)?;
+    assert_eq!(rt; left.as_slice(), image.as_slice());
+    let again = run_bag(rt.alloc(), LockServer::new(2), &left)?;
+    assert_eq!(rt; again.trace.items(), seen.as_slice());
+    Ok(())
+}
+
+#[test]
+fn a_refused_step_is_named_with_its_place(rt: HostRuntime) -> Result<(), Fail> {
+    let steps = [Step::In(1, LockInput::Lock), Step::Dup(0), Step::Lose(0)];
+    let on_dup = run_dup(rt.alloc(), LockServer::new(2), &steps).err();
+    assert_eq!(rt; on_dup, Some(RunFault::Step(StepRefusal::NotThisNet, 2)));
+    let on_bag = run_bag(rt.alloc(), LockServer::new(2), &steps).err();
+    assert_eq!(rt; on_bag, Some(RunFault::Step(StepRefusal::NotThisNet, 1)));
     Ok(())
 }

@@ -1,4 +1,4 @@
-ghost use Rattle.std.specs.Prelude.{◌≡◌, [], ◌∷◌, ◌++◌, OnOk, OnErr};
+ghost use Rattle.std.specs.Prelude.{◌≡◌, [], ◌∷◌, ◌++◌, take, OnOk, OnErr};
 
 use std::alloc::{AllocError, Global};
 use std::marker::Model;
@@ -32,6 +32,20 @@ impl<G: Drop> Image<G> {
         ensures { result.now ≡ self.now }
     {
         &self.lines
+    }
+
+    /// Gives up the image for its lines.
+    pub fn into_lines(self) -> Vec<G>
+        ensures { result.items ≡ self }
+    {
+        self.lines
+    }
+
+    /// Drops the lines from the nth on, counted from 0.
+    pub fn truncate(&mut self, n: usize)
+        ensures { self.new ≡ take n self.old }
+    {
+        self.lines.truncate(n);
     }
 
     /// Adds a line at the end.

@@ -1,0 +1,89 @@
+ghost use Rattle.std.specs.Prelude.{max};
+
+use super::*;
+use net_semantics::Trace;
+use std::alloc::{AllocError, Global};
+use std::test::Fail;
+use vst_base::{Item, Machine, Node, PbOut, Step};
+
+// A machine that keeps the greatest command, and answers with the greatest before.
+#[derive(Drop)]
+struct Greatest;
+
+impl Machine for Greatest {
+    type State = u8;
+
+    type Cmd = u8;
+
+    type Out = u8;
+
+    ghost meaning = { λ _. record { init = 0; apply = λ s c. (max s c, s) } };
+
+    fn init(&self, _alloc: Global) -> Result<u8, AllocError> {
+        Ok(0)
+    }
+
+    fn apply(&self, _alloc: Global, state: &mut u8, cmd: &u8) -> Result<u8, AllocError> {
+        let before = *state;
+        *state = before.max(*cmd);
+        Ok(before)
+    }
+
+    fn copy_cmd(&self, _alloc: Global, cmd: &u8) -> Result<u8, AllocError> {
+        Ok(*cmd)
+    }
+
+    fn copy_out(&self, _alloc: Global, out: &u8) -> Result<u8, AllocError> {
+        Ok(*out)
+    }
+}
+
+// Two commands at the primary, of which the first is answered, and one at the backup.
+fn is_seen(trace: &Trace<u8, PbOut<u8>>) -> bool {
+    let primary = Node::new(0, 2).unwrap();
+    let backup = Node::new(1, 2).unwrap();
+    let seen = [
+        Item::Input(primary, 5),
+        Item::Input(backup, 4),
+        Item::Output(backup, PbOut::Redirect),
+        Item::Output(primary, PbOut::Reply(0)),
+        Item::Input(primary, 7),
+    ];
+    trace.items() == seen.as_slice()
+}
+
+#[test]
+fn the_image_has_the_commands_that_were_answered(rt: HostRuntime) -> Result<(), Fail> {
+    let steps = [
+        Step::In(0, 5),
+        Step::Deliver(0),
+        Step::In(1, 4),
+        Step::Deliver(1),
+        Step::In(0, 7),
+    ];
+    let ran = run_backed(rt.alloc(), Greatest, &steps)?;
+    assert!(rt; is_seen(&ran.trace));
+    let image = [Step::In(0, 5)];
+    assert_eq!(rt; ran.image.lines(), image.as_slice());
+    Ok(())
+}
+
+#[test]
+fn copies_of_numbered_packets_change_nothing_below(rt: HostRuntime) -> Result<(), Fail> {
+    let steps = [
+        Step::In(0, 5),
+        Step::Dup(0),
+        Step::Deliver(0),
+        Step::Deliver(0),
+        Step::In(1, 4),
+        Step::Dup(1),
+        Step::Deliver(1),
+        Step::Deliver(1),
+        Step::In(0, 7),
+    ];
+    let ran = run_backed_dup(rt.alloc(), Greatest, &steps)?;
+    assert!(rt; is_seen(&ran.trace));
+    let image = [Step::In(0, 5)];
+    assert_eq!(rt; ran.image.lines(), image.as_slice());
+    Ok(())
+}
