@@ -1,3 +1,11 @@
+pub mod KvTextLaws
+pub mod KvTexts
 pub mod LockTextLaws
 pub mod LockTexts
+pub mod PbTextLaws
+pub mod PbTexts
+pub mod Printing
+pub mod Reads
 pub mod Spelling
+pub mod WordLaws
+pub mod Words

@@ -3,11 +3,23 @@
 #![tactic(auto)]
 
 mod examples;
+mod kv_commands;
+mod kv_examples;
+mod kv_outputs;
+mod kv_text;
 mod lock_text;
+mod optional;
+mod pb_text;
+mod printing;
 mod text;
+mod word;
+mod words;
 
 pub use examples::worked;
+pub use kv_examples::{worked_commands, worked_outputs};
+pub use kv_text::KvText;
 pub use lock_text::LockText;
+pub use pb_text::{KvPbText, MachineText, PbText};
 pub use text::{AppText, TextFault};
 
 #[cfg(test)]

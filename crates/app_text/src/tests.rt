@@ -61,3 +61,73 @@ fn texts_of_no_value_are_told(rt: HostRuntime) -> Result<(), Fail> {
     }
     Ok(())
 }
+
+fn refuses_input<T: AppText>(alloc: Global, text: &[u8]) -> bool {
+    matches!(T::read_input(alloc, text), Err(TextFault::NotText))
+}
+
+fn refuses_output<T: AppText>(alloc: Global, text: &[u8]) -> bool {
+    matches!(T::read_output(alloc, text), Err(TextFault::NotText))
+}
+
+#[test]
+fn each_text_of_the_key_value_machine_has_a_neighbour_that_is_none(
+    rt: HostRuntime,
+) -> Result<(), Fail> {
+    for (text, neighbour) in [
+        (b"get a".as_slice(), b"get ".as_slice()),
+        (b"put a x".as_slice(), b"put a  x".as_slice()),
+        (b"put - =".as_slice(), b"put - = ".as_slice()),
+        (b"del a".as_slice(), b"del a\x7f".as_slice()),
+        (b"cas a - x".as_slice(), b"cas a = x".as_slice()),
+        (b"cas a =y x".as_slice(), b"cas a y x".as_slice()),
+        (b"cad a x".as_slice(), b"cad a x y".as_slice()),
+    ] {
+        assert_eq!(rt; input_again::<KvPbText>(rt.alloc(), text)?.as_slice(), text);
+        assert!(rt;
+            refuses_input::<KvPbText>(rt.alloc(), neighbour),
+            "{neighbour:?}"
+        );
+    }
+    for (text, neighbour) in [
+        (b"a - -".as_slice(), b"a -".as_slice()),
+        (b"a =x -".as_slice(), b"a = -".as_slice()),
+        (b"a - =x".as_slice(), b"a - x".as_slice()),
+        (b"a =x =y".as_slice(), b"a =x =y ".as_slice()),
+        (b"redirect".as_slice(), b"redirec".as_slice()),
+    ] {
+        assert_eq!(rt;
+            output_again::<KvPbText>(rt.alloc(), text)?.as_slice(),
+            text
+        );
+        assert!(rt;
+            refuses_output::<KvPbText>(rt.alloc(), neighbour),
+            "{neighbour:?}"
+        );
+    }
+    assert!(rt; refuses_output::<KvText>(rt.alloc(), b"redirect"));
+    Ok(())
+}
+
+// The front, and so many bytes behind it.
+fn filled(alloc: Global, front: &[u8], n: usize) -> Result<Vec<u8>, Fail> {
+    let mut text = front.to_vec(alloc)?;
+    for _ in 0..n {
+        text.push(b'a')?;
+    }
+    Ok(text)
+}
+
+#[test]
+fn keys_and_values_end_at_their_borders(rt: HostRuntime) -> Result<(), Fail> {
+    for (front, n, is_text) in [
+        (b"get ".as_slice(), 64, true),
+        (b"get ".as_slice(), 65, false),
+        (b"put a ".as_slice(), 1024, true),
+        (b"put a ".as_slice(), 1025, false),
+    ] {
+        let text = filled(rt.alloc(), front, n)?;
+        assert_eq!(rt; !refuses_input::<KvText>(rt.alloc(), &text), is_text, "{n}");
+    }
+    Ok(())
+}

@@ -1,5 +1,6 @@
 ghost use Rattle.std.specs.Prelude.{◌≡◌, ◌↔◌, ℕ, List, ◌++◌, Option, None, Some, IfOk, OnOk, OnErr, IsErrOf};
 ghost use Rattle.app_text.specs.Spelling.{IsSpelling};
+ghost use Rattle.app_text.specs.declared.text.TextFault.TheVariants.{Memory};
 
 use std::alloc::{AllocError, Global};
 use thiserror::Error;
@@ -13,6 +14,14 @@ pub enum TextFault {
     /// Want of memory.
     #[error("out of memory")]
     Memory,
+}
+
+impl From<AllocError> for TextFault {
+    ghost from_gives = { λ _ fault. fault ≡ Memory };
+
+    fn from(_: AllocError) -> Self {
+        TextFault::Memory
+    }
 }
 
 /// The texts of an application's inputs and outputs, as bytes.
