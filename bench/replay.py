@@ -4,13 +4,15 @@
 Makes schedules of the lock server on three nodes, runs PROGRAM (crates/vst/out/vst unless given) on each, checks
 what it answers, and prints the times, their ratio and the peak memory. Exits 1 where an answer is wrong.
 
-One round is five events and three packets. The clients 1 and 2 take turns:
+One round of `lock` is five events and three packets. The clients 1 and 2 take turns:
 
     in c lock        packet k goes to the server
     deliver k        the server hands the lock over: packet k + 1 goes to c
     deliver k + 1    c is told `locked`
     in c unlock      packet k + 2 goes to the server
     deliver k + 2    nobody waits
+
+A round of `lock/seq` has two events more: packet k is copied, and its copy comes too, which the image leaves out.
 """
 import os
 import subprocess
@@ -20,36 +22,57 @@ import time
 
 SIZES = (100_000, 1_000_000)
 RUNS = 3
-HEADER = "schedule 1 bag lock 3"
 
 
-def events(count):
-    """The first `count` event lines, each with the number of trace lines that it makes."""
+def lock_round(client, packet):
+    """The lines of a round, each with the number of trace lines that it makes and whether it stands in the image."""
+    return (
+        (f"in {client} lock", 1, True),
+        (f"deliver {packet}", 0, True),
+        (f"deliver {packet + 1}", 1, True),
+        (f"in {client} unlock", 1, True),
+        (f"deliver {packet + 2}", 0, True),
+    )
+
+
+def copied_round(client, packet):
+    """The same, with a copy of the first packet that comes behind the answer."""
+    asked, taken, *rest = lock_round(client, packet)
+    return (asked, (f"dup {packet}", 0, False), taken, (f"deliver {packet}", 0, False), *rest)
+
+
+# The header of the schedule, that of its image, and a round.
+STACKS = {
+    "lock": ("schedule 1 bag lock 3", "schedule 1 bag lock 3", lock_round),
+    "lock/seq": ("schedule 1 dup lock/seq 3", "schedule 1 bag lock 3", copied_round),
+}
+
+
+def events(one_round, count):
+    """The first `count` event lines of rounds."""
     made, packet, client = 0, 0, 1
     while made < count:
-        for line, seen in (
-            (f"in {client} lock", 1),
-            (f"deliver {packet}", 0),
-            (f"deliver {packet + 1}", 1),
-            (f"in {client} unlock", 1),
-            (f"deliver {packet + 2}", 0),
-        ):
+        for event in one_round(client, packet):
             if made == count:
                 return
-            yield line, seen
+            yield event
             made += 1
         packet += 3
         client = 3 - client
 
 
-def write_schedule(path, count):
-    """Writes the schedule, and returns how many lines its trace has."""
+def write_schedule(path, image, stack, count):
+    """Writes the schedule and its image, and returns how many lines its trace has."""
+    header, below, one_round = STACKS[stack]
     trace = 0
-    with open(path, "w", encoding="ascii", newline="\n") as out:
-        out.write(HEADER + "\n")
-        for line, seen in events(count):
+    with open(path, "w", encoding="ascii", newline="\n") as out, open(image, "w", encoding="ascii", newline="\n") as kept:
+        out.write(header + "\n")
+        kept.write(below + "\n")
+        for line, seen, stays in events(one_round, count):
             out.write(line + "\n")
             trace += seen
+            if stays:
+                kept.write(line + "\n")
     return trace
 
 
@@ -64,22 +87,41 @@ def run_once(program, schedule, answer):
     return child.returncode, seconds, used.ru_maxrss
 
 
-def what_is_wrong(status, schedule, answer, trace, count):
+def what_is_wrong(status, image, answer, trace):
     """What is wrong with an answer, or None."""
     if status != 0:
         return f"status {status}"
-    with open(answer, "rb") as out:
-        lines = sum(1 for _ in out)
-    wanted = trace + 1 + 1 + count
-    if lines != wanted:
-        return f"{lines} lines on out, wanted {wanted}"
-    with open(answer, "rb") as out, open(schedule, "rb") as given:
+    with open(answer, "rb") as out, open(image, "rb") as wanted:
         for number, line in enumerate(out, 1):
             if number == trace + 1 and line != b"below\n":
                 return f"line {number} is not `below`"
-            if number > trace + 1 and line != given.readline():
-                return f"line {number} is not that of the schedule"
+            if number > trace + 1 and line != wanted.readline():
+                return f"line {number} is not that of the image"
+        if wanted.readline():
+            return "the image is cut short"
     return None
+
+
+def measure(program, stack):
+    """Prints the times of a stack, and returns whether each answer was right."""
+    times = []
+    with tempfile.TemporaryDirectory() as room:
+        schedule, image, answer = (os.path.join(room, name) for name in ("schedule", "image", "answer"))
+        for count in SIZES:
+            trace = write_schedule(schedule, image, stack, count)
+            seconds, memory = [], 0
+            for _ in range(RUNS):
+                status, took, peak = run_once(program, schedule, answer)
+                wrong = what_is_wrong(status, image, answer, trace)
+                if wrong:
+                    print(f"{stack}, {count:,} events: {wrong}")
+                    return False
+                seconds.append(took)
+                memory = max(memory, peak)
+            times.append(min(seconds))
+            print(f"{stack}, {count:,} events: {times[-1]:.3f} s (the least of {RUNS} runs), {memory / 1024:.1f} MiB at most")
+    print(f"{SIZES[1] // SIZES[0]} times the events take {times[1] / times[0]:.2f} times as long")
+    return True
 
 
 def main(words):
@@ -87,24 +129,7 @@ def main(words):
     if not os.access(program, os.X_OK):
         print(f"no program at {program}: build it first, as the README says")
         return 2
-    times = []
-    with tempfile.TemporaryDirectory() as room:
-        schedule, answer = os.path.join(room, "schedule"), os.path.join(room, "answer")
-        for count in SIZES:
-            trace = write_schedule(schedule, count)
-            seconds, memory = [], 0
-            for _ in range(RUNS):
-                status, took, peak = run_once(program, schedule, answer)
-                wrong = what_is_wrong(status, schedule, answer, trace, count)
-                if wrong:
-                    print(f"{count:,} events: {wrong}")
-                    return 1
-                seconds.append(took)
-                memory = max(memory, peak)
-            times.append(min(seconds))
-            print(f"{count:,} events: {times[-1]:.3f} s (the least of {RUNS} runs), {memory / 1024:.1f} MiB at most")
-    print(f"{SIZES[1] // SIZES[0]} times the events take {times[1] / times[0]:.2f} times as long")
-    return 0
+    return 0 if all([measure(program, stack) for stack in STACKS]) else 1
 
 
 if __name__ == "__main__":

@@ -31,6 +31,6 @@ IsWritten old new piece write.Memory = new ≡ old
 
 -- a failure has its fault, and want of memory its count, and then no fault was counted
 abbrev pub HasCause : ℕ → ℕ → ℕ → ℕ → WriteOutcome → Type 0
-HasCause faults faults' wants wants' (write.Took n) = (wants' ≡ wants)
+HasCause faults faults' wants wants' (write.Took n) = (faults' ≡ faults) × (wants' ≡ wants)
 HasCause faults faults' wants wants' write.Failed = Rose faults faults' × (wants' ≡ wants)
 HasCause faults faults' wants wants' write.Memory = (faults' ≡ faults) × Rose wants wants'

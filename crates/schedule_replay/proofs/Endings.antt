@@ -4,6 +4,7 @@ use Rattle.std.specs.List.{flat_map}
 use Rattle.std.proofs.Common.{ap, ◌∙◌, sym, subst, append_assoc, arith, length-append, zero-add}
 use Rattle.std.proofs.lemmas.List.{append-nil, length-map}
 use Rattle.handler_trait.specs.Handling.{Meaning}
+use Rattle.vst_base.specs.declared.net.Net.{Net}
 use Rattle.vst_base.specs.declared.step.Step.{Step}
 use Rattle.vst_base.specs.declared.step.Item.{Item}
 use Rattle.vst_base.specs.declared.step.Item.TheVariants as item
@@ -28,11 +29,11 @@ use Rattle.schedule_replay.specs.declared.fault.ReplayFault.TheVariants as fault
 use Rattle.schedule_replay.specs.declared.halt.Halt.{Halt}
 use Rattle.schedule_replay.specs.declared.halt.Halt.TheVariants as halt
 use Rattle.schedule_replay.specs.declared.tally.Tally.{Tally}
-use Rattle.schedule_replay.specs.Stacks.{Stack, Texts, plain_stack}
+use Rattle.schedule_replay.specs.Stacks.{Stack, Texts, Image, stack_of}
 use Rattle.schedule_replay.specs.Tallying.{tallied}
 use Rattle.schedule_replay.specs.Finishing.{image_text, counted_done}
 use Rattle.schedule_replay.specs.Replaying.{Replayed, is_output, is_reply_by, ended, replayed_script, stop, taken, trace_lines, image_lines, counts_of}
-use Rattle.schedule_replay.specs.Replays.{rest_whole, rest_so_far}
+use Rattle.schedule_replay.specs.Replays.{stack_whole, stack_so_far}
 use Rattle.schedule_replay.specs.Outcomes.{HasGiven, ComesTo, HasCause}
 use Rattle.schedule_replay.specs.Playing.{TraceWritten, Halted}
 use Rattle.schedule_replay.proofs.Plays.{written-front}
@@ -68,46 +69,46 @@ replies-from a (item.Output n o ∷ xs) = replies-from (a + 1) xs
 replies : {I O : Type 0} (xs : List (Item I O)) → count_by (is_reply_by (λ _. true)) xs ≡ count_by is_output xs
 replies xs = replies-from 0 xs
 
-module _ {S I O M : Type 0} (h : Header) (m : Meaning S I O M) (t : Texts I O) where
-  image-same : (ss : List (Step I)) → image_text t.input_text h ss ≡ image_lines (plain_stack h m t) ss
+module _ {S I O M : Type 0} (on : Net) (m : Meaning S I O M) (t : Texts I O) (i : Image I) where
+  image-same : (ss : List (Step I)) → image_text t.input_text i.header (i.steps ss) ≡ image_lines (stack_of on m t i) ss
   image-same ss =
-      ap (λ bs. (as_line (codes "below") ++ bs) ++ steps_text t.input_text ss) (sym (append-nil (as_line (header_text h))))
-      ∙ ap (λ bs. (as_line (codes "below") ++ (as_line (header_text h) ++ [])) ++ bs) (sym (lines-map t.input_text ss))
+      ap (λ bs. (as_line (codes "below") ++ bs) ++ steps_text t.input_text (i.steps ss)) (sym (append-nil (as_line (header_text i.header))))
+      ∙ ap (λ bs. (as_line (codes "below") ++ (as_line (header_text i.header) ++ [])) ++ bs) (sym (lines-map t.input_text (i.steps ss)))
 
-  counts-same : (ss : List (Step I)) → counted_done (tallied (record { inputs = 0; outputs = 0 }) (trace m (no_recovery {S = S}) ss)) ss ≡ counts_of (plain_stack h m t) ss
-  counts-same ss = rw (zero-add, zero-add, replies (trace m (no_recovery {S = S}) ss), length-map ss (step_text t.input_text)) refl
+  counts-same : (ss : List (Step I)) → counted_done (tallied (record { inputs = 0; outputs = 0 }) (trace m (no_recovery {S = S}) ss)) (length ss) (i.steps ss) ≡ counts_of (stack_of on m t i) ss
+  counts-same ss = rw (zero-add, zero-add, replies (trace m (no_recovery {S = S}) ss), length-map (i.steps ss) (step_text t.input_text)) refl
 
-module _ {H S I O M : Type 0} (h : Header) (m : Meaning S I O M) (t : Texts I O) where
-  module _ (v : RunView H S I O M) (tally : Tally) (old new : ReaderView) (left left' out mid : Option (List ℕ)) (rest : List ℕ) (has : HasRest old left rest) where
-    all-gone : (x : Halt) (a : Halted (plain_stack h m t) t v tally old new left left' out mid x) → a.gone ≡ trace m (no_recovery {S = S}) a.steps
+module _ {H S I O M T : Type 0} (on : Net) (m : Meaning S I O M) (follows : T → Meaning S I O M → List (Step I) → Type 0) (t : Texts I O) (i : Image I) where
+  module _ (v : RunView H S I O M T) (tally : Tally) (old new : ReaderView) (left left' out mid : Option (List ℕ)) (rest : List ℕ) (has : HasRest old left rest) where
+    all-gone : (x : Halt) (a : Halted (stack_of on m t i) follows t v tally old new left left' out mid x) → a.gone ≡ trace m (no_recovery {S = S}) a.steps
     all-gone x a = sym (ap (λ items. a.gone ++ items) a.empty ∙ append-nil a.gone) ∙ a.ran.traced
 
     -- the whole trace was written
-    all-written : (x : Halt) (a : Halted (plain_stack h m t) t v tally old new left left' out mid x) → TraceWritten t (trace m (no_recovery {S = S}) a.steps) out mid tally
+    all-written : (x : Halt) (a : Halted (stack_of on m t i) follows t v tally old new left left' out mid x) → TraceWritten t (trace m (no_recovery {S = S}) a.steps) out mid tally
     all-written x a = subst (λ (items : List (Item I O)). TraceWritten t items out mid tally) (all-gone x a) a.written
 
-    pub bag-read : Halted (plain_stack h m t) t v tally old new left left' out mid halt.Read
-        → ComesTo (rest_whole (plain_stack h m t) old) (rest_so_far (plain_stack h m t) old) old.number rest left' out mid (Err fault.Read)
-    bag-read a =
+    pub rest-read : Halted (stack_of on m t i) follows t v tally old new left left' out mid halt.Read
+        → ComesTo (stack_whole (stack_of on m t i) old) (stack_so_far (stack_of on m t i) old) old.number rest left' out mid (Err fault.Read)
+    rest-read a =
         let by = a.halts rest has in
         let part = by.0 in
         let before = all-written halt.Read a in
-        let same = ended-at (plain_stack h m t) false (script old.most t.input_of (old.number + 1) old.events (whole_lines part)) a.steps None by.2.1 by.2.0 in
+        let same = ended-at (stack_of on m t i) false (script old.most t.input_of (old.number + 1) old.events (whole_lines part)) a.steps None by.2.1 by.2.0 in
         record {
           given = part;
           gave = record { others = by.1.rest'; whole = by.1.whole; left_is = by.1.left_is };
           short = by.1.short;
           taken = ap (λ (r : Replayed). r.refused) same;
           written = subst (λ (r : Replayed). Gained out mid r.out) (sym same) before.written;
-          front = written-front m t h v a.steps a.gone a.ran true (script old.most t.input_of (old.number + 1) old.events (lines_of rest)) (a.front rest has) out mid tally a.written;
+          front = written-front m follows t i on v a.steps a.gone a.ran true (script old.most t.input_of (old.number + 1) old.events (lines_of rest)) (a.front rest has) out mid tally a.written;
         }
 
-    pub bag-refused : (line : ℕ) (why : Why) → Halted (plain_stack h m t) t v tally old new left left' out mid (halt.Refused line why)
-        → ComesTo (rest_whole (plain_stack h m t) old) (rest_so_far (plain_stack h m t) old) old.number rest left' out mid (Err (fault.Refused line why))
-    bag-refused line why a =
+    pub rest-refused : (line : ℕ) (why : Why) → Halted (stack_of on m t i) follows t v tally old new left left' out mid (halt.Refused line why)
+        → ComesTo (stack_whole (stack_of on m t i) old) (stack_so_far (stack_of on m t i) old) old.number rest left' out mid (Err (fault.Refused line why))
+    rest-refused line why a =
         let by = a.halts rest has in
         let before = all-written (halt.Refused line why) a in
-        let same = ended-at (plain_stack h m t) true (script old.most t.input_of (old.number + 1) old.events (lines_of rest)) a.steps (Some (line, why)) by.2 by.1 in
+        let same = ended-at (stack_of on m t i) true (script old.most t.input_of (old.number + 1) old.events (lines_of rest)) a.steps (Some (line, why)) by.2 by.1 in
         let gave = given-of old new left' rest line by.0 in
         record {
           refused = ap (λ (r : Replayed). r.refused) same;
@@ -118,46 +119,52 @@ module _ {H S I O M : Type 0} (h : Header) (m : Meaning S I O M) (t : Texts I O)
           ahead = gave.2;
         }
 
-    image-of : (x : Halt) (a : Halted (plain_stack h m t) t v tally old new left left' out mid x) → v.image ≡ a.steps
-    image-of x a = a.ran.imaged
+    -- the image of the steps that were taken, as the map shows it
+    module _ (shown : List (Step I)) (shows : (ss : List (Step I)) → follows v.map m ss → shown ≡ i.steps ss) where
+      image-of : (a : Halted (stack_of on m t i) follows t v tally old new left left' out mid halt.End) → shown ≡ i.steps a.steps
+      image-of a = shows a.steps a.ran.followed
 
-    pub bag-finishing : (out' : Option (List ℕ)) → Halted (plain_stack h m t) t v tally old new left left' out mid halt.End → GainedFront mid out' (image_text t.input_text h v.image)
-        → GainedFront out out' (rest_whole (plain_stack h m t) old rest).out
-    bag-finishing out' a more =
-        let by = a.halts rest has in
-        let before = all-written halt.End a in
-        let same = ended-at (plain_stack h m t) true (script old.most t.input_of (old.number + 1) old.events (lines_of rest)) a.steps None by.2 by.1 in
-        let image = ap (image_text t.input_text h) (image-of halt.End a) ∙ image-same h m t a.steps in
-        let lines = trace_lines (plain_stack h m t) a.steps in
-        let below = image_lines (plain_stack h m t) a.steps in
-        subst (λ (r : Replayed). GainedFront out out' r.out) (sym same)
-        (gained-some out mid out' lines below (lines ++ below) [] (ap (λ bs. lines ++ bs) (sym (append-nil below))) before.written (subst (λ (bs : List ℕ). GainedFront mid out' bs) image more))
+      pub rest-finishing : (out' : Option (List ℕ)) → Halted (stack_of on m t i) follows t v tally old new left left' out mid halt.End → GainedFront mid out' (image_text t.input_text i.header shown)
+          → GainedFront out out' (stack_whole (stack_of on m t i) old rest).out
+      rest-finishing out' a more =
+          let by = a.halts rest has in
+          let before = all-written halt.End a in
+          let same = ended-at (stack_of on m t i) true (script old.most t.input_of (old.number + 1) old.events (lines_of rest)) a.steps None by.2 by.1 in
+          let image = ap (image_text t.input_text i.header) (image-of a) ∙ image-same on m t i a.steps in
+          let lines = trace_lines (stack_of on m t i) a.steps in
+          let below = image_lines (stack_of on m t i) a.steps in
+          subst (λ (r : Replayed). GainedFront out out' r.out) (sym same)
+          (gained-some out mid out' lines below (lines ++ below) [] (ap (λ bs. lines ++ bs) (sym (append-nil below))) before.written (subst (λ (bs : List ℕ). GainedFront mid out' bs) image more))
 
-    pub bag-done : (out' : Option (List ℕ)) (done : Done) → Halted (plain_stack h m t) t v tally old new left left' out mid halt.End → Gained mid out' (image_text t.input_text h v.image)
-        → done ≡ counted_done tally v.image
-        → ComesTo (rest_whole (plain_stack h m t) old) (rest_so_far (plain_stack h m t) old) old.number rest left' out out' (Ok done)
-    bag-done out' done a more counts =
-        let by = a.halts rest has in
-        let before = all-written halt.End a in
-        let same = ended-at (plain_stack h m t) true (script old.most t.input_of (old.number + 1) old.events (lines_of rest)) a.steps None by.2 by.1 in
-        let image = ap (image_text t.input_text h) (image-of halt.End a) ∙ image-same h m t a.steps in
-        let lines = trace_lines (plain_stack h m t) a.steps in
-        let below = image_lines (plain_stack h m t) a.steps in
-        record {
-          ended = by.0;
-          taken = ap (λ (r : Replayed). r.refused) same;
-          counts = counts ∙ (ap (λ (ss : List (Step I)). counted_done tally ss) (image-of halt.End a) ∙ (ap (λ (x : Tally). counted_done x a.steps) before.counted ∙ (counts-same h m t a.steps ∙ ap (λ (r : Replayed). r.counts) (sym same))));
-          written = subst (λ (r : Replayed). Gained out out' r.out) (sym same) (gained-both out mid out' lines below before.written (subst (λ (bs : List ℕ). Gained mid out' bs) image more));
-        }
+      pub rest-done : (out' : Option (List ℕ)) (done : Done) (events : ℕ) → Halted (stack_of on m t i) follows t v tally old new left left' out mid halt.End → Gained mid out' (image_text t.input_text i.header shown)
+          → done ≡ counted_done tally events shown → events ≡ v.world.taken
+          → ComesTo (stack_whole (stack_of on m t i) old) (stack_so_far (stack_of on m t i) old) old.number rest left' out out' (Ok done)
+      rest-done out' done events a more counts taken =
+          let by = a.halts rest has in
+          let before = all-written halt.End a in
+          let same = ended-at (stack_of on m t i) true (script old.most t.input_of (old.number + 1) old.events (lines_of rest)) a.steps None by.2 by.1 in
+          let image = ap (image_text t.input_text i.header) (image-of a) ∙ image-same on m t i a.steps in
+          let lines = trace_lines (stack_of on m t i) a.steps in
+          let below = image_lines (stack_of on m t i) a.steps in
+          record {
+            ended = by.0;
+            taken = ap (λ (r : Replayed). r.refused) same;
+            counts = counts
+                ∙ (ap (λ n. counted_done tally n shown) (taken ∙ a.ran.counted)
+                ∙ (ap (λ (ss : List (Step I)). counted_done tally (length a.steps) ss) (image-of a)
+                ∙ (ap (λ (x : Tally). counted_done x (length a.steps) (i.steps a.steps)) before.counted
+                ∙ (counts-same on m t i a.steps ∙ ap (λ (r : Replayed). r.counts) (sym same)))));
+            written = subst (λ (r : Replayed). Gained out out' r.out) (sym same) (gained-both out mid out' lines below before.written (subst (λ (bs : List ℕ). Gained mid out' bs) image more));
+          }
 
 -- a write that failed, or want of memory
-pub bag-fails : (whole so_far : List ℕ → Replayed) (before : ℕ) (rest : List ℕ) (left' out out' : Option (List ℕ)) (f f' : ℕ) (found : LineFault) → HasWriteCause f f' found → GainedFront out out' (whole rest).out
+pub rest-fails : (whole so_far : List ℕ → Replayed) (before : ℕ) (rest : List ℕ) (left' out out' : Option (List ℕ)) (f f' : ℕ) (found : LineFault) → HasWriteCause f f' found → GainedFront out out' (whole rest).out
     → ComesTo whole so_far before rest left' out out' (Err (replay_fault found))
-bag-fails whole so_far before rest left' out out' f f' line.Write cause front = front
-bag-fails whole so_far before rest left' out out' f f' line.Memory cause front = front
-bag-fails whole so_far before rest left' out out' f f' line.End cause front = absurd cause
-bag-fails whole so_far before rest left' out out' f f' line.Read cause front = absurd cause
-bag-fails whole so_far before rest left' out out' f f' (line.Refused n w) cause front = absurd cause
+rest-fails whole so_far before rest left' out out' f f' line.Write cause front = front
+rest-fails whole so_far before rest left' out out' f f' line.Memory cause front = front
+rest-fails whole so_far before rest left' out out' f f' line.End cause front = absurd cause
+rest-fails whole so_far before rest left' out out' f f' line.Read cause front = absurd cause
+rest-fails whole so_far before rest left' out out' f f' (line.Refused n w) cause front = absurd cause
 
 pub fails-cause : (ended : Bool) (read read' f0 f f' : ℕ) (found : LineFault) → f0 ≤ f → HasWriteCause f f' found → HasCause ended read read' f0 f' (replay_fault found)
 fails-cause ended read read' f0 f f' line.Write grew cause = (omega (arith, cause, grew), λ e. cc)

@@ -1,6 +1,6 @@
 pub mod Endings
 pub mod Finishing
-pub mod Headers
 pub mod Openings
 pub mod Plays
 pub mod Scripts
+pub mod Wholly

@@ -1,6 +1,6 @@
 -- What a replay comes to, by how its text opens.
 use Rattle.std.specs.Prelude.{◌≡◌, ℕ, Bool, true, false, ◌+◌, ◌-◌, ◌≤◌, List, [], ◌++◌, length, Option, Some, None, IfSome, IfErr, Result, Ok, Err, refl}
-use Rattle.std.proofs.Common.{ap, ◌∙◌, sym, subst, append_assoc, arith, length-append}
+use Rattle.std.proofs.Common.{inl, inr, ap, ◌∙◌, sym, subst, append_assoc, arith, length-append}
 use Rattle.outside.specs.Wholes.{Gained, GainedFront}
 use Rattle.outside.proofs.Wholes.{gained-nothing}
 use Rattle.vst_base.specs.declared.stack.StackId.{StackId}
@@ -14,7 +14,15 @@ use Rattle.line_reader.specs.Outcomes.{Uses, HasReadCause}
 use Rattle.line_reader.proofs.Lining.{whole-append, last-append}
 use Rattle.line_reader.proofs.Using.{decided-behind}
 use Rattle.app_text.specs.LockTexts.{input_of}
+use Rattle.vst_base.specs.declared.net.Net.{Net}
+use Rattle.vst_base.specs.declared.net.Net.TheVariants as net
+use Rattle.vst_base.specs.declared.lock.LockInput.{LockInput}
+use Rattle.vst_base.specs.declared.lock.LockOutput.{LockOutput}
+use Rattle.vst_base.specs.declared.lock.LockMsg.{LockMsg}
+use Rattle.lock_server.specs.declared.state.LockState.{LockState}
+use Rattle.lock_server.specs.Locks.{lock_server}
 use Rattle.schedule_text.specs.declared.header.Header.{Header}
+use Rattle.schedule_text.specs.Headers.{IsHeader}
 use Rattle.schedule_text.specs.Schedules.{Opening, Opened, RefusedAt, EndedAt, opening, opening_refusal, script}
 use Rattle.schedule_text.specs.Streams.{ReadsHeader}
 use Rattle.schedule_text.proofs.ScheduleLaws.{opening_with, opening-append}
@@ -23,7 +31,8 @@ use Rattle.schedule_replay.specs.declared.fault.ReplayFault.{ReplayFault}
 use Rattle.schedule_replay.specs.declared.fault.ReplayFault.TheVariants as fault
 use Rattle.schedule_replay.specs.Faults.{replay_fault}
 use Rattle.schedule_replay.specs.Replaying.{Replayed, replayed_script}
-use Rattle.schedule_replay.specs.Replays.{lock_stack, most_lines, replayed_stack, replayed_opening, replayed, replayed_so_far, rest_whole, rest_so_far}
+use Rattle.schedule_replay.specs.Replays.{lock_seq_stack, lock_texts, most_lines, replayed_by, replayed_stack, replayed_opening, replayed, replayed_so_far, stack_whole, stack_so_far, rest_whole, rest_so_far}
+use Rattle.schedule_replay.specs.Stacks.{Stack, stack_of}
 use Rattle.schedule_replay.specs.Outcomes.{HasGiven, ComesTo, HasFault, HasCause}
 use Rattle.schedule_replay.proofs.Endings.{given-of}
 use Rattle.schedule_replay.proofs.Finishing.{front-none}
@@ -71,23 +80,19 @@ header-fault old f f' w w' line.Memory cause = tt
 header-fault old f f' w w' (line.Refused n x) cause = tt
 
 -- what a text is by its header
-stack-same : (whole : Bool) (h : Header) (s : StackId) (n : ℕ) (ls : List (List ℕ)) → s ≡ stack.Lock → replayed_stack whole h s n ls ≡ replayed_script (lock_stack h) whole (script most_lines input_of n 0 ls)
-stack-same whole h s n ls e = rw e refl
+module _ (h : Header) (r : ReaderView) (most : r.most ≡ most_lines) (events : r.events ≡ 0) (used : List ℕ) (opens : opening most_lines 1 (lines_of used) ≡ Opened h (r.number + 1) []) where
+  stack-same : (whole : Bool) (ls : List (List ℕ)) → replayed_stack whole h h.stack most_lines (r.number + 1) 0 ls ≡ replayed_stack whole h h.stack r.most (r.number + 1) r.events ls
+  stack-same whole ls = rw (most, events) refl
 
-module _ (h : Header) (r : ReaderView) (is : h.stack ≡ stack.Lock) (most : r.most ≡ most_lines) (events : r.events ≡ 0) (used : List ℕ) (opens : opening most_lines 1 (lines_of used) ≡ Opened h (r.number + 1) []) where
-  lines-same : (ls : List (List ℕ)) → script most_lines input_of (r.number + 1) 0 ls ≡ script r.most input_of (r.number + 1) r.events ls
-  lines-same ls = rw (most, events) refl
-
-  opened-same : (whole : Bool) (ls : List (List ℕ)) → replayed_opening whole (opening most_lines 1 (lines_of used ++ ls)) ≡ replayed_script (lock_stack h) whole (script r.most input_of (r.number + 1) r.events ls)
+  opened-same : (whole : Bool) (ls : List (List ℕ)) → replayed_opening whole (opening most_lines 1 (lines_of used ++ ls)) ≡ replayed_stack whole h h.stack r.most (r.number + 1) r.events ls
   opened-same whole ls =
-      ap (replayed_opening whole) (opening-append most_lines 1 (lines_of used) ls ∙ ap (λ (o : Opening). opening_with o ls most_lines) opens)
-      ∙ (stack-same whole h h.stack (r.number + 1) ls is ∙ ap (replayed_script (lock_stack h) whole) (lines-same ls))
+      ap (replayed_opening whole) (opening-append most_lines 1 (lines_of used) ls ∙ ap (λ (o : Opening). opening_with o ls most_lines) opens) ∙ stack-same whole ls
 
   module _ (left left' out out' : Option (List ℕ)) (bytes : List ℕ) (u : Uses (fresh most_lines) r left bytes used) where
-    whole-same : replayed bytes ≡ rest_whole (lock_stack h) r u.rest'
+    whole-same : replayed bytes ≡ rest_whole h r u.rest'
     whole-same = ap (λ ls. replayed_opening true (opening most_lines 1 ls)) u.lines ∙ opened-same true (lines_of u.rest')
 
-    so_far-same : (given : List ℕ) → r.ended ≡ false → replayed_so_far (used ++ given) ≡ rest_so_far (lock_stack h) r given
+    so_far-same : (given : List ℕ) → r.ended ≡ false → replayed_so_far (used ++ given) ≡ rest_so_far h r given
     so_far-same given going = ap (λ ls. replayed_opening false (opening most_lines 1 ls)) (whole-append used given (u.closed going)) ∙ opened-same false (whole_lines given)
 
     gave-all : (given : List ℕ) → HasGiven u.rest' left' given → HasGiven bytes left' (used ++ given)
@@ -97,11 +102,11 @@ module _ (h : Header) (r : ReaderView) (is : h.stack ≡ stack.Lock) (most : r.m
       left_is = gave.left_is;
     }
 
-    front-same : GainedFront out out' (rest_whole (lock_stack h) r u.rest').out → GainedFront out out' (replayed bytes).out
+    front-same : GainedFront out out' (rest_whole h r u.rest').out → GainedFront out out' (replayed bytes).out
     front-same front = subst (λ (x : Replayed). GainedFront out out' x.out) (sym whole-same) front
 
     pub header-then : (result : Result Done ReplayFault) → (result ≡ Err fault.Read → r.ended ≡ false)
-        → ComesTo (rest_whole (lock_stack h) r) (rest_so_far (lock_stack h) r) r.number u.rest' left' out out' result → ComesTo replayed replayed_so_far 0 bytes left' out out' result
+        → ComesTo (rest_whole h r) (rest_so_far h r) r.number u.rest' left' out out' result → ComesTo replayed replayed_so_far 0 bytes left' out out' result
     header-then (Ok done) going a = record {
       ended = a.ended;
       taken = ap (λ (x : Replayed). x.refused) whole-same ∙ a.taken;
@@ -154,3 +159,37 @@ pub going-of : (ended : Bool) (f f' w w' : ℕ) (result : Result Done ReplayFaul
 going-of ended f f' w w' result cause is =
     let both : HasCause ended f f' w w' fault.Read = subst (λ (r : Result Done ReplayFault). IfErr r (HasCause ended f f' w w')) is cause in
     both.1 refl
+
+-- the lock server's stack, by its network
+abbrev pub lock_stack_on : Net → Header → Stack LockState LockState LockInput LockOutput LockMsg
+lock_stack_on on h = stack_of on (lock_server h.nodes) lock_texts (record { header = h; steps = λ ss. ss })
+
+-- which stack a header names
+pub is-lock : (h : Header) (s : StackId) (on : Net) → s ≡ stack.Lock → on ≡ net.Bag → (whole : Bool) (most n e : ℕ) (ls : List (List ℕ))
+    → replayed_stack whole h s most n e ls ≡ replayed_by (lock_stack_on on h) whole most n e ls
+is-lock h s on is on-bag whole most n e ls = rw (is, on-bag) refl
+
+pub is-lock_seq : (h : Header) (s : StackId) → s ≡ stack.LockSeq → (whole : Bool) (most n e : ℕ) (ls : List (List ℕ)) → replayed_stack whole h s most n e ls ≡ replayed_by (lock_seq_stack h) whole most n e ls
+is-lock_seq h s is whole most n e ls = rw is refl
+
+-- what stands behind a header comes to what its stack makes of it
+pub stack-comes : {S K I O M : Type 0} (st : Stack S K I O M) (h : Header) (r : ReaderView)
+    → ((whole : Bool) (most n e : ℕ) (ls : List (List ℕ)) → replayed_stack whole h h.stack most n e ls ≡ replayed_by st whole most n e ls)
+    → (before : ℕ) (rest : List ℕ) (left' out out' : Option (List ℕ)) (result : Result Done ReplayFault)
+    → ComesTo (stack_whole st r) (stack_so_far st r) before rest left' out out' result → ComesTo (rest_whole h r) (rest_so_far h r) before rest left' out out' result
+stack-comes st h r is before rest left' out out' result comes =
+    subst (λ (f : (List ℕ → Replayed) × (List ℕ → Replayed)). ComesTo f.0 f.1 before rest left' out out' result) (λ i. (
+      λ bytes. sym (is true r.most (r.number + 1) r.events (lines_of bytes)) i,
+      λ bytes. sym (is false r.most (r.number + 1) r.events (whole_lines bytes)) i,
+    )) comes
+
+-- the networks of the stacks, which their headers name
+pub lock-net : (h : Header) → IsHeader h → h.stack ≡ stack.Lock → h.net ≡ net.Bag
+lock-net h (inl by) is = by.net
+lock-net h (inr (inl by)) is = let clash : stack.LockSeq ≡ stack.Lock = sym by.stack ∙ is in cc
+lock-net h (inr (inr x)) is = elim x [ ]
+
+pub lock_seq-net : (h : Header) → IsHeader h → h.stack ≡ stack.LockSeq → h.net ≡ net.Dup
+lock_seq-net h (inl by) is = let clash : stack.Lock ≡ stack.LockSeq = sym by.stack ∙ is in cc
+lock_seq-net h (inr (inl by)) is = by.net
+lock_seq-net h (inr (inr x)) is = elim x [ ]

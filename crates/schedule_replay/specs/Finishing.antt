@@ -1,4 +1,4 @@
--- What is written below a trace, and the counts, where the image is the schedule itself and each output is a reply.
+-- What is written below a trace, and the counts, where each output is a reply: the image lines and the counts of such a stack.
 use Rattle.std.specs.Prelude.{ℕ, List, ◌++◌, length, codes}
 use Rattle.vst_base.specs.declared.step.Step.{Step}
 use Rattle.schedule_text.specs.declared.header.Header.{Header}
@@ -13,9 +13,10 @@ image_head h = as_line (codes "below") ++ as_line (header_text h)
 abbrev pub image_text : {I : Type 0} → (I → List ℕ) → Header → List (Step I) → List ℕ
 image_text input_text h ss = image_head h ++ steps_text input_text ss
 
-abbrev pub counted_done : {I : Type 0} → Tally → List (Step I) → Done
-counted_done tally ss = record {
-  events = length ss;
+-- so many steps were taken, and these are the image's
+abbrev pub counted_done : {I : Type 0} → Tally → ℕ → List (Step I) → Done
+counted_done tally events ss = record {
+  events = events;
   inputs = tally.inputs;
   outputs = tally.outputs;
   replies = tally.outputs;

@@ -6,4 +6,3 @@ pub mod Playing
 pub mod Finishing
 pub mod Faults
 pub mod Outcomes
-pub mod Openings

@@ -23,24 +23,24 @@ use Rattle.schedule_replay.specs.Stacks.{Stack, Texts}
 use Rattle.schedule_replay.specs.Tallying.{tallied}
 use Rattle.schedule_replay.specs.Replaying.{why_of, stop, taken}
 
-module _ {H S I O M : Type 0} (m : Meaning S I O M) (f : List ℕ → Option I) where
+module _ {H S I O M T : Type 0} (m : Meaning S I O M) (follows : T → Meaning S I O M → List (Step I) → Type 0) (f : List ℕ → Option I) where
   -- the next line that says a step is refused: by the grammar, or since the world refuses its step
-  abbrev pub IsRefusedStep : RunView H S I O M → List (Step I) → ReaderView → ReaderView → Option (List ℕ) → List ℕ → ℕ → Why → Type 0
+  abbrev pub IsRefusedStep : RunView H S I O M T → List (Step I) → ReaderView → ReaderView → Option (List ℕ) → List ℕ → ℕ → Why → Type 0
   IsRefusedStep v ss old new left' rest number why =
       ReadsStep f old new left' rest (Err (fault.Refused number why))
       ⊎ ((s : Step I) × (p : StepRefusal) × ReadsStep f old new left' rest (Ok s) × (number ≡ new.number)
       × (refusal_of v.world.net m (run m (no_recovery {S = S}) ss) s ≡ Some p) × (why ≡ why_of p))
 
   -- behind these steps one more was read and taken, or there is none, or it is refused and changed nothing
-  abbrev pub TookStep : RunView H S I O M → List (Step I) → List (Item I O) → ReaderView → ReaderView → Option (List ℕ) → Option (List ℕ) → Option Halt → Type 0
+  abbrev pub TookStep : RunView H S I O M T → List (Step I) → List (Item I O) → ReaderView → ReaderView → Option (List ℕ) → Option (List ℕ) → Option Halt → Type 0
   TookStep v ss gone old new left left' None =
-      (s : Step I) × HasRun m (ss ++ s ∷ []) gone v × ((rest : List ℕ) → HasRest old left rest → ReadsStep f old new left' rest (Ok s))
+      (s : Step I) × HasRun m follows (ss ++ s ∷ []) gone v × ((rest : List ℕ) → HasRest old left rest → ReadsStep f old new left' rest (Ok s))
   TookStep v ss gone old new left left' (Some halt.End) =
-      HasRun m ss gone v × ((rest : List ℕ) → HasRest old left rest → ReadsStep f old new left' rest (Err fault.End))
+      HasRun m follows ss gone v × ((rest : List ℕ) → HasRest old left rest → ReadsStep f old new left' rest (Err fault.End))
   TookStep v ss gone old new left left' (Some halt.Read) =
-      HasRun m ss gone v × ((rest : List ℕ) → HasRest old left rest → ReadsStep f old new left' rest (Err fault.Read)) × (old.ended ≡ false)
+      HasRun m follows ss gone v × ((rest : List ℕ) → HasRest old left rest → ReadsStep f old new left' rest (Err fault.Read)) × (old.ended ≡ false)
   TookStep v ss gone old new left left' (Some (halt.Refused number why)) =
-      HasRun m ss gone v × ((rest : List ℕ) → HasRest old left rest → IsRefusedStep v ss old new left' rest number why)
+      HasRun m follows ss gone v × ((rest : List ℕ) → HasRest old left rest → IsRefusedStep v ss old new left' rest number why)
 
 -- the part of a trace that was let go was written and counted
 pub record TraceWritten {I O : Type 0} (t : Texts I O) (gone : List (Item I O)) (out out' : Option (List ℕ)) (tally : Tally) : Type 0 where
@@ -48,7 +48,7 @@ pub record TraceWritten {I O : Type 0} (t : Texts I O) (gone : List (Item I O)) 
   pub counted : tally ≡ tallied (record { inputs = 0; outputs = 0 }) gone
 
 -- what clients saw since it was last written was written, counted and let go
-abbrev pub WritesTrace : {H S I O M : Type 0} → Texts I O → RunView H S I O M → RunView H S I O M → Tally → Tally → Option (List ℕ) → Option (List ℕ) → Type 0
+abbrev pub WritesTrace : {H S I O M T : Type 0} → Texts I O → RunView H S I O M T → RunView H S I O M T → Tally → Tally → Option (List ℕ) → Option (List ℕ) → Type 0
 WritesTrace t v v' tally tally' out out' =
     Gained out out' (trace_text t.input_text t.output_text v.world.trace)
     × (v' ≡ record v { world = record v.world { trace = [] } }) × (tally' ≡ tallied tally v.world.trace)
@@ -66,11 +66,11 @@ HaltsBy st ss old new left' rest (halt.Refused number why) =
     StandsAt old new left' rest number × (stop st sc ≡ Some (number, why)) × (taken st sc ≡ ss)
 
 -- all steps of a rest were taken up to where they end, and their whole trace was written
-pub record Halted {H S I O M : Type 0} (st : Stack S S I O M) (t : Texts I O) (v : RunView H S I O M) (tally : Tally) (old new : ReaderView)
+pub record Halted {H S I O M T : Type 0} (st : Stack S S I O M) (follows : T → Meaning S I O M → List (Step I) → Type 0) (t : Texts I O) (v : RunView H S I O M T) (tally : Tally) (old new : ReaderView)
     (left left' out out' : Option (List ℕ)) (h : Halt) : Type 0 where
   pub steps : List (Step I)
   pub gone : List (Item I O)
-  pub ran : HasRun st.meaning steps gone v
+  pub ran : HasRun st.meaning follows steps gone v
   pub empty : v.world.trace ≡ []
   pub written : TraceWritten t gone out out' tally
   pub halts : (rest : List ℕ) → HasRest old left rest → HaltsBy st steps old new left' rest h

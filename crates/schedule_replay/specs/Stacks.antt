@@ -30,16 +30,21 @@ pub record Texts (I O : Type 0) : Type 0 where
 abbrev pub texts_of : {I O : Type 0} → (List ℕ → Option I) → (I → List ℕ) → (O → List ℕ) → Texts I O
 texts_of input_of input_text output_text = record { input_of = input_of; input_text = input_text; output_text = output_text }
 
--- handlers on a network that does no more than they ask for: the image is the schedule itself, and each output a reply
-abbrev pub plain_stack : {S I O M : Type 0} → Header → Meaning S I O M → Texts I O → Stack S S I O M
-plain_stack h m t = record {
-  net = h.net;
+-- the image below the trace of a schedule: its header, and its steps
+pub record Image (I : Type 0) : Type 0 where
+  pub header : Header
+  pub steps : List (Step I) → List (Step I)
+
+-- handlers on a network without crashes, each of whose outputs is a reply
+abbrev pub stack_of : {S I O M : Type 0} → Net → Meaning S I O M → Texts I O → Image I → Stack S S I O M
+stack_of net m t i = record {
+  net = net;
   meaning = m;
   recovery = no_recovery;
   input_of = t.input_of;
   input_text = t.input_text;
   output_text = t.output_text;
   is_reply = λ _. true;
-  image_header = header_text h ∷ [];
-  image = λ ss. map (step_text t.input_text) ss;
+  image_header = header_text i.header ∷ [];
+  image = λ ss. map (step_text t.input_text) (i.steps ss);
 }

@@ -36,6 +36,17 @@ pub fn worked()
     ensures overtakes { (replayed (codes "schedule 1 bag lock 3\nin 1 lock\nin 2 lock\ndeliver 1\ndeliver 0\ndeliver 2\n")).out
         ≡ codes "in 1 lock\nin 2 lock\nout 2 locked\nbelow\nschedule 1 bag lock 3\nin 1 lock\nin 2 lock\ndeliver 1\ndeliver 0\ndeliver 2\n" }
 
+    // A copy does nothing; packets overtake one another; two senders have equal numbers.
+    ensures copied { (replayed (codes "schedule 1 dup lock/seq 2\nin 1 lock\ndup 0\ndeliver 0\ndeliver 1\ndeliver 0\n")).out
+        ≡ codes "in 1 lock\nout 1 locked\nbelow\nschedule 1 bag lock 2\nin 1 lock\ndeliver 0\ndeliver 1\n" }
+    ensures copies_counted { (replayed (codes "schedule 1 dup lock/seq 2\nin 1 lock\ndup 0\ndeliver 0\ndeliver 1\ndeliver 0\n")).counts
+        ≡ record { events = 5; inputs = 1; outputs = 1; replies = 1; image = 3 } }
+    ensures late_first_delivery { (replayed (codes "schedule 1 dup lock/seq 2\nin 1 lock\nin 1 lock\ndeliver 1\ndeliver 0\ndeliver 2\nin 1 unlock\ndeliver 3\ndeliver 4\n")).out
+        ≡ codes "in 1 lock\nin 1 lock\nout 1 locked\nin 1 unlock\nout 1 locked\nbelow\nschedule 1 bag lock 2\nin 1 lock\nin 1 lock\ndeliver 1\ndeliver 0\ndeliver 2\nin 1 unlock\ndeliver 3\ndeliver 4\n" }
+    ensures equal_numbers { (replayed (codes "schedule 1 dup lock/seq 3\nin 1 lock\nin 2 lock\ndeliver 0\ndeliver 1\ndeliver 2\nin 1 unlock\ndeliver 3\ndeliver 4\n")).out
+        ≡ codes "in 1 lock\nin 2 lock\nout 1 locked\nin 1 unlock\nout 2 locked\nbelow\nschedule 1 bag lock 3\nin 1 lock\nin 2 lock\ndeliver 0\ndeliver 1\ndeliver 2\nin 1 unlock\ndeliver 3\ndeliver 4\n" }
+    ensures nothing_is_lost { (replayed (codes "schedule 1 dup lock/seq 2\nin 1 lock\nlose 0\n")).refused ≡ Some (3, NotThisNet) }
+
     // A text that broke off: its whole lines alone.
     ensures broken_off { (replayed_so_far (codes "schedule 1 bag lock 2\nin 1 lock\nin 1 lo")).out ≡ codes "in 1 lock\n" }
     ensures broken_off_in_order { (replayed_so_far (codes "schedule 1 bag lock 2\nin 1 lock\nin 1 lo")).refused ≡ None }

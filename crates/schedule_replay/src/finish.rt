@@ -22,17 +22,18 @@ fn image_head(alloc: Global, header: &Header) -> Result<Vec<u8>, AllocError>
     Ok(head)
 }
 
-// Writes the image of steps that were taken, and tells the counts.
+// Writes an image, and tells the counts of a run of so many events.
 pub(crate) fn finish<A: AppText, K: Sink>(
     alloc: Global,
     header: &Header,
     steps: &[Step<A::Input>],
+    events: u32,
     tally: &Tally,
     sink: &mut K,
 ) -> Result<Done, LineFault>
     ensures ok { OnOk result (Gained (K.written sink.old) (K.written sink.new) (image_text A.input_text header.now steps.now)) }
     ensures err { OnErr result (GainedFront (K.written sink.old) (K.written sink.new) (image_text A.input_text header.now steps.now)) }
-    ensures done { IfOk result (λ done. done ≡ counted_done tally.now steps.now) }
+    ensures done { IfOk result (λ done. done ≡ counted_done tally.now events steps.now) }
     ensures fault { IfErr result (HasWriteCause (K.faults sink.old) (K.faults sink.new)) }
     ensures counts { K.faults sink.old ≤ K.faults sink.new }
 {
@@ -40,7 +41,7 @@ pub(crate) fn finish<A: AppText, K: Sink>(
     print_text(sink, &head)?;
     print_steps::<A, K>(alloc, sink, steps)?;
     Ok(Done {
-        events: steps.len() as u64,
+        events: u64::from(events),
         inputs: tally.inputs,
         outputs: tally.outputs,
         replies: tally.outputs,

@@ -2,14 +2,15 @@
 //! command lines.
 #![tactic(auto)]
 
-mod bag;
 mod done;
 mod examples;
 mod fault;
 mod faults;
 mod finish;
 mod halt;
+mod laws;
 mod play;
+mod rest;
 mod stream;
 mod taking;
 mod tally;
@@ -19,6 +20,7 @@ mod writing;
 pub use done::Done;
 pub use examples::worked;
 pub use fault::ReplayFault;
+pub use laws::same_under_images;
 pub use stream::replay;
 
 #[cfg(test)]

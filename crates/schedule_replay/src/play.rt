@@ -9,7 +9,7 @@ ghost use Rattle.schedule_text.specs.Sending.{HasWriteCause};
 ghost use Rattle.xform_stack.specs.Running.{HasRun};
 ghost use Rattle.schedule_replay.specs.Playing.{Halted};
 ghost use Rattle.schedule_replay.specs.Replaying.{replayed_script};
-ghost use Rattle.schedule_replay.specs.Stacks.{plain_stack, texts_of};
+ghost use Rattle.schedule_replay.specs.Stacks.{Image, stack_of, texts_of};
 
 use crate::halt::Halt;
 use crate::taking::take_step;
@@ -20,32 +20,32 @@ use handler_trait::Handlers;
 use outside::{Sink, Source};
 use schedule_text::{Header, LineFault, Reader};
 use std::alloc::Global;
-use vst_base::Net;
-use xform_stack::Running;
+use xform_stack::{Running, TraceMap};
 
 // Plays the steps of a schedule behind its header up to where they end. What clients saw of a step is written at once.
 pub(crate) fn play<
     H: Handlers,
     A: AppText<Input = H::Input, Output = H::Output>,
+    T: TraceMap<H>,
     S: Source,
     K: Sink,
 >(
     alloc: Global,
     header: &Header,
-    running: &mut Running<H>,
+    running: &mut Running<H, T>,
     tally: &mut Tally,
     reader: &mut Reader,
     source: &mut S,
     sink: &mut K,
 ) -> Result<Halt, LineFault>
     requires sound { IsSound (H.meaning running.old.world.handlers) (H.sound running.old.world.handlers) (H.spent running.old.world.handlers) running.old.world }
-    requires started { HasRun (H.meaning running.old.world.handlers) [] [] running.old }
-    requires net { (running.old.world.net ≡ Net.Bag) × (header.now.net ≡ Net.Bag) }
+    requires started { HasRun (H.meaning running.old.world.handlers) T.has_followed [] [] running.old }
+    requires net { running.old.world.net ≡ header.now.net }
     requires tally { tally.old ≡ record { inputs = 0; outputs = 0 } }
-    ensures halted { IfOk result (λ halt. Halted (plain_stack header.now (H.meaning running.old.world.handlers) (texts_of A.input_of A.input_text A.output_text)) (texts_of A.input_of A.input_text A.output_text)
+    ensures halted { IfOk result (λ halt. (i : Image H.Input) → Halted (stack_of header.now.net (H.meaning running.old.world.handlers) (texts_of A.input_of A.input_text A.output_text) i) T.has_followed (texts_of A.input_of A.input_text A.output_text)
         running.new tally.new reader.old reader.new (S.left source.old) (S.left source.new) (K.written sink.old) (K.written sink.new) halt) }
-    ensures front { IfErr result (λ _. (rest : List ℕ) → HasRest reader.old (S.left source.old) rest → GainedFront (K.written sink.old) (K.written sink.new)
-        (replayed_script (plain_stack header.now (H.meaning running.old.world.handlers) (texts_of A.input_of A.input_text A.output_text)) true (script reader.old.most A.input_of (reader.old.number + 1) reader.old.events (lines_of rest))).out) }
+    ensures front { IfErr result (λ _. (i : Image H.Input) (rest : List ℕ) → HasRest reader.old (S.left source.old) rest → GainedFront (K.written sink.old) (K.written sink.new)
+        (replayed_script (stack_of header.now.net (H.meaning running.old.world.handlers) (texts_of A.input_of A.input_text A.output_text) i) true (script reader.old.most A.input_of (reader.old.number + 1) reader.old.events (lines_of rest))).out) }
     ensures fault { IfErr result (HasWriteCause (K.faults sink.old) (K.faults sink.new)) }
     ensures read { result ≡ Ok Halt.Read → Rose (S.faults source.old) (S.faults source.new) }
     ensures going { result ≡ Ok Halt.Read → reader.old.ended ≡ false }
@@ -54,9 +54,9 @@ pub(crate) fn play<
     ensures kept { OnOk result ((running.new.world.handlers ≡ running.old.world.handlers) × (running.new.world.net ≡ running.old.world.net)) }
 {
     loop {
-        if let Some(halt) = take_step::<H, A, S>(alloc, running, reader, source)? {
+        if let Some(halt) = take_step::<H, A, T, S>(alloc, running, reader, source)? {
             return Ok(halt);
         }
-        write_trace::<H, A, K>(alloc, running, tally, sink)?;
+        write_trace::<H, A, T, K>(alloc, running, tally, sink)?;
     }
 }

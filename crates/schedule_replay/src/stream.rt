@@ -1,17 +1,29 @@
 ghost use Rattle.std.specs.Prelude.{◌≡◌, ◌≤◌, ℕ, List, IfErr, IfSome};
 ghost use Rattle.line_reader.specs.Readers.{HasRest};
-ghost use Rattle.schedule_replay.specs.Openings.{IsKnown};
+ghost use Rattle.schedule_text.specs.Headers.{IsHeader};
 ghost use Rattle.schedule_replay.specs.Outcomes.{ComesTo, HasCause, HasFault};
-ghost use Rattle.schedule_replay.specs.Replays.{lock_stack, replayed, replayed_so_far, rest_so_far, rest_whole};
+ghost use Rattle.schedule_replay.specs.Replays.{lock_header, replayed, replayed_so_far, rest_so_far, rest_whole};
 
-use crate::bag::replay_bag;
+use crate::rest::replay_rest;
 use crate::{Done, ReplayFault};
 use app_text::LockText;
 use lock_server::LockServer;
 use outside::{Sink, Source};
 use schedule_text::{Header, MAX_LINES, Reader, read_header};
 use std::alloc::Global;
-use vst_base::StackId;
+use vst_base::{LockInput, Net, StackId};
+use xform_stack::{Itself, SeqNum, WithoutRepeats};
+
+// The header of the lock server on a bag, with as many nodes.
+fn lock_header(header: &Header) -> Header
+    ensures { result ≡ lock_header header.now }
+{
+    Header {
+        net: Net::Bag,
+        stack: StackId::Lock,
+        nodes: header.nodes,
+    }
+}
 
 // Replays what stands behind a header, by its stack.
 fn replay_stack<S: Source, K: Sink>(
@@ -21,18 +33,25 @@ fn replay_stack<S: Source, K: Sink>(
     source: &mut S,
     sink: &mut K,
 ) -> Result<Done, ReplayFault>
-    requires known { IsKnown header.now }
+    requires known { IsHeader header.now }
     ensures told { (rest : List ℕ) → HasRest reader.old (S.left source.old) rest
-        → ComesTo (rest_whole (lock_stack header.now) reader.old) (rest_so_far (lock_stack header.now) reader.old)
+        → ComesTo (rest_whole header.now reader.old) (rest_so_far header.now reader.old)
         reader.old.number rest (S.left source.new) (K.written sink.old) (K.written sink.new) result }
     ensures fault { IfErr result (HasCause reader.old.ended (S.faults source.old) (S.faults source.new) (K.faults sink.old) (K.faults sink.new)) }
     ensures reads { S.faults source.old ≤ S.faults source.new }
     ensures writes { K.faults sink.old ≤ K.faults sink.new }
 {
+    let server = LockServer::new(header.nodes);
     match header.stack {
-        StackId::Lock => {
-            let handlers = LockServer::new(header.nodes);
-            replay_bag::<LockServer, LockText, S, K>(alloc, handlers, header, reader, source, sink)
+        StackId::Lock => replay_rest::<LockServer, LockText, Itself<LockInput>, S, K>(
+            alloc, server, header, header, reader, source, sink,
+        ),
+        StackId::LockSeq => {
+            let below = lock_header(header);
+            let handlers = SeqNum::new(server);
+            replay_rest::<SeqNum<LockServer>, LockText, WithoutRepeats<LockInput>, S, K>(
+                alloc, handlers, header, &below, reader, source, sink,
+            )
         }
         _ => unreachable!(),
     }

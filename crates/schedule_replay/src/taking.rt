@@ -15,7 +15,7 @@ use outside::Source;
 use schedule_text::{LineFault, Reader, Why, read_step};
 use std::alloc::{AllocError, Global};
 use vst_base::StepRefusal;
-use xform_stack::{RunFault, Running};
+use xform_stack::{RunFault, Running, TraceMap};
 
 // A world's refusal as a line's. Want of memory is no refusal.
 fn why_of(refusal: StepRefusal) -> Why
@@ -32,16 +32,21 @@ fn why_of(refusal: StepRefusal) -> Why
 }
 
 // Reads the next step and takes it, or says where the steps come to their end, which changes nothing.
-pub(crate) fn take_step<H: Handlers, A: AppText<Input = H::Input, Output = H::Output>, S: Source>(
+pub(crate) fn take_step<
+    H: Handlers,
+    A: AppText<Input = H::Input, Output = H::Output>,
+    T: TraceMap<H>,
+    S: Source,
+>(
     alloc: Global,
-    running: &mut Running<H>,
+    running: &mut Running<H, T>,
     reader: &mut Reader,
     source: &mut S,
 ) -> Result<Option<Halt>, AllocError>
     requires sound { IsSound (H.meaning running.old.world.handlers) (H.sound running.old.world.handlers) (H.spent running.old.world.handlers) running.old.world }
     requires counted { running.old.world.taken ≤ reader.old.events }
-    ensures took { IfOk result (λ answer. (ss : List (Step H.Input)) (gone : List (Item H.Input H.Output)) → HasRun (H.meaning running.old.world.handlers) ss gone running.old
-        → TookStep (H.meaning running.old.world.handlers) A.input_of running.new ss gone reader.old reader.new (S.left source.old) (S.left source.new) answer) }
+    ensures took { IfOk result (λ answer. (ss : List (Step H.Input)) (gone : List (Item H.Input H.Output)) → HasRun (H.meaning running.old.world.handlers) T.has_followed ss gone running.old
+        → TookStep (H.meaning running.old.world.handlers) T.has_followed A.input_of running.new ss gone reader.old reader.new (S.left source.old) (S.left source.new) answer) }
     ensures handlers { running.new.world.handlers ≡ running.old.world.handlers }
     ensures net { running.new.world.net ≡ running.old.world.net }
     ensures taken { result ≡ Ok None → running.new.world.taken ≡ running.old.world.taken + 1 }

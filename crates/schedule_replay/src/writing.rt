@@ -10,12 +10,17 @@ use handler_trait::Handlers;
 use outside::Sink;
 use schedule_text::{LineFault, print_trace};
 use std::alloc::Global;
-use xform_stack::Running;
+use xform_stack::{Running, TraceMap};
 
 // Writes what clients saw since it was last written, counts it, and lets it go.
-pub(crate) fn write_trace<H: Handlers, A: AppText<Input = H::Input, Output = H::Output>, K: Sink>(
+pub(crate) fn write_trace<
+    H: Handlers,
+    A: AppText<Input = H::Input, Output = H::Output>,
+    T: TraceMap<H>,
+    K: Sink,
+>(
     alloc: Global,
-    running: &mut Running<H>,
+    running: &mut Running<H, T>,
     tally: &mut Tally,
     sink: &mut K,
 ) -> Result<(), LineFault>

@@ -2,6 +2,7 @@ pub mod FrontLaws
 pub mod NumberLaws
 pub mod NumeralLaws
 pub mod ReadBackLaws
+pub mod HeaderTexts
 pub mod ScheduleLaws
 pub mod Skipping
 pub mod Streaming

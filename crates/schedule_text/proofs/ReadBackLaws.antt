@@ -1,17 +1,14 @@
--- What is printed reads back.
-use Rattle.std.specs.Prelude.{◌≡◌, ℕ, Bool, true, ◌&&◌, ◌<◌, ◌≤◌, nat_le, List, [], ◌∷◌, ◌++◌, Option, Some, None, option_and_then, cond, refl}
+-- A step that is printed reads back.
+use Rattle.std.specs.Prelude.{◌≡◌, ℕ, true, ◌<◌, nat_le, List, [], ◌∷◌, ◌++◌, Option, Some, option_and_then, refl}
 use Rattle.std.specs.Fmt.{decimal}
 use Rattle.std.specs.List.{list_all}
 use Rattle.std.proofs.Common.{arith}
-use Rattle.std.proofs.lemmas.Bool.{and_parts, leb-true, le-leb, ne_eqb}
+use Rattle.std.proofs.lemmas.Bool.{and_parts, leb-true, ne_eqb}
 use Rattle.std.proofs.lemmas.Fmt.{digits_decimal}
-use Rattle.vst_base.specs.declared.net.Net.TheVariants as net
-use Rattle.vst_base.specs.declared.stack.StackId.TheVariants as stack
 use Rattle.vst_base.specs.declared.step.Step.{Step}
 use Rattle.vst_base.specs.declared.step.Step.TheVariants as step
 use Rattle.vst_base.specs.declared.step.StepKind.{StepKind}
 use Rattle.vst_base.specs.declared.step.StepKind.TheVariants as kind
-use Rattle.schedule_text.specs.Headers.{header_of, header_text, nodes_within}
 use Rattle.schedule_text.specs.Printing.{step_text}
 use Rattle.schedule_text.specs.Reading.{number_of, step_of, step_with}
 use Rattle.schedule_text.specs.Spellable.{IsSpellable}
@@ -44,13 +41,3 @@ step-reads-back input_of input_text HasText reads (step.Dup k) h = numbered-read
 step-reads-back input_of input_text HasText reads (step.Lose k) h = numbered-reads-back input_of kind.Lose k (step.Lose k) h refl
 step-reads-back input_of input_text HasText reads (step.Crash n) h = numbered-reads-back input_of kind.Crash n (step.Crash n) h refl
 step-reads-back input_of input_text HasText reads (step.Reboot n) h = numbered-reads-back input_of kind.Reboot n (step.Reboot n) h refl
-
--- a header's number of nodes is in range
-within-by : (t u : Bool) (m : ℕ) → t ≡ true → u ≡ true → cond (t && u) (Some m) None ≡ Some m
-within-by t u m low high = rw (low, high) refl
-
-nodes_within-reads : (least most m : ℕ) → least ≤ m → m ≤ most → nodes_within least most m ≡ Some m
-nodes_within-reads least most m low high = within-by (nat_le least m) (nat_le m most) m (le-leb least m low) (le-leb m most high)
-
-pub lock_header-reads-back : (m : ℕ) → 2 ≤ m → m ≤ 9 → header_of (header_text (record { net = net.Bag; stack = stack.Lock; nodes = m })) ≡ Some (record { net = net.Bag; stack = stack.Lock; nodes = m })
-lock_header-reads-back m low high = rw (number_of-decimal m (omega (arith, high)), nodes_within-reads 2 9 m low high) refl

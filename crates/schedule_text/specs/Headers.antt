@@ -1,5 +1,5 @@
 -- The header of a schedule: `schedule 1 <net> <stack> <nodes>`.
-use Rattle.std.specs.Prelude.{ℕ, ◌==◌, ◌&&◌, nat_le, List, [], ◌∷◌, ◌++◌, Option, Some, None, option_and_then, if◌then◌else◌, codes}
+use Rattle.std.specs.Prelude.{◌≡◌, ℕ, ◌≤◌, ◌⊎◌, ◌==◌, ◌&&◌, nat_le, List, [], ◌∷◌, ◌++◌, Option, Some, None, option_and_then, if◌then◌else◌, codes}
 use Rattle.vst_base.specs.declared.net.Net.{Net}
 use Rattle.vst_base.specs.declared.net.Net.TheVariants as net
 use Rattle.vst_base.specs.declared.stack.StackId.{StackId}
@@ -40,7 +40,25 @@ header_text h = header_front h.net h.stack ++ decimal h.nodes
 
 -- the pairings that a header may have, with the least and the greatest number of nodes
 abbrev pub rows : List Row
-rows = record { net = net.Bag; stack = stack.Lock; least = 2; most = 9 } ∷ []
+rows =
+    record { net = net.Bag; stack = stack.Lock; least = 2; most = 9 }
+    ∷ record { net = net.Dup; stack = stack.LockSeq; least = 2; most = 9 }
+    ∷ []
+
+-- a header by a pairing, and by one of several
+pub record IsBy (r : Row) (h : Header) : Type 0 where
+  pub net : h.net ≡ r.net
+  pub stack : h.stack ≡ r.stack
+  pub least : r.least ≤ h.nodes
+  pub most : h.nodes ≤ r.most
+
+abbrev pub IsAmong : List Row → Header → Type 0
+IsAmong [] h = ⊥
+IsAmong (r ∷ rs) h = IsBy r h ⊎ IsAmong rs h
+
+-- the headers that there are
+abbrev pub IsHeader : Header → Type 0
+IsHeader h = IsAmong rows h
 
 -- what stands behind a front
 abbrev pub behind : List ℕ → List ℕ → Option (List ℕ)
@@ -64,6 +82,6 @@ abbrev pub header_among : List Row → List ℕ → Option Header
 header_among [] line = None
 header_among (r ∷ rs) line = or_else (header_by r line) (header_among rs line)
 
--- the header that a line is, if it is one
+-- the header that a line is, if it is one: that of the first pairing that it fits
 abbrev pub header_of : List ℕ → Option Header
 header_of line = header_among rows line

@@ -2,6 +2,7 @@ pub mod Lines
 pub mod Words
 pub mod Reading
 pub mod Headers
+pub mod HeaderLaws
 pub mod Schedules
 pub mod Printing
 pub mod Spellable

@@ -14,6 +14,10 @@ use Rattle.schedule_text.specs.Words.{word_of}
 abbrev pub as_line : List ℕ → List ℕ
 as_line text = text ++ 10 ∷ []
 
+-- a line for each of some things, which are spelled so
+abbrev pub lines_text : {X : Type 0} → (X → List ℕ) → List X → List ℕ
+lines_text text xs = flat_map (λ x. as_line (text x)) xs
+
 -- a word, a space and a number
 abbrev pub numbered : List ℕ → ℕ → List ℕ
 numbered word n = word ++ 32 ∷ decimal n
@@ -29,7 +33,7 @@ step_text input_text (step.Crash n) = numbered (word_of kind.Crash) n
 step_text input_text (step.Reboot n) = numbered (word_of kind.Reboot) n
 
 abbrev pub steps_text : {I : Type 0} → (I → List ℕ) → List (Step I) → List ℕ
-steps_text input_text ss = flat_map (λ s. as_line (step_text input_text s)) ss
+steps_text input_text ss = lines_text (step_text input_text) ss
 
 -- an item of a trace, where inputs and outputs are spelled so
 abbrev pub item_text : {I O : Type 0} → (I → List ℕ) → (O → List ℕ) → Item I O → List ℕ
@@ -37,7 +41,7 @@ item_text input_text output_text (item.Input n i) = numbered (codes "in") n ++ 3
 item_text input_text output_text (item.Output n o) = numbered (codes "out") n ++ 32 ∷ output_text o
 
 abbrev pub trace_text : {I O : Type 0} → (I → List ℕ) → (O → List ℕ) → List (Item I O) → List ℕ
-trace_text input_text output_text items = flat_map (λ x. as_line (item_text input_text output_text x)) items
+trace_text input_text output_text items = lines_text (item_text input_text output_text) items
 
 -- the line that names a refusal
 abbrev pub refusal_line : ℕ → Why → List ℕ

@@ -36,8 +36,13 @@ pub fn worked_headers()
     ensures space_behind { header_of (codes "schedule 1 bag lock 2 ") ≡ None }
     ensures no_nodes { (header_of (codes "schedule 1 bag lock ") ≡ None) × (header_of (codes "schedule 1 bag lock") ≡ None) }
     ensures other_version { header_of (codes "schedule 2 bag lock 2") ≡ None }
-    ensures other_pairing { (header_of (codes "schedule 1 dup lock/seq 2") ≡ None) × (header_of (codes "schedule 1 dup lock 2") ≡ None) }
+    ensures least_numbered { header_of (codes "schedule 1 dup lock/seq 2") ≡ Some (record { net = Net.Dup; stack = StackId.LockSeq; nodes = 2 }) }
+    ensures most_numbered { header_of (codes "schedule 1 dup lock/seq 9") ≡ Some (record { net = Net.Dup; stack = StackId.LockSeq; nodes = 9 }) }
+    ensures beyond_numbered { (header_of (codes "schedule 1 dup lock/seq 1") ≡ None) × (header_of (codes "schedule 1 dup lock/seq 10") ≡ None) }
+    ensures two_spaces { header_of (codes "schedule 1 dup lock/seq  2") ≡ None }
+    ensures other_pairing { (header_of (codes "schedule 1 dup lock 2") ≡ None) × (header_of (codes "schedule 1 bag lock/seq 2") ≡ None) }
     ensures text { header_text (record { net = Net.Bag; stack = StackId.Lock; nodes = 2 }) ≡ codes "schedule 1 bag lock 2" }
+    ensures numbered_text { header_text (record { net = Net.Dup; stack = StackId.LockSeq; nodes = 9 }) ≡ codes "schedule 1 dup lock/seq 9" }
     ensures opens_empty { opening 2000000 1 [] ≡ EndedAt 1 }
     ensures opens_without_header { opening 2000000 1 (codes "# none" ∷ []) ≡ EndedAt 2 }
     ensures opens_behind_comment { opening 2000000 1 (codes "# a lock" ∷ codes "schedule 1 bag lock 2" ∷ codes "tick 0" ∷ []) ≡ Opened (record { net = Net.Bag; stack = StackId.Lock; nodes = 2 }) 3 (codes "tick 0" ∷ []) }

@@ -1,5 +1,5 @@
 ghost use Rattle.std.specs.Prelude.{◌≡◌, ◌≤◌, ◌<◌, ◌^◌, ◌++◌, OnOk, OnErr};
-ghost use Rattle.schedule_text.specs.Headers.{behind, header_by, header_front, header_of, header_text, net_word, stack_word, nodes_within, spaced};
+ghost use Rattle.schedule_text.specs.Headers.{behind, header_among, header_by, header_front, header_of, header_text, net_word, stack_word, nodes_within, spaced};
 ghost use Rattle.line_reader.specs.Slices.{one};
 
 use crate::Header;
@@ -9,12 +9,30 @@ use crate::words::number_of;
 use std::alloc::AllocError;
 use vst_base::{Net, StackId};
 
+// The least number of nodes of a lock cluster.
+const LEAST_LOCK: u8 = 2;
+
+// The greatest number of nodes of a lock cluster.
+const MOST_LOCK: u8 = 9;
+
+// The lock server on a bag of packets.
 const LOCK: Row = Row {
     net: Net::Bag,
     stack: StackId::Lock,
-    least: 2,
-    most: 9,
+    least: LEAST_LOCK,
+    most: MOST_LOCK,
 };
+
+// The lock server with numbered packets, on a network that copies packets.
+const LOCK_SEQ: Row = Row {
+    net: Net::Dup,
+    stack: StackId::LockSeq,
+    least: LEAST_LOCK,
+    most: MOST_LOCK,
+};
+
+// The pairings that there are. A line is tried by each in this order.
+const ROWS: &[Row] = &[LOCK, LOCK_SEQ];
 
 fn net_word(net: Net) -> &'static [u8]
     ensures { result.now ≡ net_word net }
@@ -109,12 +127,24 @@ fn header_by(row: &Row, line: &[u8]) -> Option<Header>
     })
 }
 
+// The header that a line is by the first pairing that it fits.
+fn header_among(rows: &[Row], line: &[u8]) -> Option<Header>
+    ensures { result ≡ header_among rows.now line.now }
+{
+    for row in rows {
+        if let Some(header) = header_by(row, line) {
+            return Some(header);
+        }
+    }
+    None
+}
+
 /// The header that a line is: `schedule 1 <net> <stack> <nodes>`, with a pairing and a number of nodes that
 /// there is. `None` comes exactly where it is no header.
 pub fn header_of(line: &[u8]) -> Option<Header>
     ensures { result ≡ header_of line.now }
 {
-    header_by(&LOCK, line)
+    header_among(ROWS, line)
 }
 
 impl Header {

@@ -2,7 +2,8 @@ ghost use Rattle.std.specs.Prelude.{◌≡◌, ℕ, ◌+◌, ◌<◌, ◌≤◌,
 ghost use Rattle.std.specs.Fmt.{decimal};
 ghost use Rattle.line_reader.specs.Lines.{lines_of};
 ghost use Rattle.schedule_text.specs.Schedules.{script};
-ghost use Rattle.schedule_text.specs.Headers.{header_of, header_text};
+ghost use Rattle.schedule_text.specs.Headers.{IsHeader, header_of, header_text};
+ghost use Rattle.schedule_text.specs.declared.header.Header.{Header};
 ghost use Rattle.schedule_text.specs.Printing.{step_text, steps_text};
 ghost use Rattle.schedule_text.specs.Reading.{number_of, step_of};
 ghost use Rattle.schedule_text.specs.Spellable.{AreSpellable, IsSpellable, numbered_steps};
@@ -25,7 +26,8 @@ pub fn steps_read_back<A: AppText>()
         → script most A.input_of n e (lines_of (steps_text A.input_text ss)) ≡ record { steps = numbered_steps n ss; fault = None } }
 {}
 
-/// The text of a header of a lock server on a bag of packets is read as the header, from 2 nodes to 9.
+/// Each header that there is has one spelling, its text. No other line is read as a header.
 pub fn headers_read_back()
-    ensures { (nodes : ℕ) → 2 ≤ nodes → nodes ≤ 9 → header_of (header_text (record { net = Net.Bag; stack = StackId.Lock; nodes = nodes })) ≡ Some (record { net = Net.Bag; stack = StackId.Lock; nodes = nodes }) }
+    ensures reads_back { (h : Header) → IsHeader h → header_of (header_text h) ≡ Some h }
+    ensures one_spelling { (line : List ℕ) (h : Header) → header_of line ≡ Some h → IsHeader h × (line ≡ header_text h) }
 {}

@@ -1,4 +1,4 @@
-ghost use Rattle.std.specs.Prelude.{◌≡◌, ◌∷◌, ◌++◌, OnOk};
+ghost use Rattle.std.specs.Prelude.{◌≡◌, ℕ, ◌∷◌, ◌++◌, List, OnOk};
 ghost use Rattle.schedule_text.specs.Printing.{as_line, item_text, numbered, refusal_line, step_text};
 
 use crate::numbers::push_number;
@@ -18,69 +18,63 @@ fn push_numbered(out: &mut Vec<u8>, word: &[u8], n: u32) -> Result<(), AllocErro
     push_number(out, n)
 }
 
-// Adds a step without its newline.
-fn push_step_text<A: AppText>(out: &mut Vec<u8>, step: &Step<A::Input>) -> Result<(), AllocError>
-    ensures { OnOk result (out.new.items ≡ out.old.items ++ step_text A.input_text step.now) }
-{
-    let word = word_of(step.kind());
-    match step {
-        Step::In(n, input) => {
-            push_numbered(out, word, *n)?;
-            out.push(SPACE)?;
-            A::print_input(input, out)
-        }
-        Step::Deliver(k) => push_numbered(out, word, *k),
-        Step::Tick(n) => push_numbered(out, word, *n),
-        Step::Dup(k) => push_numbered(out, word, *k),
-        Step::Lose(k) => push_numbered(out, word, *k),
-        Step::Crash(n) => push_numbered(out, word, *n),
-        Step::Reboot(n) => push_numbered(out, word, *n),
+// What has a line of its own, where an application says how its inputs and outputs are spelled.
+pub(crate) trait Printed<A: AppText> {
+    // How it is spelled.
+    ghost text: { Self → List ℕ };
+
+    // Adds its text, without a newline.
+    fn push_text(&self, out: &mut Vec<u8>) -> Result<(), AllocError>
+        ensures { OnOk result (out.new.items ≡ out.old.items ++ text self.now) };
+
+    // Adds its line.
+    fn push_line(&self, out: &mut Vec<u8>) -> Result<(), AllocError>
+        ensures { OnOk result (out.new.items ≡ out.old.items ++ as_line (text self.now)) }
+    {
+        self.push_text(out)?;
+        out.push(NEWLINE)?;
+        Ok(())
     }
 }
 
-// Adds the line of a step.
-pub(crate) fn push_step<A: AppText>(
-    out: &mut Vec<u8>,
-    step: &Step<A::Input>,
-) -> Result<(), AllocError>
-    ensures { OnOk result (out.new.items ≡ out.old.items ++ as_line (step_text A.input_text step.now)) }
-{
-    push_step_text::<A>(out, step)?;
-    out.push(NEWLINE)?;
-    Ok(())
-}
+impl<A: AppText> Printed<A> for Step<A::Input> {
+    ghost text = { step_text A.input_text };
 
-// Adds an item of a trace without its newline.
-fn push_item_text<A: AppText>(
-    out: &mut Vec<u8>,
-    item: &Item<A::Input, A::Output>,
-) -> Result<(), AllocError>
-    ensures { OnOk result (out.new.items ≡ out.old.items ++ item_text A.input_text A.output_text item.now) }
-{
-    match item {
-        Item::Input(n, input) => {
-            push_numbered(out, b"in", u32::from(n.index()))?;
-            out.push(SPACE)?;
-            A::print_input(input, out)
-        }
-        Item::Output(n, output) => {
-            push_numbered(out, b"out", u32::from(n.index()))?;
-            out.push(SPACE)?;
-            A::print_output(output, out)
+    fn push_text(&self, out: &mut Vec<u8>) -> Result<(), AllocError> {
+        let word = word_of(self.kind());
+        match self {
+            Step::In(n, input) => {
+                push_numbered(out, word, *n)?;
+                out.push(SPACE)?;
+                A::print_input(input, out)
+            }
+            Step::Deliver(k) => push_numbered(out, word, *k),
+            Step::Tick(n) => push_numbered(out, word, *n),
+            Step::Dup(k) => push_numbered(out, word, *k),
+            Step::Lose(k) => push_numbered(out, word, *k),
+            Step::Crash(n) => push_numbered(out, word, *n),
+            Step::Reboot(n) => push_numbered(out, word, *n),
         }
     }
 }
 
-// Adds the line of an item of a trace.
-pub(crate) fn push_item<A: AppText>(
-    out: &mut Vec<u8>,
-    item: &Item<A::Input, A::Output>,
-) -> Result<(), AllocError>
-    ensures { OnOk result (out.new.items ≡ out.old.items ++ as_line (item_text A.input_text A.output_text item.now)) }
-{
-    push_item_text::<A>(out, item)?;
-    out.push(NEWLINE)?;
-    Ok(())
+impl<A: AppText> Printed<A> for Item<A::Input, A::Output> {
+    ghost text = { item_text A.input_text A.output_text };
+
+    fn push_text(&self, out: &mut Vec<u8>) -> Result<(), AllocError> {
+        match self {
+            Item::Input(n, input) => {
+                push_numbered(out, b"in", u32::from(n.index()))?;
+                out.push(SPACE)?;
+                A::print_input(input, out)
+            }
+            Item::Output(n, output) => {
+                push_numbered(out, b"out", u32::from(n.index()))?;
+                out.push(SPACE)?;
+                A::print_output(output, out)
+            }
+        }
+    }
 }
 
 /// Adds the line that names a refusal.

@@ -1,10 +1,10 @@
 ghost use Rattle.std.specs.Prelude.{◌≡◌, ◌≤◌, IfErr, IsErrOf, OnErr, OnOk};
 ghost use Rattle.outside.specs.Counting.{Rose};
 ghost use Rattle.outside.specs.Wholes.{Gained, GainedFront};
-ghost use Rattle.schedule_text.specs.Printing.{as_line, step_text, steps_text, trace_text};
+ghost use Rattle.schedule_text.specs.Printing.{as_line, lines_text, step_text, steps_text, trace_text};
 ghost use Rattle.schedule_text.specs.Sending.{HasWriteCause, Spilled};
 
-use crate::printing::{push_item, push_step};
+use crate::printing::Printed;
 use app_text::AppText;
 use line_reader::LineFault;
 use outside::{Sink, WriteFault, write_all};
@@ -20,6 +20,8 @@ pub fn print_text<K: Sink>(sink: &mut K, text: &[u8]) -> Result<(), LineFault>
     ensures err { OnErr result (GainedFront (K.written sink.old) (K.written sink.new) text.now) }
     ensures fault { IfErr result (HasWriteCause (K.faults sink.old) (K.faults sink.new)) }
     ensures memory { IsErrOf result LineFault.Memory → Rose (K.wants sink.old) (K.wants sink.new) }
+    ensures unfailed { IsErrOf result LineFault.Memory → K.faults sink.new ≡ K.faults sink.old }
+    ensures quiet { OnOk result (K.faults sink.new ≡ K.faults sink.old) }
     ensures counts { K.faults sink.old ≤ K.faults sink.new }
 {
     match write_all(sink, text) {
@@ -34,6 +36,9 @@ fn spill<K: Sink>(sink: &mut K, text: &mut Vec<u8>) -> Result<(), LineFault>
     ensures ok { OnOk result (Spilled (K.written sink.old) (K.written sink.new) text.old.items text.new.items) }
     ensures err { OnErr result (GainedFront (K.written sink.old) (K.written sink.new) text.old.items) }
     ensures fault { IfErr result (HasWriteCause (K.faults sink.old) (K.faults sink.new)) }
+    ensures memory { IsErrOf result LineFault.Memory → Rose (K.wants sink.old) (K.wants sink.new) }
+    ensures unfailed { IsErrOf result LineFault.Memory → K.faults sink.new ≡ K.faults sink.old }
+    ensures quiet { OnOk result (K.faults sink.new ≡ K.faults sink.old) }
     ensures counts { K.faults sink.old ≤ K.faults sink.new }
 {
     if text.len() < PIECE {
@@ -42,6 +47,27 @@ fn spill<K: Sink>(sink: &mut K, text: &mut Vec<u8>) -> Result<(), LineFault>
     print_text(sink, text)?;
     text.clear();
     Ok(())
+}
+
+// Writes lines, in order.
+fn print_lines<A: AppText, P: Printed<A>, K: Sink>(
+    alloc: Global,
+    sink: &mut K,
+    lines: &[P],
+) -> Result<(), LineFault>
+    ensures ok { OnOk result (Gained (K.written sink.old) (K.written sink.new) (lines_text P.text lines.now)) }
+    ensures err { OnErr result (GainedFront (K.written sink.old) (K.written sink.new) (lines_text P.text lines.now)) }
+    ensures fault { IfErr result (HasWriteCause (K.faults sink.old) (K.faults sink.new)) }
+    ensures unfailed { IsErrOf result LineFault.Memory → K.faults sink.new ≡ K.faults sink.old }
+    ensures quiet { OnOk result (K.faults sink.new ≡ K.faults sink.old) }
+    ensures counts { K.faults sink.old ≤ K.faults sink.new }
+{
+    let mut text = Vec::new(alloc);
+    for line in lines {
+        line.push_line(&mut text)?;
+        spill(sink, &mut text)?;
+    }
+    print_text(sink, &text)
 }
 
 /// Writes the line of a step. At an `Err`, which is `Write` or `Memory`, a front of it was written.
@@ -53,10 +79,12 @@ pub fn print_step<A: AppText, K: Sink>(
     ensures ok { OnOk result (Gained (K.written sink.old) (K.written sink.new) (as_line (step_text A.input_text step.now))) }
     ensures err { OnErr result (GainedFront (K.written sink.old) (K.written sink.new) (as_line (step_text A.input_text step.now))) }
     ensures fault { IfErr result (HasWriteCause (K.faults sink.old) (K.faults sink.new)) }
+    ensures unfailed { IsErrOf result LineFault.Memory → K.faults sink.new ≡ K.faults sink.old }
+    ensures quiet { OnOk result (K.faults sink.new ≡ K.faults sink.old) }
     ensures counts { K.faults sink.old ≤ K.faults sink.new }
 {
     let mut text = Vec::new(alloc);
-    push_step::<A>(&mut text, step)?;
+    Printed::<A>::push_line(step, &mut text)?;
     print_text(sink, &text)
 }
 
@@ -69,14 +97,11 @@ pub fn print_steps<A: AppText, K: Sink>(
     ensures ok { OnOk result (Gained (K.written sink.old) (K.written sink.new) (steps_text A.input_text steps.now)) }
     ensures err { OnErr result (GainedFront (K.written sink.old) (K.written sink.new) (steps_text A.input_text steps.now)) }
     ensures fault { IfErr result (HasWriteCause (K.faults sink.old) (K.faults sink.new)) }
+    ensures unfailed { IsErrOf result LineFault.Memory → K.faults sink.new ≡ K.faults sink.old }
+    ensures quiet { OnOk result (K.faults sink.new ≡ K.faults sink.old) }
     ensures counts { K.faults sink.old ≤ K.faults sink.new }
 {
-    let mut text = Vec::new(alloc);
-    for step in steps {
-        push_step::<A>(&mut text, step)?;
-        spill(sink, &mut text)?;
-    }
-    print_text(sink, &text)
+    print_lines::<A, Step<A::Input>, K>(alloc, sink, steps)
 }
 
 /// Writes the lines of a trace, in order. At an `Err`, which is `Write` or `Memory`, a front of them was written.
@@ -88,12 +113,9 @@ pub fn print_trace<A: AppText, K: Sink>(
     ensures ok { OnOk result (Gained (K.written sink.old) (K.written sink.new) (trace_text A.input_text A.output_text items.now)) }
     ensures err { OnErr result (GainedFront (K.written sink.old) (K.written sink.new) (trace_text A.input_text A.output_text items.now)) }
     ensures fault { IfErr result (HasWriteCause (K.faults sink.old) (K.faults sink.new)) }
+    ensures unfailed { IsErrOf result LineFault.Memory → K.faults sink.new ≡ K.faults sink.old }
+    ensures quiet { OnOk result (K.faults sink.new ≡ K.faults sink.old) }
     ensures counts { K.faults sink.old ≤ K.faults sink.new }
 {
-    let mut text = Vec::new(alloc);
-    for item in items {
-        push_item::<A>(&mut text, item)?;
-        spill(sink, &mut text)?;
-    }
-    print_text(sink, &text)
+    print_lines::<A, Item<A::Input, A::Output>, K>(alloc, sink, items)
 }

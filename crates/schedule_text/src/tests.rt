@@ -115,12 +115,14 @@ fn event_one_million_is_the_last(rt: HostRuntime) -> Result<(), Fail> {
 
 #[test]
 fn a_header_is_read_and_printed_alike(rt: HostRuntime) -> Result<(), Fail> {
-    let line = b"schedule 1 bag lock 3".as_slice();
-    let header = header_of(line).unwrap();
-    let mut out = Vec::new(rt.alloc());
-    header.push_text(&mut out)?;
-    assert_eq!(rt; out.as_slice(), line);
+    for line in ["schedule 1 bag lock 3", "schedule 1 dup lock/seq 9"] {
+        let header = header_of(line.as_bytes()).ok_or("no header")?;
+        let mut out = Vec::new(rt.alloc());
+        header.push_text(&mut out)?;
+        assert_eq!(rt; out.as_slice(), line.as_bytes());
+    }
     assert_eq!(rt; header_of(b"schedule 1 bag lock 10"), None);
+    assert_eq!(rt; header_of(b"schedule 1 dup lock/seq 10"), None);
     Ok(())
 }
 

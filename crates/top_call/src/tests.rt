@@ -133,6 +133,39 @@ fn a_refused_line_leaves_the_trace_before_it(rt: HostRuntime) -> Result<(), Fail
 }
 
 #[test]
+fn numbered_packets_are_delivered_once(rt: HostRuntime) -> Result<(), Fail> {
+    expect(
+        &rt,
+        b"schedule 1 dup lock/seq 2\nin 1 lock\ndup 0\ndeliver 0\ndeliver 1\ndeliver 0\n",
+        0,
+        HANDED_OVER_ANSWER,
+        b"",
+    )?;
+    expect(
+        &rt,
+        b"schedule 1 dup lock/seq 2\nin 1 lock\nin 1 lock\ndeliver 1\ndeliver 0\ndeliver 2\nin 1 unlock\ndeliver 3\ndeliver 4\n",
+        0,
+        b"in 1 lock\nin 1 lock\nout 1 locked\nin 1 unlock\nout 1 locked\nbelow\nschedule 1 bag lock 2\nin 1 lock\nin 1 lock\ndeliver 1\ndeliver 0\ndeliver 2\nin 1 unlock\ndeliver 3\ndeliver 4\n",
+        b"",
+    )?;
+    expect(
+        &rt,
+        b"schedule 1 dup lock/seq 3\nin 1 lock\nin 2 lock\ndeliver 0\ndeliver 1\ndeliver 2\nin 1 unlock\ndeliver 3\ndeliver 4\n",
+        0,
+        b"in 1 lock\nin 2 lock\nout 1 locked\nin 1 unlock\nout 2 locked\nbelow\nschedule 1 bag lock 3\nin 1 lock\nin 2 lock\ndeliver 0\ndeliver 1\ndeliver 2\nin 1 unlock\ndeliver 3\ndeliver 4\n",
+        b"",
+    )?;
+    expect(
+        &rt,
+        b"schedule 1 dup lock/seq 2\nin 1 lock\nlose 0\n",
+        3,
+        b"in 1 lock\n",
+        b"line 3: not this network\n",
+    )?;
+    Ok(())
+}
+
+#[test]
 fn a_text_outside_the_grammar_is_refused(rt: HostRuntime) -> Result<(), Fail> {
     expect(&rt, b"", 3, b"", b"line 1: header\n")?;
     expect(

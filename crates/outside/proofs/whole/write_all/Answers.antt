@@ -1,4 +1,4 @@
-use Rattle.std.proofs.Common.{refl, ◌++◌, take, drop, arith, ap, ◌∙◌, sym, append_assoc, take-append-drop}
+use Rattle.std.proofs.Common.{refl, ◌++◌, take, drop, ap, ◌∙◌, sym, append_assoc, take-append-drop}
 use Rattle.outside.proofs.Wholes.{gained-more, gained-same, gained-front}
 use Rattle.outside.proofs.whole.write_all.Goals as goal
 
@@ -13,8 +13,8 @@ loop-rest-preserved g c =
         so_far.1 ∙ (ap (λ xs. so_far.0 ++ xs) (sym (take-append-drop n rest)) ∙ (sym (append_assoc so_far.0 (take n rest) (drop n rest)) ∙ rw c.split_at.ensures.back refl)),
         gained-more _ _ _ so_far.0 (take n rest) so_far.2 c.in-Took.ensures.written.0,
       );
-      counts = omega (arith, c.loop-rest.invariant.counts, c.write.ensures.counts);
-      wants = omega (arith, c.loop-rest.invariant.wants, c.write.ensures.wants);
+      faults = c.in-Took.ensures.causes.0 ∙ c.loop-rest.invariant.faults;
+      wants = c.in-Took.ensures.causes.1 ∙ c.loop-rest.invariant.wants;
     }
 
 pub returns-in-Failed-clause-err : goal.returns-in-Failed-clause-err

@@ -1,4 +1,4 @@
-use Rattle.std.proofs.Common.{◌≡◌, ℕ, ◌≤◌, ◌++◌, List, length}
+use Rattle.std.proofs.Common.{◌≡◌, ℕ, ◌++◌, List, length}
 use Rattle.outside.specs.Wholes.{Gained}
 use Rattle.outside.proofs.whole.write_all.Given as goal
 
@@ -8,8 +8,8 @@ invariant-loop-rest g l =
     let k = g.K.Sink in
     record {
       written : (done : List ℕ) × (l.bytes ≡ done ++ l.rest) × Gained (k.written l.initial.sink) (k.written l.sink) done;
-      counts : k.faults l.initial.sink ≤ k.faults l.sink;
-      wants : k.wants l.initial.sink ≤ k.wants l.sink;
+      faults : k.faults l.sink ≡ k.faults l.initial.sink;
+      wants : k.wants l.sink ≡ k.wants l.initial.sink;
     }
 
 abbrev pub decreases-loop-rest : goal.decreases-loop-rest

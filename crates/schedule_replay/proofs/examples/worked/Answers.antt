@@ -1,6 +1,25 @@
 -- These print numbers, whose digits have to be computed.
-use Rattle.std.proofs.Common.{refl}
+use Rattle.std.proofs.Common.{◌≡◌, ◌∷◌, [], None, refl}
 use Rattle.std.specs.Fmt.{digits}
+use Rattle.vst_base.specs.declared.lock.LockInput.{LockInput}
+use Rattle.vst_base.specs.declared.lock.LockInput.TheVariants as ask
+use Rattle.vst_base.specs.declared.lock.LockMsg.{LockMsg}
+use Rattle.vst_base.specs.declared.lock.LockOutput.{LockOutput}
+use Rattle.vst_base.specs.declared.lock.LockOutput.TheVariants as told
+use Rattle.vst_base.specs.declared.net.Net.TheVariants as net
+use Rattle.vst_base.specs.declared.seq.SeqMsg.{SeqMsg}
+use Rattle.vst_base.specs.declared.stack.StackId.TheVariants as stack
+use Rattle.vst_base.specs.declared.step.Item.TheVariants as item
+use Rattle.vst_base.specs.declared.step.Step.TheVariants as step
+use Rattle.lock_server.specs.declared.state.LockState.{LockState}
+use Rattle.net_semantics.specs.Runs.{first_refused}
+use Rattle.seqnum_xform.specs.Numbered.{Numbered}
+use Rattle.schedule_text.specs.Schedules.{Script}
+use Rattle.schedule_replay.specs.Replaying.{steps_of, trace_of}
+use Rattle.schedule_replay.specs.Replays.{lock_seq_stack}
+use Rattle.schedule_replay.specs.Stacks.{Stack}
+use Rattle.schedule_replay.proofs.Wholly.{whole-out}
+use Rattle.number_set.specs.NumberSetLaws.{set_tests}
 use Rattle.schedule_replay.proofs.examples.worked.Goals as goal
 
 pub returns-clause-handed_over : goal.returns-clause-handed_over
@@ -26,3 +45,31 @@ returns-clause-overtakes c = refl
 pub returns-clause-broken_off : goal.returns-clause-broken_off
 unfolding digits
 returns-clause-broken_off c = refl
+
+-- a packet that is copied, and the second copy delivered last
+abbrev copied_script : Script LockInput
+copied_script = record {
+  steps = (2, step.In 1 ask.Lock) ∷ (3, step.Dup 0) ∷ (4, step.Deliver 0) ∷ (5, step.Deliver 1) ∷ (6, step.Deliver 0) ∷ [];
+  fault = None;
+}
+
+abbrev copied_stack : Stack (Numbered LockState) (Numbered LockState) LockInput LockOutput (SeqMsg LockMsg)
+copied_stack = lock_seq_stack (record { net = net.Dup; stack = stack.LockSeq; nodes = 2 })
+
+copied-allowed : first_refused copied_stack.net copied_stack.meaning copied_stack.recovery (steps_of copied_script) ≡ None
+copied-allowed = refl
+
+copied-trace : trace_of copied_stack (steps_of copied_script) ≡ item.Input 1 ask.Lock ∷ item.Output 1 told.Locked ∷ []
+copied-trace = simp set_tests
+
+pub returns-clause-copied : goal.returns-clause-copied
+unfolding digits
+returns-clause-copied c = whole-out copied_stack copied_script refl copied-allowed (item.Input 1 ask.Lock ∷ item.Output 1 told.Locked ∷ []) copied-trace
+
+pub returns-clause-late_first_delivery : goal.returns-clause-late_first_delivery
+unfolding digits
+returns-clause-late_first_delivery c = simp set_tests
+
+pub returns-clause-equal_numbers : goal.returns-clause-equal_numbers
+unfolding digits
+returns-clause-equal_numbers c = simp set_tests

@@ -22,7 +22,7 @@ loop-halt-init g c =
       most = refl;
       counted = omega (arith, c.requires.started.counted);
       empty = c.requires.started.traced;
-      played = played-start (h.meaning v.world.handlers) (texts_of a.input_of a.input_text a.output_text) v c.args.tally.now c.args.reader.now (g.S.Source.left c.args.source.now) (g.K.Sink.written c.args.sink.now) c.requires.started c.requires.tally;
+      played = played-start (h.meaning v.world.handlers) g.T.TraceMap.has_followed (texts_of a.input_of a.input_text a.output_text) v c.args.tally.now c.args.reader.now (g.S.Source.left c.args.source.now) (g.K.Sink.written c.args.sink.now) c.requires.started c.requires.tally;
       stays = λ is. is;
       reads = omega arith;
       writes = omega arith;
@@ -36,8 +36,8 @@ returns-in_err-halt-clause-front g c =
     let p = err_from_is_err_and c.from_residual.result c.from_residual.ensures.1 in
     let m = h.meaning c.args.running.now.world.handlers in
     let inv = c.loop-halt.invariant in
-    rw p.1 (λ rest has. played-front m t c.args.header.now c.loop-halt.running c.loop-halt.tally c.args.reader.now c.loop-halt.reader
-    (g.S.Source.left c.args.source.now) (g.S.Source.left c.loop-halt.source) (g.K.Sink.written c.args.sink.now) (g.K.Sink.written c.loop-halt.sink) inv.played (inv.net ∙ (c.requires.net.0 ∙ sym c.requires.net.1)) rest has)
+    rw p.1 (λ i rest has. played-front m g.T.TraceMap.has_followed t i c.args.header.now.net c.loop-halt.running c.loop-halt.tally c.args.reader.now c.loop-halt.reader
+    (g.S.Source.left c.args.source.now) (g.S.Source.left c.loop-halt.source) (g.K.Sink.written c.args.sink.now) (g.K.Sink.written c.loop-halt.sink) inv.played (inv.net ∙ c.requires.net) rest has)
 
 pub returns-in-Some-clause-halted : goal.returns-in-Some-clause-halted
 returns-in-Some-clause-halted g c =
@@ -48,14 +48,14 @@ returns-in-Some-clause-halted g c =
     let inv = c.loop-halt.invariant in
     let v = c.loop-halt.running in
     let w = c.take_step.new.running in
-    let net = c.take_step.ensures.net ∙ (inv.net ∙ (c.requires.net.0 ∙ sym c.requires.net.1)) in
+    let net = c.take_step.ensures.net ∙ (inv.net ∙ c.requires.net) in
     let answer = c.in_ok-halt.field-0 in
-    let took = subst (λ (x : g.row.H.Denot). (ss : List (Step g.row.H-Input.Denot)) (gone : List (Item g.row.H-Input.Denot g.row.H-Output.Denot)) → HasRun (h.meaning x) ss gone v
-    → TookStep (h.meaning x) a.input_of w ss gone c.loop-halt.reader c.take_step.new.reader (g.S.Source.left c.loop-halt.source) (g.S.Source.left c.take_step.new.source) answer) inv.handlers c.in_ok-halt.ensures.took in
+    let took = subst (λ (x : g.row.H.Denot). (ss : List (Step g.row.H-Input.Denot)) (gone : List (Item g.row.H-Input.Denot g.row.H-Output.Denot)) → HasRun (h.meaning x) g.T.TraceMap.has_followed ss gone v
+    → TookStep (h.meaning x) g.T.TraceMap.has_followed a.input_of w ss gone c.loop-halt.reader c.take_step.new.reader (g.S.Source.left c.loop-halt.source) (g.S.Source.left c.take_step.new.source) answer) inv.handlers c.in_ok-halt.ensures.took in
     let same = c.take_step.ensures.unchanged c.in-Some.halt (c.in_ok-halt.was ∙ ap Ok c.in-Some.is) in
-    played-halts m t c.args.header.now v w c.loop-halt.tally c.args.reader.now c.loop-halt.reader c.take_step.new.reader
+    λ i. played-halts m g.T.TraceMap.has_followed t i c.args.header.now.net v w c.loop-halt.tally c.args.reader.now c.loop-halt.reader c.take_step.new.reader
     (g.S.Source.left c.args.source.now) (g.S.Source.left c.loop-halt.source) (g.S.Source.left c.take_step.new.source) (g.K.Sink.written c.args.sink.now) (g.K.Sink.written c.loop-halt.sink)
-    inv.played net c.in-Some.halt (ap (λ (r : RunView g.row.H.Denot g.row.H-State.Denot g.row.H-Input.Denot g.row.H-Output.Denot g.row.H-Msg.Denot). r.world.trace) same ∙ inv.empty)
+    inv.played net c.in-Some.halt (ap (λ (r : RunView g.row.H.Denot g.row.H-State.Denot g.row.H-Input.Denot g.row.H-Output.Denot g.row.H-Msg.Denot g.row.T.Denot). r.world.trace) same ∙ inv.empty)
     (rw c.in-Some.is at took (map (λ q. q.1) inv.played.steps) inv.played.gone inv.played.ran)
 
 pub returns-in_err-write_trace-clause-front : goal.returns-in_err-write_trace-clause-front
@@ -71,15 +71,15 @@ returns-in_err-write_trace-clause-front g c =
     let out = g.K.Sink.written c.args.sink.now in
     let mid = g.K.Sink.written c.loop-halt.sink in
     let answer = c.in_ok-halt.field-0 in
-    let took = subst (λ (x : g.row.H.Denot). (ss : List (Step g.row.H-Input.Denot)) (gone : List (Item g.row.H-Input.Denot g.row.H-Output.Denot)) → HasRun (h.meaning x) ss gone v
-    → TookStep (h.meaning x) a.input_of w ss gone c.loop-halt.reader c.take_step.new.reader (g.S.Source.left c.loop-halt.source) (g.S.Source.left c.take_step.new.source) answer) inv.handlers c.in_ok-halt.ensures.took in
+    let took = subst (λ (x : g.row.H.Denot). (ss : List (Step g.row.H-Input.Denot)) (gone : List (Item g.row.H-Input.Denot g.row.H-Output.Denot)) → HasRun (h.meaning x) g.T.TraceMap.has_followed ss gone v
+    → TookStep (h.meaning x) g.T.TraceMap.has_followed a.input_of w ss gone c.loop-halt.reader c.take_step.new.reader (g.S.Source.left c.loop-halt.source) (g.S.Source.left c.take_step.new.source) answer) inv.handlers c.in_ok-halt.ensures.took in
     let none = c.in_ok-halt.was ∙ ap Ok c.in_default.is in
-    let played = played-more m t v w c.loop-halt.tally c.args.reader.now c.loop-halt.reader c.take_step.new.reader
+    let played = played-more m g.T.TraceMap.has_followed t v w c.loop-halt.tally c.args.reader.now c.loop-halt.reader c.take_step.new.reader
     (g.S.Source.left c.args.source.now) (g.S.Source.left c.loop-halt.source) (g.S.Source.left c.take_step.new.source) out mid
     inv.played (rw c.in_default.is at took (map (λ q. q.1) inv.played.steps) inv.played.gone inv.played.ran) (c.take_step.ensures.events none) c.take_step.ensures.most in
-    rw p.1 (λ rest has. playing-front m t c.args.header.now w c.loop-halt.tally c.args.reader.now c.take_step.new.reader
+    rw p.1 (λ i rest has. playing-front m g.T.TraceMap.has_followed t i c.args.header.now.net w c.loop-halt.tally c.args.reader.now c.take_step.new.reader
     (g.S.Source.left c.args.source.now) (g.S.Source.left c.take_step.new.source) out mid (g.K.Sink.written c.write_trace.new.sink)
-    played (c.take_step.ensures.net ∙ (inv.net ∙ (c.requires.net.0 ∙ sym c.requires.net.1))) rest has c.in_err-write_trace.ensures.err)
+    played (c.take_step.ensures.net ∙ (inv.net ∙ c.requires.net)) rest has c.in_err-write_trace.ensures.err)
 
 pub loop-halt-preserved : goal.loop-halt-preserved
 loop-halt-preserved g c =
@@ -95,23 +95,23 @@ loop-halt-preserved g c =
     let out = g.K.Sink.written c.args.sink.now in
     let mid = g.K.Sink.written c.loop-halt.sink in
     let answer = c.in_ok-halt.field-0 in
-    let took = subst (λ (x : g.row.H.Denot). (ss : List (Step g.row.H-Input.Denot)) (gone : List (Item g.row.H-Input.Denot g.row.H-Output.Denot)) → HasRun (h.meaning x) ss gone v
-    → TookStep (h.meaning x) a.input_of w ss gone c.loop-halt.reader c.take_step.new.reader (g.S.Source.left c.loop-halt.source) (g.S.Source.left c.take_step.new.source) answer) inv.handlers c.in_ok-halt.ensures.took in
+    let took = subst (λ (x : g.row.H.Denot). (ss : List (Step g.row.H-Input.Denot)) (gone : List (Item g.row.H-Input.Denot g.row.H-Output.Denot)) → HasRun (h.meaning x) g.T.TraceMap.has_followed ss gone v
+    → TookStep (h.meaning x) g.T.TraceMap.has_followed a.input_of w ss gone c.loop-halt.reader c.take_step.new.reader (g.S.Source.left c.loop-halt.source) (g.S.Source.left c.take_step.new.source) answer) inv.handlers c.in_ok-halt.ensures.took in
     let none = c.in_ok-halt.was ∙ ap Ok c.in_default.is in
     let events = c.take_step.ensures.events none in
-    let played = played-more m t v w c.loop-halt.tally c.args.reader.now c.loop-halt.reader c.take_step.new.reader
+    let played = played-more m g.T.TraceMap.has_followed t v w c.loop-halt.tally c.args.reader.now c.loop-halt.reader c.take_step.new.reader
     (g.S.Source.left c.args.source.now) (g.S.Source.left c.loop-halt.source) (g.S.Source.left c.take_step.new.source) out mid
     inv.played (rw c.in_default.is at took (map (λ q. q.1) inv.played.steps) inv.played.gone inv.played.ran) events c.take_step.ensures.most in
     let sound = subst (λ (x : g.row.H.Denot). IsSound (h.meaning x) (h.sound x) (h.spent x) w.world) inv.handlers c.in_ok-halt.ensures.sound in
     let forgets = c.in_ok-write_trace.ensures.forgets in
     record {
-      handlers = ap (λ (r : RunView g.row.H.Denot g.row.H-State.Denot g.row.H-Input.Denot g.row.H-Output.Denot g.row.H-Msg.Denot). r.world.handlers) forgets ∙ (c.take_step.ensures.handlers ∙ inv.handlers);
-      net = ap (λ (r : RunView g.row.H.Denot g.row.H-State.Denot g.row.H-Input.Denot g.row.H-Output.Denot g.row.H-Msg.Denot). r.world.net) forgets ∙ (c.take_step.ensures.net ∙ inv.net);
+      handlers = ap (λ (r : RunView g.row.H.Denot g.row.H-State.Denot g.row.H-Input.Denot g.row.H-Output.Denot g.row.H-Msg.Denot g.row.T.Denot). r.world.handlers) forgets ∙ (c.take_step.ensures.handlers ∙ inv.handlers);
+      net = ap (λ (r : RunView g.row.H.Denot g.row.H-State.Denot g.row.H-Input.Denot g.row.H-Output.Denot g.row.H-Msg.Denot g.row.T.Denot). r.world.net) forgets ∙ (c.take_step.ensures.net ∙ inv.net);
       sound = sound-forget m (h.sound old) (h.spent old) w u forgets sound;
       most = c.take_step.ensures.most ∙ inv.most;
-      counted = omega (arith, events, c.take_step.ensures.taken none, inv.counted, ap (λ (r : RunView g.row.H.Denot g.row.H-State.Denot g.row.H-Input.Denot g.row.H-Output.Denot g.row.H-Msg.Denot). r.world.taken) forgets);
-      empty = ap (λ (r : RunView g.row.H.Denot g.row.H-State.Denot g.row.H-Input.Denot g.row.H-Output.Denot g.row.H-Msg.Denot). r.world.trace) forgets;
-      played = played-written m t w u c.loop-halt.tally c.write_trace.new.tally c.args.reader.now c.take_step.new.reader
+      counted = omega (arith, events, c.take_step.ensures.taken none, inv.counted, ap (λ (r : RunView g.row.H.Denot g.row.H-State.Denot g.row.H-Input.Denot g.row.H-Output.Denot g.row.H-Msg.Denot g.row.T.Denot). r.world.taken) forgets);
+      empty = ap (λ (r : RunView g.row.H.Denot g.row.H-State.Denot g.row.H-Input.Denot g.row.H-Output.Denot g.row.H-Msg.Denot g.row.T.Denot). r.world.trace) forgets;
+      played = played-written m g.T.TraceMap.has_followed t w u c.loop-halt.tally c.write_trace.new.tally c.args.reader.now c.take_step.new.reader
           (g.S.Source.left c.args.source.now) (g.S.Source.left c.take_step.new.source) out mid (g.K.Sink.written c.write_trace.new.sink)
           played c.in_ok-write_trace.ensures.ok forgets c.in_ok-write_trace.ensures.tally;
       stays = λ is. c.take_step.ensures.stays (inv.stays is);

@@ -2,12 +2,12 @@ use Rattle.std.proofs.Common.{Ok, Err, ap, ◌∙◌, subst}
 use Rattle.std.proofs.lemmas.Result.{err_from_is_err_and}
 use Rattle.line_reader.specs.Readers.{ReaderView, fresh}
 use Rattle.schedule_text.specs.Streams.{ReadsHeader}
-use Rattle.schedule_replay.proofs.Headers.{header_of-known}
+use Rattle.schedule_text.specs.HeaderLaws.{header_of-row}
 use Rattle.schedule_replay.proofs.Openings.{header-comes, header-then, fresh-rest, if-told, going-of}
 use Rattle.schedule_replay.proofs.stream.replay.Goals as goal
 
 pub replay_stack-requires : goal.replay_stack-requires
-replay_stack-requires g c = record { known = header_of-known c.read_header.new.reader.line c.in_ok-header.header c.in_ok-header.ensures.header }
+replay_stack-requires g c = record { known = header_of-row c.read_header.new.reader.line c.in_ok-header.header c.in_ok-header.ensures.header }
 
 pub returns-in_err-header-clause-told : goal.returns-in_err-header-clause-told
 returns-in_err-header-clause-told g c =
@@ -32,9 +32,8 @@ returns-clause-told g c =
     let new = c.read_header.new.reader in
     let r = c.in_ok-reader.reader in
     let h = c.in_ok-header.header in
-    let known = header_of-known new.line h c.in_ok-header.ensures.header in
     let is = c.in_ok-reader.ensures in
     if-told left _ (λ bytes told.
     let reads = subst (λ (v : ReaderView). ReadsHeader v new mid bytes (Ok h)) is (c.in_ok-header.ensures.told bytes (fresh-rest r left bytes is told)) in
-    header-then h new known.stack (c.read_header.ensures.kept.0 ∙ ap (λ (v : ReaderView). v.most) is) (c.read_header.ensures.kept.1 ∙ ap (λ (v : ReaderView). v.events) is) reads.0 reads.3
+    header-then h new (c.read_header.ensures.kept.0 ∙ ap (λ (v : ReaderView). v.most) is) (c.read_header.ensures.kept.1 ∙ ap (λ (v : ReaderView). v.events) is) reads.0 reads.3
     mid left' out out' bytes reads.1 c.replay_stack.result (going-of new.ended _ _ _ _ c.replay_stack.result c.replay_stack.ensures.fault) (c.replay_stack.ensures.told reads.1.rest' reads.1.left))

@@ -24,7 +24,7 @@ returns-in-Ok-clause-took g c = λ ss gone ran.
     let m = g.H.Handlers.meaning c.args.running.now.world.handlers in
     let refused = rw c.in-Err-Step.field-0-is at c.in-Err-Step.ensures.refused ss gone ran in
     let same = (rw c.in-Err-Step.field-0-is at c.in-Err-Step.ensures.unchanged) (λ e. cc) in (
-      subst (HasRun m ss gone) (sym same) ran,
+      subst (HasRun m g.T.TraceMap.has_followed ss gone) (sym same) ran,
       λ rest has. inr (
         c.in-Ok.step,
         c.in-Err-Step.why,

@@ -6,3 +6,7 @@ use Rattle.schedule_text.proofs.examples.worked_headers.Goals as goal
 pub returns-clause-text : goal.returns-clause-text
 unfolding digits
 returns-clause-text c = refl
+
+pub returns-clause-numbered_text : goal.returns-clause-numbered_text
+unfolding digits
+returns-clause-numbered_text c = refl

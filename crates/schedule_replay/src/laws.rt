@@ -1,0 +1,22 @@
+ghost use Rattle.std.specs.Prelude.{◌≡◌, List};
+ghost use Rattle.net_semantics.specs.Once.{once};
+ghost use Rattle.net_semantics.specs.Runs.{IsAllowed};
+ghost use Rattle.schedule_replay.specs.Replaying.{trace_of};
+ghost use Rattle.schedule_replay.specs.Replays.{lock_header, lock_seq_stack, lock_stack};
+ghost use Rattle.schedule_text.specs.declared.header.Header.{Header};
+ghost use Rattle.vst_base.specs.declared.step.Step.{Step};
+
+use lock_server::LockServer;
+use seqnum_xform::repeats_do_nothing;
+use vst_base::LockInput;
+
+/// Under the image below a trace of the lock server with numbered packets the lock server itself has the same trace: its
+/// network allows the image, and clients see the same.
+pub fn same_under_images()
+    ensures allowed { (h : Header) (ss : List (Step LockInput)) → IsAllowed (lock_seq_stack h).net (lock_seq_stack h).meaning (lock_seq_stack h).recovery ss
+        → IsAllowed (lock_stack (lock_header h)).net (lock_stack (lock_header h)).meaning (lock_stack (lock_header h)).recovery (once ss) }
+    ensures same_trace { (h : Header) (ss : List (Step LockInput)) → IsAllowed (lock_seq_stack h).net (lock_seq_stack h).meaning (lock_seq_stack h).recovery ss
+        → trace_of (lock_seq_stack h) ss ≡ trace_of (lock_stack (lock_header h)) (once ss) }
+{
+    repeats_do_nothing::<LockServer>();
+}
