@@ -1,0 +1,2 @@
+pub mod Ballots
+pub mod Votes

@@ -1,0 +1,223 @@
+use super::*;
+use std::alloc::{AllocError, Global};
+use std::process::Abort;
+use std::test::Fail;
+use vst_base::{ClientId, Entry, MAX_TERM, Machine, Node, ReqId};
+
+// A machine that keeps the last command.
+#[derive(Drop)]
+struct Last;
+
+impl Machine for Last {
+    type State = u8;
+
+    type Cmd = u8;
+
+    type Out = u8;
+
+    ghost meaning = { λ _. record { init = 0; apply = λ s c. (c, s) } };
+
+    fn init(&self, _alloc: Global) -> Result<u8, AllocError> {
+        Ok(0)
+    }
+
+    fn apply(&self, _alloc: Global, state: &mut u8, cmd: &u8) -> Result<u8, AllocError> {
+        let before = *state;
+        *state = *cmd;
+        Ok(before)
+    }
+
+    fn copy_cmd(&self, _alloc: Global, cmd: &u8) -> Result<u8, AllocError> {
+        Ok(*cmd)
+    }
+
+    fn copy_out(&self, _alloc: Global, out: &u8) -> Result<u8, AllocError> {
+        Ok(*out)
+    }
+}
+
+// The logs of Figure 7 of the Raft paper, by their terms: the new leader's, and the followers' a to f.
+const LEADER: [u64; 10] = [1, 1, 1, 4, 4, 5, 5, 6, 6, 6];
+
+const A: [u64; 9] = [1, 1, 1, 4, 4, 5, 5, 6, 6];
+
+const B: [u64; 4] = [1, 1, 1, 4];
+
+const C: [u64; 11] = [1, 1, 1, 4, 4, 5, 5, 6, 6, 6, 6];
+
+const D: [u64; 12] = [1, 1, 1, 4, 4, 5, 5, 6, 6, 6, 7, 7];
+
+const E: [u64; 7] = [1, 1, 1, 4, 4, 4, 4];
+
+const F: [u64; 11] = [1, 1, 1, 2, 2, 2, 3, 3, 3, 3, 3];
+
+// Entries of these terms, with this command.
+fn entries(alloc: Global, terms: &[u64], cmd: u8) -> Result<Vec<Entry<u8>>, Fail> {
+    let origin = Node::new(0, 5).ok_or("a node")?;
+    let mut made = Vec::new(alloc);
+    for term in terms {
+        if *term == 0 || *term > MAX_TERM {
+            return Err(Fail::from("a term of an entry"));
+        }
+        made.push(Entry::new(*term, ClientId::new(7), ReqId::new(1), origin, cmd))?;
+    }
+    Ok(made)
+}
+
+fn log(alloc: Global, terms: &[u64], cmd: u8) -> Result<Log<u8>, Fail> {
+    let made = entries(alloc, terms, cmd)?;
+    if made.len() > MAX_ENTRIES as usize {
+        return Err(Fail::from("a short log"));
+    }
+    Ok(Log::new(made))
+}
+
+fn accept<M: Machine>(
+    alloc: Global,
+    machine: &M,
+    log: &mut Log<M::Cmd>,
+    prev: u32,
+    new: &[Entry<M::Cmd>],
+    commit: u32,
+) -> Result<Accept, Fail> {
+    let (last, _) = log.last();
+    if prev > last || commit > last || new.len() > (MAX_ENTRIES - last) as usize {
+        return Err(Fail::from("indexes of the log"));
+    }
+    Ok(log.accept(alloc, machine, prev, new, commit)?)
+}
+
+// Of these terms, in order, and the commands of those up to `kept` are 0, of the others 9.
+fn is_of(rt: &impl Abort, log: &Log<u8>, terms: &[u64], kept: usize) {
+    assert_eq!(rt; log.entries().len(), terms.len());
+    for (place, (entry, term)) in log.entries().iter().zip(terms).enumerate() {
+        assert_eq!(rt; entry.term(), *term);
+        assert_eq!(rt; *entry.cmd(), if place < kept { 0 } else { 9 });
+    }
+}
+
+#[test]
+fn the_followers_of_figure_7_take_the_leaders_entries(rt: HostRuntime) -> Result<(), Fail> {
+    let alloc = rt.alloc();
+    for (old, prev, kept, new) in [
+        (A.as_slice(), 9, 9, LEADER.as_slice()),
+        (B.as_slice(), 4, 4, LEADER.as_slice()),
+        (B.as_slice(), 0, 4, LEADER.as_slice()),
+        (C.as_slice(), 7, 11, C.as_slice()),
+        (D.as_slice(), 0, 12, D.as_slice()),
+        (E.as_slice(), 5, 5, LEADER.as_slice()),
+        (E.as_slice(), 1, 5, LEADER.as_slice()),
+        (F.as_slice(), 3, 3, LEADER.as_slice()),
+    ] {
+        let mut follower = log(alloc, old, 0)?;
+        let sent = entries(alloc, &LEADER[prev as usize..], 9)?;
+        let answer = accept(alloc, &Last, &mut follower, prev, &sent, 0)?;
+        assert_eq!(rt; answer, Accept::Taken(10));
+        is_of(&rt, &follower, new, kept);
+    }
+    Ok(())
+}
+
+#[test]
+fn an_old_or_an_empty_message_cuts_nothing(rt: HostRuntime) -> Result<(), Fail> {
+    let alloc = rt.alloc();
+    let mut follower = log(alloc, &C, 0)?;
+    let sent = entries(alloc, &LEADER[2..5], 9)?;
+    let answer = accept(alloc, &Last, &mut follower, 2, &sent, 11)?;
+    assert_eq!(rt; answer, Accept::Taken(5));
+    let answer = accept(alloc, &Last, &mut follower, 4, &[], 11)?;
+    assert_eq!(rt; answer, Accept::Taken(4));
+    is_of(&rt, &follower, &C, 11);
+    Ok(())
+}
+
+#[test]
+fn a_conflict_up_to_commit_is_refused(rt: HostRuntime) -> Result<(), Fail> {
+    let alloc = rt.alloc();
+    for (old, prev, commit, answer) in [
+        (E.as_slice(), 5, 7, Accept::Below(6)),
+        (E.as_slice(), 5, 6, Accept::Below(6)),
+        (E.as_slice(), 0, 6, Accept::Below(6)),
+        (F.as_slice(), 3, 11, Accept::Below(4)),
+    ] {
+        let mut follower = log(alloc, old, 0)?;
+        let sent = entries(alloc, &LEADER[prev as usize..], 9)?;
+        assert_eq!(rt;
+            accept(alloc, &Last, &mut follower, prev, &sent, commit)?,
+            answer
+        );
+        is_of(&rt, &follower, old, old.len());
+    }
+    let mut follower = log(alloc, &E, 0)?;
+    let sent = entries(alloc, &LEADER[5..], 9)?;
+    assert_eq!(rt;
+        accept(alloc, &Last, &mut follower, 5, &sent, 5)?,
+        Accept::Taken(10)
+    );
+    is_of(&rt, &follower, &LEADER, 5);
+    Ok(())
+}
+
+#[test]
+fn a_leader_adds_its_own_entry(rt: HostRuntime) -> Result<(), Fail> {
+    let alloc = rt.alloc();
+    let mut leader = log(alloc, &[], 0)?;
+    for (prev, term) in [(0, 1), (1, 1), (2, 3)] {
+        let own = entries(alloc, &[term], 9)?;
+        let answer = accept(alloc, &Last, &mut leader, prev, &own, prev)?;
+        assert_eq!(rt; answer, Accept::Taken(prev + 1));
+    }
+    is_of(&rt, &leader, &[1, 1, 3], 0);
+    assert_eq!(rt; leader.into_entries().len(), 3);
+    Ok(())
+}
+
+#[test]
+fn indexes_count_from_one(rt: HostRuntime) -> Result<(), Fail> {
+    let alloc = rt.alloc();
+    let f = log(alloc, &F, 0)?;
+    assert_eq!(rt; f.last(), (11, 3));
+    for (index, term) in [
+        (0, Some(0)),
+        (1, Some(1)),
+        (4, Some(2)),
+        (11, Some(3)),
+        (12, None),
+        (u32::MAX, None),
+    ] {
+        assert_eq!(rt; f.term_at(index), term);
+    }
+    for (prev, term, matches) in [
+        (0, 0, true),
+        (0, 1, false),
+        (6, 2, true),
+        (6, 3, false),
+        (12, 0, false),
+        (12, 3, false),
+    ] {
+        assert_eq!(rt; f.matches(prev, term), matches);
+    }
+    let empty = log(alloc, &[], 0)?;
+    assert_eq!(rt; empty.last(), (0, 0));
+    assert!(rt; empty.matches(0, 0));
+    assert_eq!(rt; empty.term_at(1), None);
+    Ok(())
+}
+
+#[test]
+fn figure_7s_leader_could_be_elected_by_a_b_e_and_f(rt: HostRuntime) -> Result<(), Fail> {
+    let alloc = rt.alloc();
+    for (voter, votes) in [
+        (A.as_slice(), true),
+        (B.as_slice(), true),
+        (C.as_slice(), false),
+        (D.as_slice(), false),
+        (E.as_slice(), true),
+        (F.as_slice(), true),
+        (LEADER.as_slice(), true),
+    ] {
+        let voter = log(alloc, voter, 0)?;
+        assert_eq!(rt; voter.up_to_date(10, 6), votes);
+    }
+    Ok(())
+}
