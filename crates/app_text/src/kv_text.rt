@@ -1,4 +1,4 @@
-ghost use Rattle.std.specs.Prelude.{IsTrue};
+ghost use Rattle.std.specs.Prelude.{IsTrue, true};
 ghost use Rattle.app_text.specs.KvTexts.{input_of, input_text, is_command, is_output, output_of, output_text};
 ghost use Rattle.app_text.specs.KvTextLaws.{inputs_are_spelled, no_redirect, outputs_are_spelled};
 
@@ -29,6 +29,12 @@ impl AppText for KvText {
     ghost output_of = { output_of };
 
     ghost output_text = { output_text };
+
+    ghost replies = { λ _. true };
+
+    fn is_reply(_output: &KvOut) -> bool {
+        true
+    }
 
     fn read_input(alloc: Global, text: &[u8]) -> Result<KvCmd, TextFault> {
         read_command(alloc, text)

@@ -1,4 +1,4 @@
-ghost use Rattle.std.specs.Prelude.{◌≡◌, ◌↔◌, ◌++◌, None, Some, IsSome, IsOk, IfOk, OnOk, OnErr, IsErrOf};
+ghost use Rattle.std.specs.Prelude.{◌≡◌, ◌↔◌, ◌++◌, None, Some, IsSome, true, IsOk, IfOk, OnOk, OnErr, IsErrOf};
 ghost use Rattle.app_text.specs.LockTexts.{input_of, input_text, output_of, output_text};
 ghost use Rattle.app_text.specs.LockTextLaws.{inputs_are_spelled, outputs_are_spelled};
 
@@ -26,6 +26,12 @@ impl AppText for LockText {
     ghost output_of = { output_of };
 
     ghost output_text = { output_text };
+
+    ghost replies = { λ _. true };
+
+    fn is_reply(_output: &LockOutput) -> bool {
+        true
+    }
 
     fn read_input(_alloc: Global, text: &[u8]) -> Result<LockInput, TextFault>
         ensures ok { IfOk result (λ input. input_of text.now ≡ Some input) }

@@ -1,5 +1,5 @@
 ghost use Rattle.std.specs.Prelude.{◌≢◌, codes};
-ghost use Rattle.app_text.specs.PbTexts.{pb_output_of, pb_output_text, IsPbOutput};
+ghost use Rattle.app_text.specs.PbTexts.{pb_output_of, pb_output_text, pb_replies, IsPbOutput};
 ghost use Rattle.app_text.specs.PbTextLaws.{pb_outputs_are_spelled};
 
 use crate::{AppText, KvText, TextFault};
@@ -37,6 +37,15 @@ impl<A: MachineText> AppText for PbText<A> {
     ghost output_of = { pb_output_of A.output_of };
 
     ghost output_text = { pb_output_text A.output_text };
+
+    ghost replies = { pb_replies };
+
+    fn is_reply(output: &PbOut<A::Output>) -> bool {
+        match output {
+            PbOut::Reply(_) => true,
+            PbOut::Redirect => false,
+        }
+    }
 
     fn read_input(alloc: Global, text: &[u8]) -> Result<A::Input, TextFault> {
         A::read_input(alloc, text)

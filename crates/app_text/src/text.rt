@@ -1,4 +1,4 @@
-ghost use Rattle.std.specs.Prelude.{◌≡◌, ◌↔◌, ℕ, List, ◌++◌, Option, None, Some, IfOk, OnOk, OnErr, IsErrOf};
+ghost use Rattle.std.specs.Prelude.{◌≡◌, ◌↔◌, ℕ, Bool, List, ◌++◌, Option, None, Some, IfOk, OnOk, OnErr, IsErrOf};
 ghost use Rattle.app_text.specs.Spelling.{IsSpelling};
 ghost use Rattle.app_text.specs.declared.text.TextFault.TheVariants.{Memory};
 
@@ -47,6 +47,13 @@ pub trait AppText {
 
     /// How an output is spelled.
     ghost output_text: { Self.Output → List ℕ };
+
+    /// Which outputs are replies: the others only say that the node gives none.
+    ghost replies: { Self.Output → Bool };
+
+    /// Whether the output is a reply.
+    fn is_reply(output: &Self::Output) -> bool
+        ensures { result ≡ replies output.now };
 
     /// The input that the text spells.
     fn read_input(alloc: Global, text: &[u8]) -> Result<Self::Input, TextFault>

@@ -1,4 +1,4 @@
-ghost use Rattle.std.specs.Prelude.{◌≡◌, ◌≢◌, ◌⊎◌, ℕ, ◌+◌, ◌<◌, ◌≤◌, [], ◌++◌, length, IsTrue, IsOk, IfOk, IfErr, OnOk, OnErr, Some, None, Ok, Err, slice_get};
+ghost use Rattle.std.specs.Prelude.{◌≡◌, ◌≢◌, ℕ, ◌+◌, ◌<◌, ◌≤◌, [], ◌++◌, length, IsTrue, IsOk, IfOk, IfErr, OnOk, OnErr, Some, None, Ok, Err, slice_get};
 ghost use Rattle.net_semantics.specs.Worlds.{World as DefinedWorld, first_world, change_at, copies, ends};
 ghost use Rattle.net_semantics.specs.Steps.{next, refusal_of, items_of, IsAnswer};
 ghost use Rattle.net_semantics.specs.Runs.{no_recovery};
@@ -19,7 +19,7 @@ use vst_base::{Item, Net, Node, Step, StepKind, StepRefusal};
 /// The greatest number of steps that a world takes.
 pub const MAX_STEPS: u32 = 1_000_000;
 
-/// A network without crashes: a bag of packets, which `Dup` steps may copy.
+/// A network without crashes: inputs alone, a bag of packets, or a bag that `Dup` steps may copy from.
 #[derive(Drop)]
 pub struct World<H: Handlers> {
     alloc: Global,
@@ -52,9 +52,9 @@ impl<H: Handlers> Model for World<H> {
 }
 
 impl<H: Handlers> World<H> {
-    /// The first world of these handlers on a bag, or on a network that copies packets too.
+    /// The first world of these handlers, on a network that stops no node.
     pub fn new(alloc: Global, handlers: H, net: Net) -> Result<Self, AllocError>
-        requires { (net ≡ Net.Bag) ⊎ (net ≡ Net.Dup) }
+        requires { net ≢ Net.Fail }
         ensures handlers { IfOk result (λ world. world.handlers ≡ handlers) }
         ensures net { IfOk result (λ world. world.net ≡ net) }
         ensures first { IfOk result (λ world. Shows (H.meaning handlers).nodes world (first_world {K = H.State} (H.meaning handlers))) }
