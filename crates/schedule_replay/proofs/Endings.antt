@@ -32,7 +32,7 @@ use Rattle.schedule_replay.specs.declared.tally.Tally.{Tally}
 use Rattle.schedule_replay.specs.Stacks.{Stack, Texts, Image, stack_of}
 use Rattle.schedule_replay.specs.Tallying.{tallied}
 use Rattle.schedule_replay.specs.Finishing.{image_text, counted_done}
-use Rattle.schedule_replay.specs.Replaying.{Replayed, is_output, is_reply_by, ended, replayed_script, stop, taken, trace_lines, image_lines, counts_of}
+use Rattle.schedule_replay.specs.Replaying.{Replayed, ended, replayed_script, stop, taken, trace_lines, image_lines, counts_of}
 use Rattle.schedule_replay.specs.Replays.{stack_whole, stack_so_far}
 use Rattle.schedule_replay.specs.Outcomes.{HasGiven, ComesTo, HasCause}
 use Rattle.schedule_replay.specs.Playing.{TraceWritten, Halted}
@@ -60,23 +60,14 @@ lines-map : {I : Type 0} (t : I → List ℕ) (ss : List (Step I)) → flat_map 
 lines-map t [] = refl
 lines-map t (s ∷ ss) = ap (λ bs. as_line (step_text t s) ++ bs) (lines-map t ss)
 
--- each output is a reply
-replies-from : {I O : Type 0} (a : ℕ) (xs : List (Item I O)) → fold (λ n x. n + cond (is_reply_by (λ _. true) x) 1 0) a xs ≡ fold (λ n x. n + cond (is_output x) 1 0) a xs
-replies-from a [] = refl
-replies-from a (item.Input n i ∷ xs) = replies-from (a + 0) xs
-replies-from a (item.Output n o ∷ xs) = replies-from (a + 1) xs
-
-replies : {I O : Type 0} (xs : List (Item I O)) → count_by (is_reply_by (λ _. true)) xs ≡ count_by is_output xs
-replies xs = replies-from 0 xs
-
 module _ {S I O M : Type 0} (on : Net) (m : Meaning S I O M) (t : Texts I O) (i : Image I) where
   image-same : (ss : List (Step I)) → image_text t.input_text i.header (i.steps ss) ≡ image_lines (stack_of on m t i) ss
   image-same ss =
       ap (λ bs. (as_line (codes "below") ++ bs) ++ steps_text t.input_text (i.steps ss)) (sym (append-nil (as_line (header_text i.header))))
       ∙ ap (λ bs. (as_line (codes "below") ++ (as_line (header_text i.header) ++ [])) ++ bs) (sym (lines-map t.input_text (i.steps ss)))
 
-  counts-same : (ss : List (Step I)) → counted_done (tallied (record { inputs = 0; outputs = 0 }) (trace m (no_recovery {S = S}) ss)) (length ss) (i.steps ss) ≡ counts_of (stack_of on m t i) ss
-  counts-same ss = rw (zero-add, zero-add, replies (trace m (no_recovery {S = S}) ss), length-map (i.steps ss) (step_text t.input_text)) refl
+  counts-same : (ss : List (Step I)) → counted_done (tallied t.is_reply (record { inputs = 0; outputs = 0; replies = 0 }) (trace m (no_recovery {S = S}) ss)) (length ss) (i.steps ss) ≡ counts_of (stack_of on m t i) ss
+  counts-same ss = rw (zero-add, zero-add, zero-add, length-map (i.steps ss) (step_text t.input_text)) refl
 
 module _ {H S I O M T : Type 0} (on : Net) (m : Meaning S I O M) (follows : T → Meaning S I O M → List (Step I) → Type 0) (t : Texts I O) (i : Image I) where
   module _ (v : RunView H S I O M T) (tally : Tally) (old new : ReaderView) (left left' out mid : Option (List ℕ)) (rest : List ℕ) (has : HasRest old left rest) where

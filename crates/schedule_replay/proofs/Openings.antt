@@ -31,7 +31,7 @@ use Rattle.schedule_replay.specs.declared.fault.ReplayFault.{ReplayFault}
 use Rattle.schedule_replay.specs.declared.fault.ReplayFault.TheVariants as fault
 use Rattle.schedule_replay.specs.Faults.{replay_fault}
 use Rattle.schedule_replay.specs.Replaying.{Replayed, replayed_script}
-use Rattle.schedule_replay.specs.Replays.{lock_seq_stack, lock_texts, most_lines, replayed_by, replayed_stack, replayed_opening, replayed, replayed_so_far, stack_whole, stack_so_far, rest_whole, rest_so_far}
+use Rattle.schedule_replay.specs.Replays.{kv_pb_stack, kv_pb_seq_stack, lock_seq_stack, lock_texts, most_lines, replayed_by, replayed_stack, replayed_opening, replayed, replayed_so_far, stack_whole, stack_so_far, rest_whole, rest_so_far}
 use Rattle.schedule_replay.specs.Stacks.{Stack, stack_of}
 use Rattle.schedule_replay.specs.Outcomes.{HasGiven, ComesTo, HasFault, HasCause}
 use Rattle.schedule_replay.proofs.Endings.{given-of}
@@ -169,6 +169,12 @@ pub is-lock : (h : Header) (s : StackId) (on : Net) → s ≡ stack.Lock → on 
     → replayed_stack whole h s most n e ls ≡ replayed_by (lock_stack_on on h) whole most n e ls
 is-lock h s on is on-bag whole most n e ls = rw (is, on-bag) refl
 
+pub is-kv_pb : (h : Header) (s : StackId) → s ≡ stack.KvPb → (whole : Bool) (most n e : ℕ) (ls : List (List ℕ)) → replayed_stack whole h s most n e ls ≡ replayed_by kv_pb_stack whole most n e ls
+is-kv_pb h s is whole most n e ls = rw is refl
+
+pub is-kv_pb_seq : (h : Header) (s : StackId) → s ≡ stack.KvPbSeq → (whole : Bool) (most n e : ℕ) (ls : List (List ℕ)) → replayed_stack whole h s most n e ls ≡ replayed_by kv_pb_seq_stack whole most n e ls
+is-kv_pb_seq h s is whole most n e ls = rw is refl
+
 pub is-lock_seq : (h : Header) (s : StackId) → s ≡ stack.LockSeq → (whole : Bool) (most n e : ℕ) (ls : List (List ℕ)) → replayed_stack whole h s most n e ls ≡ replayed_by (lock_seq_stack h) whole most n e ls
 is-lock_seq h s is whole most n e ls = rw is refl
 
@@ -183,13 +189,21 @@ stack-comes st h r is before rest left' out out' result comes =
       λ bytes. sym (is false r.most (r.number + 1) r.events (whole_lines bytes)) i,
     )) comes
 
--- the networks of the stacks, which their headers name
-pub lock-net : (h : Header) → IsHeader h → h.stack ≡ stack.Lock → h.net ≡ net.Bag
-lock-net h (inl by) is = by.net
-lock-net h (inr (inl by)) is = let clash : stack.LockSeq ≡ stack.Lock = sym by.stack ∙ is in cc
-lock-net h (inr (inr x)) is = elim x [ ]
+-- the network of each stack that a header names
+abbrev net_of : StackId → Net
+net_of stack.Lock = net.Bag
+net_of stack.LockSeq = net.Dup
+net_of stack.KvPb = net.Bag
+net_of stack.KvPbSeq = net.Dup
+net_of stack.KvRaft = net.Fail
+net_of stack.TablePbSeq = net.Dup
+net_of stack.TableRaft = net.Fail
+net_of stack.Kv = net.One
+net_of stack.Table = net.One
 
-pub lock_seq-net : (h : Header) → IsHeader h → h.stack ≡ stack.LockSeq → h.net ≡ net.Dup
-lock_seq-net h (inl by) is = let clash : stack.Lock ≡ stack.LockSeq = sym by.stack ∙ is in cc
-lock_seq-net h (inr (inl by)) is = by.net
-lock_seq-net h (inr (inr x)) is = elim x [ ]
+pub header-net : (h : Header) → IsHeader h → (s : StackId) → h.stack ≡ s → h.net ≡ net_of s
+header-net h (inl by) s is = by.net ∙ ap net_of (sym by.stack ∙ is)
+header-net h (inr (inl by)) s is = by.net ∙ ap net_of (sym by.stack ∙ is)
+header-net h (inr (inr (inl by))) s is = by.net ∙ ap net_of (sym by.stack ∙ is)
+header-net h (inr (inr (inr (inl by)))) s is = by.net ∙ ap net_of (sym by.stack ∙ is)
+header-net h (inr (inr (inr (inr x)))) s is = elim x [ ]

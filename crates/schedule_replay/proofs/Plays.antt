@@ -34,7 +34,7 @@ use Rattle.schedule_replay.specs.declared.tally.Tally.{Tally}
 use Rattle.schedule_text.specs.declared.header.Header.{Header}
 use Rattle.schedule_replay.specs.Stacks.{Stack, Texts, Image, stack_of}
 use Rattle.schedule_replay.specs.Tallying.{tallied}
-use Rattle.schedule_replay.specs.Replaying.{is_input, is_output, why_of, stop, taken, trace_of, trace_lines, image_lines, ended, replayed_script}
+use Rattle.schedule_replay.specs.Replaying.{is_input, is_output, is_reply_by, why_of, stop, taken, trace_of, trace_lines, image_lines, ended, replayed_script}
 use Rattle.schedule_replay.specs.Playing.{TraceWritten, TookStep, HaltsBy, Halted}
 use Rattle.schedule_replay.proofs.Scripts.{all-taken, refused-behind, taken-front}
 
@@ -77,19 +77,20 @@ module _ {I O : Type 0} (t : Texts I O) where
   lines-append xs ys = flat_map-append (λ x. as_line (item_text t.input_text t.output_text x)) xs ys
 
   pub written-more : (gone items : List (Item I O)) (out mid out' : Option (List ℕ)) (tally tally' : Tally) → TraceWritten t gone out mid tally → Gained mid out' (trace_text t.input_text t.output_text items)
-      → tally' ≡ tallied tally items → TraceWritten t (gone ++ items) out out' tally'
+      → tally' ≡ tallied t.is_reply tally items → TraceWritten t (gone ++ items) out out' tally'
   written-more gone items out mid out' tally tally' before more is = record {
     written = subst (λ (bs : List ℕ). Gained out out' bs) (sym (lines-append gone items)) (gained-both out mid out' (trace_text t.input_text t.output_text gone) (trace_text t.input_text t.output_text items) before.written more);
-    counted = is ∙ (ap (λ (x : Tally). tallied x items) before.counted ∙ sums);
+    counted = is ∙ (ap (λ (x : Tally). tallied t.is_reply x items) before.counted ∙ sums);
   } where
-    sums : tallied (tallied (record { inputs = 0; outputs = 0 }) gone) items ≡ tallied (record { inputs = 0; outputs = 0 }) (gone ++ items)
+    sums : tallied t.is_reply (tallied t.is_reply (record { inputs = 0; outputs = 0; replies = 0 }) gone) items ≡ tallied t.is_reply (record { inputs = 0; outputs = 0; replies = 0 }) (gone ++ items)
     sums =
         let ins : (0 + count_by is_input gone) + count_by is_input items ≡ 0 + count_by is_input (gone ++ items) = omega (arith, count-append is_input gone items) in
         let outs : (0 + count_by is_output gone) + count_by is_output items ≡ 0 + count_by is_output (gone ++ items) = omega (arith, count-append is_output gone items) in
-        rw (ins, outs) refl
+        let replies : (0 + count_by (is_reply_by t.is_reply) gone) + count_by (is_reply_by t.is_reply) items ≡ 0 + count_by (is_reply_by t.is_reply) (gone ++ items) = omega (arith, count-append (is_reply_by t.is_reply) gone items) in
+        rw (ins, outs, replies) refl
 
 module _ {H S I O M T : Type 0} (m : Meaning S I O M) (follows : T → Meaning S I O M → List (Step I) → Type 0) (t : Texts I O) where
-  pub played-start : (v : RunView H S I O M T) (tally : Tally) (r : ReaderView) (left out : Option (List ℕ)) → HasRun m follows [] [] v → tally ≡ record { inputs = 0; outputs = 0 } → Played m follows t v tally r r left left out out
+  pub played-start : (v : RunView H S I O M T) (tally : Tally) (r : ReaderView) (left out : Option (List ℕ)) → HasRun m follows [] [] v → tally ≡ record { inputs = 0; outputs = 0; replies = 0 } → Played m follows t v tally r r left left out out
   played-start v tally r left out ran is = record {
     steps = [];
     gone = [];
@@ -101,7 +102,7 @@ module _ {H S I O M T : Type 0} (m : Meaning S I O M) (follows : T → Meaning S
   }
 
   pub played-written : (v u : RunView H S I O M T) (tally tally' : Tally) (old now : ReaderView) (left left' out mid out' : Option (List ℕ)) → Played m follows t v tally old now left left' out mid
-      → Gained mid out' (trace_text t.input_text t.output_text v.world.trace) → u ≡ record v { world = record v.world { trace = [] } } → tally' ≡ tallied tally v.world.trace
+      → Gained mid out' (trace_text t.input_text t.output_text v.world.trace) → u ≡ record v { world = record v.world { trace = [] } } → tally' ≡ tallied t.is_reply tally v.world.trace
       → Played m follows t u tally' old now left left' out out'
   played-written v u tally tally' old now left left' out mid out' p more forgets is = record {
     steps = p.steps;

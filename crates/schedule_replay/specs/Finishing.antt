@@ -1,4 +1,4 @@
--- What is written below a trace, and the counts, where each output is a reply: the image lines and the counts of such a stack.
+-- What is written below a trace, and the counts: the image lines and the counts of a stack.
 use Rattle.std.specs.Prelude.{ℕ, List, ◌++◌, length, codes}
 use Rattle.vst_base.specs.declared.step.Step.{Step}
 use Rattle.schedule_text.specs.declared.header.Header.{Header}
@@ -19,6 +19,6 @@ counted_done tally events ss = record {
   events = events;
   inputs = tally.inputs;
   outputs = tally.outputs;
-  replies = tally.outputs;
+  replies = tally.replies;
   image = length ss;
 }

@@ -45,13 +45,13 @@ module _ {H S I O M T : Type 0} (m : Meaning S I O M) (follows : T → Meaning S
 -- the part of a trace that was let go was written and counted
 pub record TraceWritten {I O : Type 0} (t : Texts I O) (gone : List (Item I O)) (out out' : Option (List ℕ)) (tally : Tally) : Type 0 where
   pub written : Gained out out' (trace_text t.input_text t.output_text gone)
-  pub counted : tally ≡ tallied (record { inputs = 0; outputs = 0 }) gone
+  pub counted : tally ≡ tallied t.is_reply (record { inputs = 0; outputs = 0; replies = 0 }) gone
 
 -- what clients saw since it was last written was written, counted and let go
 abbrev pub WritesTrace : {H S I O M T : Type 0} → Texts I O → RunView H S I O M T → RunView H S I O M T → Tally → Tally → Option (List ℕ) → Option (List ℕ) → Type 0
 WritesTrace t v v' tally tally' out out' =
     Gained out out' (trace_text t.input_text t.output_text v.world.trace)
-    × (v' ≡ record v { world = record v.world { trace = [] } }) × (tally' ≡ tallied tally v.world.trace)
+    × (v' ≡ record v { world = record v.world { trace = [] } }) × (tally' ≡ tallied t.is_reply tally v.world.trace)
 
 -- where the steps of a rest end, these were taken
 abbrev pub HaltsBy : {S K I O M : Type 0} → Stack S K I O M → List (Step I) → ReaderView → ReaderView → Option (List ℕ) → List ℕ → Halt → Type 0

@@ -8,21 +8,37 @@ use Rattle.vst_base.specs.declared.stack.StackId.TheVariants as stack
 use Rattle.lock_server.specs.declared.state.LockState.{LockState}
 use Rattle.vst_base.specs.declared.net.Net.TheVariants as net
 use Rattle.vst_base.specs.declared.seq.SeqMsg.{SeqMsg}
+use Rattle.net_semantics.specs.BelowPb.{below_pb}
 use Rattle.net_semantics.specs.Once.{once}
+use Rattle.net_semantics.specs.Runs.{trace, no_recovery}
+use Rattle.handler_trait.specs.Handling.{Meaning}
+use Rattle.trace_maps.specs.Replying.{alone}
+use Rattle.vst_base.specs.declared.pb_msg.PbMsg.{PbMsg}
+use Rattle.vst_base.specs.declared.pb_out.PbOut.{PbOut}
+use Rattle.kv_machine.specs.declared.cmd.KvCmd.{KvCmd}
+use Rattle.kv_machine.specs.declared.out.KvOut.{KvOut}
+use Rattle.kv_machine.specs.Kv.{Store, kv}
+use Rattle.primary_backup.specs.Backed.{Backed}
+use Rattle.primary_backup.specs.Backup.{primary_backup}
 use Rattle.seqnum_xform.specs.Numbered.{Numbered}
 use Rattle.seqnum_xform.specs.Numbering.{sequence_numbered}
 use Rattle.lock_server.specs.Locks.{lock_server}
 use Rattle.app_text.specs.LockTexts.{input_of, input_text, output_text}
+use Rattle.app_text.specs.KvTexts as kv
+use Rattle.app_text.specs.PbTexts.{pb_output_text, pb_replies}
 use Rattle.schedule_text.specs.declared.header.Header.{Header}
 use Rattle.line_reader.specs.declared.why.Why.TheVariants as why
 use Rattle.line_reader.specs.Lines.{lines_of, whole_lines}
 use Rattle.line_reader.specs.Readers.{ReaderView}
 use Rattle.schedule_text.specs.Schedules.{Opening, Opened, RefusedAt, EndedAt, opening, script}
-use Rattle.schedule_replay.specs.Stacks.{Stack, Texts, stack_of}
+use Rattle.schedule_replay.specs.Stacks.{Stack, Texts, Image, stack_of}
 use Rattle.schedule_replay.specs.Replaying.{Replayed, refused_at, no_counts, replayed_script}
 
+abbrev pub kv_pb_texts : Texts KvCmd (PbOut KvOut)
+kv_pb_texts = record { input_of = kv.input_of; input_text = kv.input_text; output_text = pb_output_text kv.output_text; is_reply = pb_replies }
+
 abbrev pub lock_texts : Texts LockInput LockOutput
-lock_texts = record { input_of = input_of; input_text = input_text; output_text = output_text }
+lock_texts = record { input_of = input_of; input_text = input_text; output_text = output_text; is_reply = λ _. true }
 
 -- the header of the lock server on a bag, with as many nodes
 abbrev pub lock_header : Header → Header
@@ -37,6 +53,21 @@ lock_stack h = stack_of net.Bag (lock_server h.nodes) lock_texts (record { heade
 abbrev pub lock_seq_stack : Header → Stack (Numbered LockState) (Numbered LockState) LockInput LockOutput (SeqMsg LockMsg)
 lock_seq_stack h = stack_of net.Dup (sequence_numbered (lock_server h.nodes)) lock_texts (record { header = lock_header h; steps = once })
 
+-- the header of the key-value machine alone
+abbrev pub kv_header : Header
+kv_header = record { net = net.One; stack = stack.Kv; nodes = 1 }
+
+-- what is below primary-backup: the key-value machine alone, over the commands that were replied to
+abbrev pub kv_image : {S M : Type 0} → Meaning S KvCmd (PbOut KvOut) M → Image KvCmd
+kv_image {S = S} m = record { header = kv_header; steps = λ ss. alone (below_pb (trace m (no_recovery {S = S}) ss)) }
+
+-- the key-value machine under primary-backup, on a bag and, with numbered packets, on a network that copies them
+abbrev pub kv_pb_stack : Stack (Backed Store KvCmd) (Backed Store KvCmd) KvCmd (PbOut KvOut) (PbMsg KvCmd)
+kv_pb_stack = stack_of net.Bag (primary_backup kv) kv_pb_texts (kv_image (primary_backup kv))
+
+abbrev pub kv_pb_seq_stack : Stack (Numbered (Backed Store KvCmd)) (Numbered (Backed Store KvCmd)) KvCmd (PbOut KvOut) (SeqMsg (PbMsg KvCmd))
+kv_pb_seq_stack = stack_of net.Dup (sequence_numbered (primary_backup kv)) kv_pb_texts (kv_image (sequence_numbered (primary_backup kv)))
+
 -- the greatest number of a line
 abbrev pub most_lines : ℕ
 most_lines = 2000000
@@ -50,8 +81,8 @@ replayed_by st whole most number events ls = replayed_script st whole (script mo
 abbrev pub replayed_stack : Bool → Header → StackId → ℕ → ℕ → ℕ → List (List ℕ) → Replayed
 replayed_stack whole h stack.Lock most number events ls = replayed_by (lock_stack h) whole most number events ls
 replayed_stack whole h stack.LockSeq most number events ls = replayed_by (lock_seq_stack h) whole most number events ls
-replayed_stack whole h stack.KvPb most number events ls = refused_at (number - 1) why.Header
-replayed_stack whole h stack.KvPbSeq most number events ls = refused_at (number - 1) why.Header
+replayed_stack whole h stack.KvPb most number events ls = replayed_by kv_pb_stack whole most number events ls
+replayed_stack whole h stack.KvPbSeq most number events ls = replayed_by kv_pb_seq_stack whole most number events ls
 replayed_stack whole h stack.KvRaft most number events ls = refused_at (number - 1) why.Header
 replayed_stack whole h stack.TablePbSeq most number events ls = refused_at (number - 1) why.Header
 replayed_stack whole h stack.TableRaft most number events ls = refused_at (number - 1) why.Header

@@ -1,5 +1,5 @@
 -- Stacks as values: what replay needs of one.
-use Rattle.std.specs.Prelude.{ℕ, Bool, true, List, [], ◌∷◌, map, Option}
+use Rattle.std.specs.Prelude.{ℕ, Bool, List, [], ◌∷◌, map, Option}
 use Rattle.handler_trait.specs.Handling.{Meaning, Recovery}
 use Rattle.vst_base.specs.declared.net.Net.{Net}
 use Rattle.vst_base.specs.declared.step.Step.{Step}
@@ -21,21 +21,22 @@ pub record Stack (S K I O M : Type 0) : Type 0 where
   pub image_header : List (List ℕ)
   pub image : List (Step I) → List (List ℕ)
 
--- how an application's inputs and outputs are spelled
+-- how an application's inputs and outputs are spelled, and which outputs are replies
 pub record Texts (I O : Type 0) : Type 0 where
   pub input_of : List ℕ → Option I
   pub input_text : I → List ℕ
   pub output_text : O → List ℕ
+  pub is_reply : O → Bool
 
-abbrev pub texts_of : {I O : Type 0} → (List ℕ → Option I) → (I → List ℕ) → (O → List ℕ) → Texts I O
-texts_of input_of input_text output_text = record { input_of = input_of; input_text = input_text; output_text = output_text }
+abbrev pub texts_of : {I O : Type 0} → (List ℕ → Option I) → (I → List ℕ) → (O → List ℕ) → (O → Bool) → Texts I O
+texts_of input_of input_text output_text is_reply = record { input_of = input_of; input_text = input_text; output_text = output_text; is_reply = is_reply }
 
 -- the image below the trace of a schedule: its header, and its steps
 pub record Image (I : Type 0) : Type 0 where
   pub header : Header
   pub steps : List (Step I) → List (Step I)
 
--- handlers on a network without crashes, each of whose outputs is a reply
+-- handlers on a network without crashes
 abbrev pub stack_of : {S I O M : Type 0} → Net → Meaning S I O M → Texts I O → Image I → Stack S S I O M
 stack_of net m t i = record {
   net = net;
@@ -44,7 +45,7 @@ stack_of net m t i = record {
   input_of = t.input_of;
   input_text = t.input_text;
   output_text = t.output_text;
-  is_reply = λ _. true;
+  is_reply = t.is_reply;
   image_header = header_text i.header ∷ [];
   image = λ ss. map (step_text t.input_text) (i.steps ss);
 }

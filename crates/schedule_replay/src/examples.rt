@@ -47,6 +47,14 @@ pub fn worked()
         ≡ codes "in 1 lock\nin 2 lock\nout 1 locked\nin 1 unlock\nout 2 locked\nbelow\nschedule 1 bag lock 3\nin 1 lock\nin 2 lock\ndeliver 0\ndeliver 1\ndeliver 2\nin 1 unlock\ndeliver 3\ndeliver 4\n" }
     ensures nothing_is_lost { (replayed (codes "schedule 1 dup lock/seq 2\nin 1 lock\nlose 0\n")).refused ≡ Some (3, NotThisNet) }
 
+    // A command waits for the backup to apply it; an acknowledgement that is copied does nothing, and the backup redirects.
+    ensures acknowledged { (replayed (codes "schedule 1 bag kv/pb 2\nin 0 put a x\nin 0 get a\ndeliver 0\ndeliver 1\n")).out
+        ≡ codes "in 0 put a x\nin 0 get a\nout 0 a =x -\nbelow\nschedule 1 one kv 1\nin 0 put a x\n" }
+    ensures acknowledged_twice { (replayed (codes "schedule 1 dup kv/pb/seq 2\nin 0 put a x\nin 0 get a\ndeliver 0\ndup 1\ndeliver 1\ndeliver 1\nin 1 get a\n")).out
+        ≡ codes "in 0 put a x\nin 0 get a\nout 0 a =x -\nin 1 get a\nout 1 redirect\nbelow\nschedule 1 one kv 1\nin 0 put a x\n" }
+    ensures redirects_are_no_replies { (replayed (codes "schedule 1 bag kv/pb 2\nin 1 get a\n")).counts ≡ record { events = 1; inputs = 1; outputs = 1; replies = 0; image = 0 } }
+    ensures no_key_value_machine_on_a_bag { (replayed (codes "schedule 1 bag kv 1\n")).refused ≡ Some (1, Header) }
+
     // A text that broke off: its whole lines alone.
     ensures broken_off { (replayed_so_far (codes "schedule 1 bag lock 2\nin 1 lock\nin 1 lo")).out ≡ codes "in 1 lock\n" }
     ensures broken_off_in_order { (replayed_so_far (codes "schedule 1 bag lock 2\nin 1 lock\nin 1 lo")).refused ≡ None }

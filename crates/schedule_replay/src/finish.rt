@@ -44,7 +44,7 @@ pub(crate) fn finish<A: AppText, K: Sink>(
         events: u64::from(events),
         inputs: tally.inputs,
         outputs: tally.outputs,
-        replies: tally.outputs,
+        replies: tally.replies,
         image: steps.len() as u64,
     })
 }

@@ -1,12 +1,17 @@
 ghost use Rattle.std.specs.Prelude.{◌≡◌, List};
+ghost use Rattle.kv_machine.specs.Kv.{kv};
+ghost use Rattle.kv_machine.specs.declared.cmd.KvCmd.{KvCmd};
+ghost use Rattle.net_semantics.specs.BelowPb.{IsExplainedBy};
 ghost use Rattle.net_semantics.specs.Once.{once};
 ghost use Rattle.net_semantics.specs.Runs.{IsAllowed};
 ghost use Rattle.schedule_replay.specs.Replaying.{trace_of};
-ghost use Rattle.schedule_replay.specs.Replays.{lock_header, lock_seq_stack, lock_stack};
+ghost use Rattle.schedule_replay.specs.Replays.{kv_pb_seq_stack, kv_pb_stack, lock_header, lock_seq_stack, lock_stack};
 ghost use Rattle.schedule_text.specs.declared.header.Header.{Header};
 ghost use Rattle.vst_base.specs.declared.step.Step.{Step};
 
+use kv_machine::KvMachine;
 use lock_server::LockServer;
+use primary_backup::{PrimaryBackup, one_machine_explains};
 use seqnum_xform::repeats_do_nothing;
 use vst_base::LockInput;
 
@@ -19,4 +24,14 @@ pub fn same_under_images()
         → trace_of (lock_seq_stack h) ss ≡ trace_of (lock_stack (lock_header h)) (once ss) }
 {
     repeats_do_nothing::<LockServer>();
+}
+
+/// The key-value machine explains what clients see of it under primary-backup, also with numbered packets: its outputs over the
+/// image are the primary's.
+pub fn machine_explains_images()
+    ensures backed { (ss : List (Step KvCmd)) → IsAllowed kv_pb_stack.net kv_pb_stack.meaning kv_pb_stack.recovery ss → IsExplainedBy kv (trace_of kv_pb_stack ss) }
+    ensures numbered { (ss : List (Step KvCmd)) → IsAllowed kv_pb_seq_stack.net kv_pb_seq_stack.meaning kv_pb_seq_stack.recovery ss → IsExplainedBy kv (trace_of kv_pb_seq_stack ss) }
+{
+    one_machine_explains::<KvMachine>();
+    repeats_do_nothing::<PrimaryBackup<KvMachine>>();
 }

@@ -41,11 +41,11 @@ pub(crate) fn play<
     requires sound { IsSound (H.meaning running.old.world.handlers) (H.sound running.old.world.handlers) (H.spent running.old.world.handlers) running.old.world }
     requires started { HasRun (H.meaning running.old.world.handlers) T.has_followed [] [] running.old }
     requires net { running.old.world.net ≡ header.now.net }
-    requires tally { tally.old ≡ record { inputs = 0; outputs = 0 } }
-    ensures halted { IfOk result (λ halt. (i : Image H.Input) → Halted (stack_of header.now.net (H.meaning running.old.world.handlers) (texts_of A.input_of A.input_text A.output_text) i) T.has_followed (texts_of A.input_of A.input_text A.output_text)
+    requires tally { tally.old ≡ record { inputs = 0; outputs = 0; replies = 0 } }
+    ensures halted { IfOk result (λ halt. (i : Image H.Input) → Halted (stack_of header.now.net (H.meaning running.old.world.handlers) (texts_of A.input_of A.input_text A.output_text A.replies) i) T.has_followed (texts_of A.input_of A.input_text A.output_text A.replies)
         running.new tally.new reader.old reader.new (S.left source.old) (S.left source.new) (K.written sink.old) (K.written sink.new) halt) }
     ensures front { IfErr result (λ _. (i : Image H.Input) (rest : List ℕ) → HasRest reader.old (S.left source.old) rest → GainedFront (K.written sink.old) (K.written sink.new)
-        (replayed_script (stack_of header.now.net (H.meaning running.old.world.handlers) (texts_of A.input_of A.input_text A.output_text) i) true (script reader.old.most A.input_of (reader.old.number + 1) reader.old.events (lines_of rest))).out) }
+        (replayed_script (stack_of header.now.net (H.meaning running.old.world.handlers) (texts_of A.input_of A.input_text A.output_text A.replies) i) true (script reader.old.most A.input_of (reader.old.number + 1) reader.old.events (lines_of rest))).out) }
     ensures fault { IfErr result (HasWriteCause (K.faults sink.old) (K.faults sink.new)) }
     ensures read { result ≡ Ok Halt.Read → Rose (S.faults source.old) (S.faults source.new) }
     ensures going { result ≡ Ok Halt.Read → reader.old.ended ≡ false }

@@ -1,4 +1,4 @@
-ghost use Rattle.std.specs.Prelude.{◌≡◌, ◌⊎◌, ◌≤◌, ℕ, List, IfErr};
+ghost use Rattle.std.specs.Prelude.{◌≡◌, ◌≢◌, ◌≤◌, ℕ, List, IfErr};
 ghost use Rattle.line_reader.specs.Readers.{HasRest};
 ghost use Rattle.schedule_replay.specs.Outcomes.{ComesTo, HasCause};
 ghost use Rattle.schedule_replay.specs.Replays.{stack_so_far, stack_whole};
@@ -33,10 +33,10 @@ pub(crate) fn replay_rest<
     source: &mut S,
     sink: &mut K,
 ) -> Result<Done, ReplayFault>
-    requires net { (header.now.net ≡ Net.Bag) ⊎ (header.now.net ≡ Net.Dup) }
+    requires net { header.now.net ≢ Net.Fail }
     ensures told { (rest : List ℕ) → HasRest reader.old (S.left source.old) rest
-        → ComesTo (stack_whole (stack_of header.now.net (H.meaning handlers) (texts_of A.input_of A.input_text A.output_text) (record { header = below.now; steps = T.image_of (H.meaning handlers) })) reader.old)
-        (stack_so_far (stack_of header.now.net (H.meaning handlers) (texts_of A.input_of A.input_text A.output_text) (record { header = below.now; steps = T.image_of (H.meaning handlers) })) reader.old)
+        → ComesTo (stack_whole (stack_of header.now.net (H.meaning handlers) (texts_of A.input_of A.input_text A.output_text A.replies) (record { header = below.now; steps = T.image_of (H.meaning handlers) })) reader.old)
+        (stack_so_far (stack_of header.now.net (H.meaning handlers) (texts_of A.input_of A.input_text A.output_text A.replies) (record { header = below.now; steps = T.image_of (H.meaning handlers) })) reader.old)
         reader.old.number rest (S.left source.new) (K.written sink.old) (K.written sink.new) result }
     ensures fault { IfErr result (HasCause reader.old.ended (S.faults source.old) (S.faults source.new) (K.faults sink.old) (K.faults sink.new)) }
     ensures reads { S.faults source.old ≤ S.faults source.new }
@@ -46,6 +46,7 @@ pub(crate) fn replay_rest<
     let mut tally = Tally {
         inputs: 0,
         outputs: 0,
+        replies: 0,
     };
     let halt = play::<H, A, T, S, K>(
         alloc,

@@ -2,17 +2,19 @@ ghost use Rattle.std.specs.Prelude.{◌≡◌, ◌≤◌, ℕ, List, IfErr, IfSo
 ghost use Rattle.line_reader.specs.Readers.{HasRest};
 ghost use Rattle.schedule_text.specs.Headers.{IsHeader};
 ghost use Rattle.schedule_replay.specs.Outcomes.{ComesTo, HasCause, HasFault};
-ghost use Rattle.schedule_replay.specs.Replays.{lock_header, replayed, replayed_so_far, rest_so_far, rest_whole};
+ghost use Rattle.schedule_replay.specs.Replays.{kv_header, lock_header, replayed, replayed_so_far, rest_so_far, rest_whole};
 
 use crate::rest::replay_rest;
 use crate::{Done, ReplayFault};
-use app_text::LockText;
+use app_text::{KvPbText, LockText};
+use kv_machine::{KvCmd, KvMachine};
 use lock_server::LockServer;
 use outside::{Sink, Source};
+use primary_backup::PrimaryBackup;
 use schedule_text::{Header, MAX_LINES, Reader, read_header};
 use std::alloc::Global;
 use vst_base::{LockInput, Net, StackId};
-use xform_stack::{Itself, SeqNum, WithoutRepeats};
+use xform_stack::{Itself, RepliedTo, SeqNum, WithoutRepeats};
 
 // The header of the lock server on a bag, with as many nodes.
 fn lock_header(header: &Header) -> Header
@@ -22,6 +24,17 @@ fn lock_header(header: &Header) -> Header
         net: Net::Bag,
         stack: StackId::Lock,
         nodes: header.nodes,
+    }
+}
+
+// The header of the key-value machine alone.
+fn kv_header() -> Header
+    ensures { result ≡ kv_header }
+{
+    Header {
+        net: Net::One,
+        stack: StackId::Kv,
+        nodes: 1,
     }
 }
 
@@ -41,16 +54,34 @@ fn replay_stack<S: Source, K: Sink>(
     ensures reads { S.faults source.old ≤ S.faults source.new }
     ensures writes { K.faults sink.old ≤ K.faults sink.new }
 {
-    let server = LockServer::new(header.nodes);
     match header.stack {
-        StackId::Lock => replay_rest::<LockServer, LockText, Itself<LockInput>, S, K>(
-            alloc, server, header, header, reader, source, sink,
-        ),
+        StackId::Lock => {
+            let server = LockServer::new(header.nodes);
+            replay_rest::<LockServer, LockText, Itself<LockInput>, S, K>(
+                alloc, server, header, header, reader, source, sink,
+            )
+        }
         StackId::LockSeq => {
             let below = lock_header(header);
+            let server = LockServer::new(header.nodes);
             let handlers = SeqNum::new(server);
             replay_rest::<SeqNum<LockServer>, LockText, WithoutRepeats<LockInput>, S, K>(
                 alloc, handlers, header, &below, reader, source, sink,
+            )
+        }
+        StackId::KvPb => {
+            let below = kv_header();
+            let nodes = PrimaryBackup::new(KvMachine);
+            replay_rest::<PrimaryBackup<KvMachine>, KvPbText, RepliedTo<KvCmd>, S, K>(
+                alloc, nodes, header, &below, reader, source, sink,
+            )
+        }
+        StackId::KvPbSeq => {
+            let below = kv_header();
+            let nodes = PrimaryBackup::new(KvMachine);
+            let numbered = SeqNum::new(nodes);
+            replay_rest::<SeqNum<PrimaryBackup<KvMachine>>, KvPbText, RepliedTo<KvCmd>, S, K>(
+                alloc, numbered, header, &below, reader, source, sink,
             )
         }
         _ => unreachable!(),

@@ -26,13 +26,13 @@ pub(crate) fn write_trace<
 ) -> Result<(), LineFault>
     ensures ok { OnOk result (Gained (K.written sink.old) (K.written sink.new) (trace_text A.input_text A.output_text running.old.world.trace)) }
     ensures forgets { OnOk result (running.new ≡ record running.old { world = record running.old.world { trace = [] } }) }
-    ensures tally { OnOk result (tally.new ≡ tallied tally.old running.old.world.trace) }
+    ensures tally { OnOk result (tally.new ≡ tallied A.replies tally.old running.old.world.trace) }
     ensures err { OnErr result (GainedFront (K.written sink.old) (K.written sink.new) (trace_text A.input_text A.output_text running.old.world.trace)) }
     ensures fault { IfErr result (HasWriteCause (K.faults sink.old) (K.faults sink.new)) }
     ensures counts { K.faults sink.old ≤ K.faults sink.new }
 {
     let items = running.trace().items();
-    *tally = tally.count(items)?;
+    *tally = tally.count::<A>(items)?;
     print_trace::<A, K>(alloc, sink, items)?;
     running.forget_trace();
     Ok(())

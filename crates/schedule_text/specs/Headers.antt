@@ -43,6 +43,8 @@ abbrev pub rows : List Row
 rows =
     record { net = net.Bag; stack = stack.Lock; least = 2; most = 9 }
     ∷ record { net = net.Dup; stack = stack.LockSeq; least = 2; most = 9 }
+    ∷ record { net = net.Bag; stack = stack.KvPb; least = 2; most = 2 }
+    ∷ record { net = net.Dup; stack = stack.KvPbSeq; least = 2; most = 2 }
     ∷ []
 
 -- a header by a pairing, and by one of several

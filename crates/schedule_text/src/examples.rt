@@ -41,6 +41,9 @@ pub fn worked_headers()
     ensures beyond_numbered { (header_of (codes "schedule 1 dup lock/seq 1") ≡ None) × (header_of (codes "schedule 1 dup lock/seq 10") ≡ None) }
     ensures two_spaces { header_of (codes "schedule 1 dup lock/seq  2") ≡ None }
     ensures other_pairing { (header_of (codes "schedule 1 dup lock 2") ≡ None) × (header_of (codes "schedule 1 bag lock/seq 2") ≡ None) }
+    ensures two_nodes { header_of (codes "schedule 1 bag kv/pb 2") ≡ Some (record { net = Net.Bag; stack = StackId.KvPb; nodes = 2 }) }
+    ensures numbered_two_nodes { header_of (codes "schedule 1 dup kv/pb/seq 2") ≡ Some (record { net = Net.Dup; stack = StackId.KvPbSeq; nodes = 2 }) }
+    ensures not_two_nodes { (header_of (codes "schedule 1 bag kv/pb 1") ≡ None) × (header_of (codes "schedule 1 dup kv/pb/seq 3") ≡ None) }
     ensures text { header_text (record { net = Net.Bag; stack = StackId.Lock; nodes = 2 }) ≡ codes "schedule 1 bag lock 2" }
     ensures numbered_text { header_text (record { net = Net.Dup; stack = StackId.LockSeq; nodes = 9 }) ≡ codes "schedule 1 dup lock/seq 9" }
     ensures opens_empty { opening 2000000 1 [] ≡ EndedAt 1 }

@@ -31,8 +31,24 @@ const LOCK_SEQ: Row = Row {
     most: MOST_LOCK,
 };
 
+// The key-value machine under primary-backup, on a bag of packets: a primary and a backup.
+const KV_PB: Row = Row {
+    net: Net::Bag,
+    stack: StackId::KvPb,
+    least: 2,
+    most: 2,
+};
+
+// The same with numbered packets, on a network that copies packets.
+const KV_PB_SEQ: Row = Row {
+    net: Net::Dup,
+    stack: StackId::KvPbSeq,
+    least: 2,
+    most: 2,
+};
+
 // The pairings that there are. A line is tried by each in this order.
-const ROWS: &[Row] = &[LOCK, LOCK_SEQ];
+const ROWS: &[Row] = &[LOCK, LOCK_SEQ, KV_PB, KV_PB_SEQ];
 
 fn net_word(net: Net) -> &'static [u8]
     ensures { result.now ≡ net_word net }

@@ -166,6 +166,32 @@ fn numbered_packets_are_delivered_once(rt: HostRuntime) -> Result<(), Fail> {
 }
 
 #[test]
+fn commands_are_acknowledged_before_they_are_answered(rt: HostRuntime) -> Result<(), Fail> {
+    expect(
+        &rt,
+        b"schedule 1 bag kv/pb 2\nin 0 put a x\nin 0 get a\ndeliver 0\ndeliver 1\n",
+        0,
+        b"in 0 put a x\nin 0 get a\nout 0 a =x -\nbelow\nschedule 1 one kv 1\nin 0 put a x\n",
+        b"",
+    )?;
+    expect(
+        &rt,
+        b"schedule 1 dup kv/pb/seq 2\nin 0 put a x\nin 0 get a\ndeliver 0\ndup 1\ndeliver 1\ndeliver 1\nin 1 get a\n",
+        0,
+        b"in 0 put a x\nin 0 get a\nout 0 a =x -\nin 1 get a\nout 1 redirect\nbelow\nschedule 1 one kv 1\nin 0 put a x\n",
+        b"",
+    )?;
+    expect(
+        &rt,
+        b"schedule 1 bag kv/pb 2\nin 0 get \n",
+        3,
+        b"",
+        b"line 2: text\n",
+    )?;
+    Ok(())
+}
+
+#[test]
 fn a_text_outside_the_grammar_is_refused(rt: HostRuntime) -> Result<(), Fail> {
     expect(&rt, b"", 3, b"", b"line 1: header\n")?;
     expect(

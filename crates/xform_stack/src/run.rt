@@ -1,4 +1,4 @@
-ghost use Rattle.std.specs.Prelude.{◌≡◌, ◌⊎◌, ◌≤◌, length, None, OnOk, IfOk, IfErr};
+ghost use Rattle.std.specs.Prelude.{◌≡◌, ◌≤◌, length, None, OnOk, IfOk, IfErr};
 ghost use Rattle.net_semantics.specs.Once.{once};
 ghost use Rattle.net_semantics.specs.Runs.{IsAllowed, first_refused, trace, no_recovery};
 ghost use Rattle.seqnum_xform.specs.Numbering.{sequence_numbered};
@@ -18,7 +18,7 @@ pub(crate) fn run_on<H: Handlers, T: TraceMap<H>>(
     net: Net,
     steps: &[Step<H::Input>],
 ) -> Result<Ran<H::Input, H::Output, Step<H::Input>>, RunFault>
-    requires net { (net ≡ Net.Bag) ⊎ (net ≡ Net.Dup) }
+    requires net { net ≢ Net.Fail }
     requires few { length steps.now ≤ 1000000 }
     ensures allowed { OnOk result (first_refused net (H.meaning handlers) no_recovery steps.now ≡ None) }
     ensures trace { IfOk result (λ ran. ran.trace ≡ trace (H.meaning handlers) no_recovery steps.now) }
@@ -32,7 +32,7 @@ pub(crate) fn run_on<H: Handlers, T: TraceMap<H>>(
     for step in steps {
         running.step(step)?;
     }
-    running.finish()
+    Ok(running.finish())
 }
 
 /// Runs a schedule of handlers on a bag: the trace, and the schedule itself as its image. The first step that

@@ -1,4 +1,4 @@
-ghost use Rattle.std.specs.Prelude.{◌≡◌, ◌≢◌, ◌⊎◌, ℕ, ◌+◌, ◌<◌, ◌≤◌, drop, List, [], ◌∷◌, ◌++◌, length, IfOk, IfErr, OnOk, OnErr};
+ghost use Rattle.std.specs.Prelude.{◌≡◌, ◌≢◌, ℕ, ◌+◌, ◌<◌, ◌≤◌, drop, List, [], ◌∷◌, ◌++◌, length, IfOk, IfErr, OnOk, OnErr};
 ghost use Rattle.handler_trait.specs.Handling.{Meaning};
 ghost use Rattle.net_semantics.specs.Steps.{items_of, refusal_of};
 ghost use Rattle.net_semantics.specs.Runs.{run, no_recovery};
@@ -50,9 +50,9 @@ fn follow<H: Handlers, T: TraceMap<H>>(
 }
 
 impl<H: Handlers, T: TraceMap<H>> Running<H, T> {
-    /// No step yet of these handlers on a bag, or on a network that copies packets too.
+    /// No step yet of these handlers, on a network that stops no node.
     pub fn new(alloc: Global, handlers: H, net: Net) -> Result<Self, AllocError>
-        requires { (net ≡ Net.Bag) ⊎ (net ≡ Net.Dup) }
+        requires { net ≢ Net.Fail }
         ensures handlers { IfOk result (λ running. running.world.handlers ≡ handlers) }
         ensures net { IfOk result (λ running. running.world.net ≡ net) }
         ensures started { IfOk result (λ running. HasRun (H.meaning handlers) T.has_followed [] [] running) }
@@ -161,14 +161,13 @@ impl<H: Handlers, T: TraceMap<H>> Running<H, T> {
     }
 
     /// What clients saw since it was last let go, and the image of the steps so far.
-    pub fn finish(self) -> Result<Ran<H::Input, H::Output, Step<H::Input>>, RunFault>
-        ensures trace { IfOk result (λ ran. ran.trace ≡ self.world.trace) }
-        ensures image { IfOk result (λ ran. (m : Meaning H.State H.Input H.Output H.Msg) (ss : List (Step H.Input)) → T.has_followed self.map m ss → ran.image ≡ T.image_of m ss) }
-        ensures memory { IfErr result (λ why. why ≡ RunFault.Memory) }
+    pub fn finish(self) -> Ran<H::Input, H::Output, Step<H::Input>>
+        ensures trace { result.trace ≡ self.world.trace }
+        ensures image { (m : Meaning H.State H.Input H.Output H.Msg) (ss : List (Step H.Input)) → T.has_followed self.map m ss → result.image ≡ T.image_of m ss }
     {
-        Ok(Ran {
+        Ran {
             trace: self.world.into_trace(),
             image: self.map.into_image(),
-        })
+        }
     }
 }

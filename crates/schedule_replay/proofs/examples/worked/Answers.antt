@@ -1,6 +1,18 @@
 -- These print numbers, whose digits have to be computed.
-use Rattle.std.proofs.Common.{◌≡◌, ◌∷◌, [], None, refl}
+use Rattle.std.proofs.Common.{◌≡◌, ◌∷◌, [], List, None, Some, codes, map, refl}
+use Rattle.std.specs.Cmp.Lexicographic.{nat_list_cmp_total}
+use Rattle.std.specs.FinMap.{get-empty, get-insert, get-remove}
 use Rattle.std.specs.Fmt.{digits}
+use Rattle.app_text.specs.KvTexts as kv
+use Rattle.kv_machine.specs.declared.cmd.KvCmd.{KvCmd}
+use Rattle.kv_machine.specs.declared.cmd.KvCmd.TheVariants as cmd
+use Rattle.kv_machine.specs.declared.out.KvOut.{KvOut}
+use Rattle.net_semantics.specs.BelowPb.{below_pb}
+use Rattle.schedule_text.specs.Printing.{step_text}
+use Rattle.trace_maps.specs.Replying.{alone}
+use Rattle.vst_base.specs.declared.pb_out.PbOut.{PbOut}
+use Rattle.vst_base.specs.declared.pb_out.PbOut.TheVariants as pb
+use Rattle.vst_base.specs.declared.step.Item.{Item}
 use Rattle.vst_base.specs.declared.lock.LockInput.{LockInput}
 use Rattle.vst_base.specs.declared.lock.LockInput.TheVariants as ask
 use Rattle.vst_base.specs.declared.lock.LockMsg.{LockMsg}
@@ -16,9 +28,9 @@ use Rattle.net_semantics.specs.Runs.{first_refused}
 use Rattle.seqnum_xform.specs.Numbered.{Numbered}
 use Rattle.schedule_text.specs.Schedules.{Script}
 use Rattle.schedule_replay.specs.Replaying.{steps_of, trace_of}
-use Rattle.schedule_replay.specs.Replays.{lock_seq_stack}
+use Rattle.schedule_replay.specs.Replays.{kv_pb_seq_stack, lock_seq_stack}
 use Rattle.schedule_replay.specs.Stacks.{Stack}
-use Rattle.schedule_replay.proofs.Wholly.{whole-out}
+use Rattle.schedule_replay.proofs.Wholly.{whole-out, whole-out-by}
 use Rattle.number_set.specs.NumberSetLaws.{set_tests}
 use Rattle.schedule_replay.proofs.examples.worked.Goals as goal
 
@@ -41,6 +53,15 @@ returns-clause-waits c = refl
 pub returns-clause-overtakes : goal.returns-clause-overtakes
 unfolding digits
 returns-clause-overtakes c = refl
+
+-- what a store has at a key
+ruleset lookups = (get-empty, get-insert, get-remove, nat_list_cmp_total)
+
+ruleset lookups_and_sets = (get-empty, get-insert, get-remove, nat_list_cmp_total, set_tests)
+
+pub returns-clause-acknowledged : goal.returns-clause-acknowledged
+unfolding digits
+returns-clause-acknowledged c = simp lookups
 
 pub returns-clause-broken_off : goal.returns-clause-broken_off
 unfolding digits
@@ -73,3 +94,28 @@ returns-clause-late_first_delivery c = simp set_tests
 pub returns-clause-equal_numbers : goal.returns-clause-equal_numbers
 unfolding digits
 returns-clause-equal_numbers c = simp set_tests
+
+-- an acknowledgement that is copied, and both copies delivered
+abbrev acked_script : Script KvCmd
+acked_script = record {
+  steps =
+      (2, step.In 0 (cmd.Put (codes "a") (codes "x"))) ∷ (3, step.In 0 (cmd.Get (codes "a"))) ∷ (4, step.Deliver 0) ∷ (5, step.Dup 1) ∷ (6, step.Deliver 1)
+      ∷ (7, step.Deliver 1) ∷ (8, step.In 1 (cmd.Get (codes "a"))) ∷ [];
+  fault = None;
+}
+
+acked-allowed : first_refused kv_pb_seq_stack.net kv_pb_seq_stack.meaning kv_pb_seq_stack.recovery (steps_of acked_script) ≡ None
+acked-allowed = refl
+
+abbrev acked_items : List (Item KvCmd (PbOut KvOut))
+acked_items =
+    item.Input 0 (cmd.Put (codes "a") (codes "x")) ∷ item.Input 0 (cmd.Get (codes "a"))
+    ∷ item.Output 0 (pb.Reply (record { key = codes "a"; after = Some (codes "x"); before = None }))
+    ∷ item.Input 1 (cmd.Get (codes "a")) ∷ item.Output 1 pb.Redirect ∷ []
+
+acked-trace : trace_of kv_pb_seq_stack (steps_of acked_script) ≡ acked_items
+acked-trace = simp lookups_and_sets
+
+pub returns-clause-acknowledged_twice : goal.returns-clause-acknowledged_twice
+unfolding digits
+returns-clause-acknowledged_twice c = whole-out-by kv_pb_seq_stack acked_script refl acked-allowed (λ items. map (step_text kv.input_text) (alone (below_pb items))) refl acked_items acked-trace

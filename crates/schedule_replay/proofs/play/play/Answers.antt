@@ -22,7 +22,7 @@ loop-halt-init g c =
       most = refl;
       counted = omega (arith, c.requires.started.counted);
       empty = c.requires.started.traced;
-      played = played-start (h.meaning v.world.handlers) g.T.TraceMap.has_followed (texts_of a.input_of a.input_text a.output_text) v c.args.tally.now c.args.reader.now (g.S.Source.left c.args.source.now) (g.K.Sink.written c.args.sink.now) c.requires.started c.requires.tally;
+      played = played-start (h.meaning v.world.handlers) g.T.TraceMap.has_followed (texts_of a.input_of a.input_text a.output_text a.replies) v c.args.tally.now c.args.reader.now (g.S.Source.left c.args.source.now) (g.K.Sink.written c.args.sink.now) c.requires.started c.requires.tally;
       stays = λ is. is;
       reads = omega arith;
       writes = omega arith;
@@ -32,7 +32,7 @@ pub returns-in_err-halt-clause-front : goal.returns-in_err-halt-clause-front
 returns-in_err-halt-clause-front g c =
     let h = g.H.Handlers in
     let a = g.A.AppText in
-    let t = texts_of a.input_of a.input_text a.output_text in
+    let t = texts_of a.input_of a.input_text a.output_text a.replies in
     let p = err_from_is_err_and c.from_residual.result c.from_residual.ensures.1 in
     let m = h.meaning c.args.running.now.world.handlers in
     let inv = c.loop-halt.invariant in
@@ -43,7 +43,7 @@ pub returns-in-Some-clause-halted : goal.returns-in-Some-clause-halted
 returns-in-Some-clause-halted g c =
     let h = g.H.Handlers in
     let a = g.A.AppText in
-    let t = texts_of a.input_of a.input_text a.output_text in
+    let t = texts_of a.input_of a.input_text a.output_text a.replies in
     let m = h.meaning c.args.running.now.world.handlers in
     let inv = c.loop-halt.invariant in
     let v = c.loop-halt.running in
@@ -62,7 +62,7 @@ pub returns-in_err-write_trace-clause-front : goal.returns-in_err-write_trace-cl
 returns-in_err-write_trace-clause-front g c =
     let h = g.H.Handlers in
     let a = g.A.AppText in
-    let t = texts_of a.input_of a.input_text a.output_text in
+    let t = texts_of a.input_of a.input_text a.output_text a.replies in
     let p = err_from_is_err_and c.from_residual-in_err-write_trace.result c.from_residual-in_err-write_trace.ensures.1 in
     let m = h.meaning c.args.running.now.world.handlers in
     let inv = c.loop-halt.invariant in
@@ -85,7 +85,7 @@ pub loop-halt-preserved : goal.loop-halt-preserved
 loop-halt-preserved g c =
     let h = g.H.Handlers in
     let a = g.A.AppText in
-    let t = texts_of a.input_of a.input_text a.output_text in
+    let t = texts_of a.input_of a.input_text a.output_text a.replies in
     let old = c.args.running.now.world.handlers in
     let m = h.meaning old in
     let inv = c.loop-halt.invariant in

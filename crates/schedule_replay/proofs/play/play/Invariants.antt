@@ -17,7 +17,7 @@ invariant-loop-halt g l =
       most : l.reader.most ≡ l.fn.reader.most;
       counted : l.running.world.taken ≤ l.reader.events;
       empty : l.running.world.trace ≡ [];
-      played : Played (h.meaning started.handlers) g.T.TraceMap.has_followed (texts_of a.input_of a.input_text a.output_text) l.running l.tally l.fn.reader l.reader (g.S.Source.left l.fn.source) (g.S.Source.left l.source) (g.K.Sink.written l.fn.sink) (g.K.Sink.written l.sink);
+      played : Played (h.meaning started.handlers) g.T.TraceMap.has_followed (texts_of a.input_of a.input_text a.output_text a.replies) l.running l.tally l.fn.reader l.reader (g.S.Source.left l.fn.source) (g.S.Source.left l.source) (g.K.Sink.written l.fn.sink) (g.K.Sink.written l.sink);
       stays : l.fn.reader.ended ≡ true → l.reader.ended ≡ true;
       reads : g.S.Source.faults l.fn.source ≤ g.S.Source.faults l.source;
       writes : g.K.Sink.faults l.fn.sink ≤ g.K.Sink.faults l.sink;

@@ -22,7 +22,7 @@ pub returns-in_err-halt-clause-told : goal.returns-in_err-halt-clause-told
 returns-in_err-halt-clause-told g c =
     let h = g.H.Handlers in
     let a = g.A.AppText in
-    let t = texts_of a.input_of a.input_text a.output_text in
+    let t = texts_of a.input_of a.input_text a.output_text a.replies in
     let follows = g.T.TraceMap.has_followed in
     let i = image g c.args.handlers c.args.below.now in
     let p = err_from_is_err_and c.from_residual-in_err-halt.result c.from_residual-in_err-halt.ensures.1 in
@@ -45,7 +45,7 @@ pub returns-in-Read-clause-told : goal.returns-in-Read-clause-told
 returns-in-Read-clause-told g c =
     let h = g.H.Handlers in
     let a = g.A.AppText in
-    let t = texts_of a.input_of a.input_text a.output_text in
+    let t = texts_of a.input_of a.input_text a.output_text a.replies in
     let follows = g.T.TraceMap.has_followed in
     let i = image g c.args.handlers c.args.below.now in
     let old = c.args.reader.now in
@@ -62,7 +62,7 @@ pub returns-in-Refused-clause-told : goal.returns-in-Refused-clause-told
 returns-in-Refused-clause-told g c =
     let h = g.H.Handlers in
     let a = g.A.AppText in
-    let t = texts_of a.input_of a.input_text a.output_text in
+    let t = texts_of a.input_of a.input_text a.output_text a.replies in
     let follows = g.T.TraceMap.has_followed in
     let i = image g c.args.handlers c.args.below.now in
     let old = c.args.reader.now in
@@ -79,7 +79,7 @@ pub returns-in_err-done-in-End-clause-told : goal.returns-in_err-done-in-End-cla
 returns-in_err-done-in-End-clause-told g c =
     let h = g.H.Handlers in
     let a = g.A.AppText in
-    let t = texts_of a.input_of a.input_text a.output_text in
+    let t = texts_of a.input_of a.input_text a.output_text a.replies in
     let follows = g.T.TraceMap.has_followed in
     let i = image g c.args.handlers c.args.below.now in
     let p = err_from_is_err_and c.from_residual-in_err-done-in-End.result c.from_residual-in_err-done-in-End.ensures.1 in
@@ -108,7 +108,7 @@ pub returns-clause-told : goal.returns-clause-told
 returns-clause-told g c =
     let h = g.H.Handlers in
     let a = g.A.AppText in
-    let t = texts_of a.input_of a.input_text a.output_text in
+    let t = texts_of a.input_of a.input_text a.output_text a.replies in
     let follows = g.T.TraceMap.has_followed in
     let i = image g c.args.handlers c.args.below.now in
     let old = c.args.reader.now in

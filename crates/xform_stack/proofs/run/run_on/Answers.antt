@@ -1,6 +1,6 @@
 use Rattle.std.proofs.Common.{◌≡◌, ◌<◌, List, [], ◌++◌, ◌∷◌, ◌+◌, length, take, drop, None, Err, sym, ◌∙◌, subst}
 use Rattle.std.proofs.lemmas.List.{take_more, take_all}
-use Rattle.std.proofs.lemmas.Result.{err_from_is_err_and, IfOk-weaker, MatchResult-weaker}
+use Rattle.std.proofs.lemmas.Result.{err_from_is_err_and}
 use Rattle.net_semantics.specs.Runs.{first_refused, run, no_recovery}
 use Rattle.net_semantics.specs.Steps.{refusal_of}
 use Rattle.net_semantics.specs.Shown.{IsSound}
@@ -60,13 +60,10 @@ pub returns-clause-allowed : goal.returns-clause-allowed
 returns-clause-allowed g c =
     let m = g.H.Handlers.meaning c.args.handlers in
     let r = no_recovery {S = g.row.H-State.Denot} in
-    IfOk-weaker c.finish.result _ _ (λ ran told. subst (λ (n : Net). first_refused n m r c.args.steps.now ≡ None) c.loop-step.invariant.net (whole g c).allowed) c.finish.ensures.trace
+    subst (λ (n : Net). first_refused n m r c.args.steps.now ≡ None) c.loop-step.invariant.net (whole g c).allowed
 
 pub returns-clause-trace : goal.returns-clause-trace
-returns-clause-trace g c = IfOk-weaker c.finish.result _ _ (λ ran told. told ∙ (whole g c).traced) c.finish.ensures.trace
+returns-clause-trace g c = c.finish.ensures.trace ∙ (whole g c).traced
 
 pub returns-clause-image : goal.returns-clause-image
-returns-clause-image g c = IfOk-weaker c.finish.result _ _ (λ ran told. told (g.H.Handlers.meaning c.args.handlers) c.args.steps.now (whole g c).followed) c.finish.ensures.image
-
-pub returns-clause-refused : goal.returns-clause-refused
-returns-clause-refused g c = MatchResult-weaker c.finish.result c.finish.ensures.memory (λ ran always. always) (λ why is. rw is tt)
+returns-clause-image g c = c.finish.ensures.image (g.H.Handlers.meaning c.args.handlers) c.args.steps.now (whole g c).followed
