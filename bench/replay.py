@@ -1,10 +1,10 @@
 #!/usr/bin/env python3
 """replay.py [PROGRAM]: how the time and memory of `vst replay` grow with the number of events.
 
-Makes schedules of the lock server on three nodes, runs PROGRAM (crates/vst/out/vst unless given) on each, checks
-what it answers, and prints the times, their ratio and the peak memory. Exits 1 where an answer is wrong.
+Makes schedules of each stack, runs PROGRAM (crates/vst/out/vst unless given) on each, checks what it answers, and
+prints the times, their ratio and the peak memory. Exits 1 where an answer is wrong.
 
-One round of `lock` is five events and three packets. The clients 1 and 2 take turns:
+One round of `lock`, on three nodes, is five events and three packets. The clients 1 and 2 take turns:
 
     in c lock        packet k goes to the server
     deliver k        the server hands the lock over: packet k + 1 goes to c
@@ -13,6 +13,15 @@ One round of `lock` is five events and three packets. The clients 1 and 2 take t
     deliver k + 2    nobody waits
 
 A round of `lock/seq` has two events more: packet k is copied, and its copy comes too, which the image leaves out.
+
+A round of `kv` is one command, of `kv/pb` three events and two packets:
+
+    in 0 put ..      packet k goes to the backup
+    deliver k        the backup applies the command: packet k + 1 goes back
+    deliver k + 1    the primary replies
+
+A round of `kv/pb/seq` has two events more, the copy of the acknowledgement and its delivery. The commands put and get
+under a thousand keys in turn.
 """
 import os
 import subprocess
@@ -24,55 +33,85 @@ SIZES = (100_000, 1_000_000)
 RUNS = 3
 
 
-def lock_round(client, packet):
-    """The lines of a round, each with the number of trace lines that it makes and whether it stands in the image."""
+def lock_round(turn, packet):
+    """The lines of a round, each with the number of trace lines that it makes and its line of the image, if it has one."""
+    client = 1 + turn % 2
+    lines = (
+        (f"in {client} lock", 1),
+        (f"deliver {packet}", 0),
+        (f"deliver {packet + 1}", 1),
+        (f"in {client} unlock", 1),
+        (f"deliver {packet + 2}", 0),
+    )
+    return tuple((line, seen, line) for line, seen in lines)
+
+
+def copied_round(turn, packet):
+    """The same, with a copy of the first packet that comes behind the answer."""
+    asked, taken, *rest = lock_round(turn, packet)
+    return (asked, (f"dup {packet}", 0, None), taken, (f"deliver {packet}", 0, None), *rest)
+
+
+def command(turn):
+    """The input of a round of the key-value machine."""
+    key = f"key-{turn // 2 % 1000}"
+    return f"in 0 get {key}" if turn % 2 else f"in 0 put {key} value-{turn}"
+
+
+def kv_round(turn, _packet):
+    """A command, and its reply at once."""
+    return ((command(turn), 2, command(turn)),)
+
+
+def backed_round(turn, packet):
+    """A command, which stands in the image once it is replied to."""
     return (
-        (f"in {client} lock", 1, True),
-        (f"deliver {packet}", 0, True),
-        (f"deliver {packet + 1}", 1, True),
-        (f"in {client} unlock", 1, True),
-        (f"deliver {packet + 2}", 0, True),
+        (command(turn), 1, None),
+        (f"deliver {packet}", 0, None),
+        (f"deliver {packet + 1}", 1, command(turn)),
     )
 
 
-def copied_round(client, packet):
-    """The same, with a copy of the first packet that comes behind the answer."""
-    asked, taken, *rest = lock_round(client, packet)
-    return (asked, (f"dup {packet}", 0, False), taken, (f"deliver {packet}", 0, False), *rest)
+def copied_backed_round(turn, packet):
+    """The same, with a copy of the acknowledgement that comes behind the reply."""
+    asked, applied, replied = backed_round(turn, packet)
+    return (asked, applied, (f"dup {packet + 1}", 0, None), replied, (f"deliver {packet + 1}", 0, None))
 
 
-# The header of the schedule, that of its image, and a round.
+# The header of the schedule, that of its image, a round, and its number of packets.
 STACKS = {
-    "lock": ("schedule 1 bag lock 3", "schedule 1 bag lock 3", lock_round),
-    "lock/seq": ("schedule 1 dup lock/seq 3", "schedule 1 bag lock 3", copied_round),
+    "lock": ("schedule 1 bag lock 3", "schedule 1 bag lock 3", lock_round, 3),
+    "lock/seq": ("schedule 1 dup lock/seq 3", "schedule 1 bag lock 3", copied_round, 3),
+    "kv": ("schedule 1 one kv 1", "schedule 1 one kv 1", kv_round, 0),
+    "kv/pb": ("schedule 1 bag kv/pb 2", "schedule 1 one kv 1", backed_round, 2),
+    "kv/pb/seq": ("schedule 1 dup kv/pb/seq 2", "schedule 1 one kv 1", copied_backed_round, 2),
 }
 
 
-def events(one_round, count):
+def events(one_round, packets, count):
     """The first `count` event lines of rounds."""
-    made, packet, client = 0, 0, 1
+    made, turn = 0, 0
     while made < count:
-        for event in one_round(client, packet):
+        for event in one_round(turn, turn * packets):
             if made == count:
                 return
             yield event
             made += 1
-        packet += 3
-        client = 3 - client
+        turn += 1
 
 
 def write_schedule(path, image, stack, count):
     """Writes the schedule and its image, and returns how many lines its trace has."""
-    header, below, one_round = STACKS[stack]
+    header, below, one_round, packets = STACKS[stack]
     trace = 0
     with open(path, "w", encoding="ascii", newline="\n") as out, open(image, "w", encoding="ascii", newline="\n") as kept:
         out.write(header + "\n")
         kept.write(below + "\n")
-        for line, seen, stays in events(one_round, count):
+        for line, seen, stays in events(one_round, packets, count):
             out.write(line + "\n")
             trace += seen
             if stays:
-                kept.write(line + "\n")
+                kept.write(stays + "\n")
     return trace
 
 

@@ -31,7 +31,7 @@ use Rattle.schedule_replay.specs.declared.fault.ReplayFault.{ReplayFault}
 use Rattle.schedule_replay.specs.declared.fault.ReplayFault.TheVariants as fault
 use Rattle.schedule_replay.specs.Faults.{replay_fault}
 use Rattle.schedule_replay.specs.Replaying.{Replayed, replayed_script}
-use Rattle.schedule_replay.specs.Replays.{kv_pb_stack, kv_pb_seq_stack, lock_seq_stack, lock_texts, most_lines, replayed_by, replayed_stack, replayed_opening, replayed, replayed_so_far, stack_whole, stack_so_far, rest_whole, rest_so_far}
+use Rattle.schedule_replay.specs.Replays.{kv_stack, kv_pb_stack, kv_pb_seq_stack, lock_seq_stack, lock_texts, most_lines, replayed_by, replayed_stack, replayed_opening, replayed, replayed_so_far, stack_whole, stack_so_far, rest_whole, rest_so_far}
 use Rattle.schedule_replay.specs.Stacks.{Stack, stack_of}
 use Rattle.schedule_replay.specs.Outcomes.{HasGiven, ComesTo, HasFault, HasCause}
 use Rattle.schedule_replay.proofs.Endings.{given-of}
@@ -175,6 +175,9 @@ is-kv_pb h s is whole most n e ls = rw is refl
 pub is-kv_pb_seq : (h : Header) (s : StackId) → s ≡ stack.KvPbSeq → (whole : Bool) (most n e : ℕ) (ls : List (List ℕ)) → replayed_stack whole h s most n e ls ≡ replayed_by kv_pb_seq_stack whole most n e ls
 is-kv_pb_seq h s is whole most n e ls = rw is refl
 
+pub is-kv : (h : Header) (s : StackId) → s ≡ stack.Kv → (whole : Bool) (most n e : ℕ) (ls : List (List ℕ)) → replayed_stack whole h s most n e ls ≡ replayed_by kv_stack whole most n e ls
+is-kv h s is whole most n e ls = rw is refl
+
 pub is-lock_seq : (h : Header) (s : StackId) → s ≡ stack.LockSeq → (whole : Bool) (most n e : ℕ) (ls : List (List ℕ)) → replayed_stack whole h s most n e ls ≡ replayed_by (lock_seq_stack h) whole most n e ls
 is-lock_seq h s is whole most n e ls = rw is refl
 
@@ -206,4 +209,5 @@ header-net h (inl by) s is = by.net ∙ ap net_of (sym by.stack ∙ is)
 header-net h (inr (inl by)) s is = by.net ∙ ap net_of (sym by.stack ∙ is)
 header-net h (inr (inr (inl by))) s is = by.net ∙ ap net_of (sym by.stack ∙ is)
 header-net h (inr (inr (inr (inl by)))) s is = by.net ∙ ap net_of (sym by.stack ∙ is)
-header-net h (inr (inr (inr (inr x)))) s is = elim x [ ]
+header-net h (inr (inr (inr (inr (inl by))))) s is = by.net ∙ ap net_of (sym by.stack ∙ is)
+header-net h (inr (inr (inr (inr (inr x))))) s is = elim x [ ]

@@ -10,7 +10,7 @@ use Rattle.vst_base.specs.declared.net.Net.TheVariants as net
 use Rattle.vst_base.specs.declared.seq.SeqMsg.{SeqMsg}
 use Rattle.net_semantics.specs.BelowPb.{below_pb}
 use Rattle.net_semantics.specs.Once.{once}
-use Rattle.net_semantics.specs.Runs.{trace, no_recovery}
+use Rattle.net_semantics.specs.Runs.{machine, trace, no_recovery}
 use Rattle.handler_trait.specs.Handling.{Meaning}
 use Rattle.trace_maps.specs.Replying.{alone}
 use Rattle.vst_base.specs.declared.pb_msg.PbMsg.{PbMsg}
@@ -34,6 +34,9 @@ use Rattle.schedule_text.specs.Schedules.{Opening, Opened, RefusedAt, EndedAt, o
 use Rattle.schedule_replay.specs.Stacks.{Stack, Texts, Image, stack_of}
 use Rattle.schedule_replay.specs.Replaying.{Replayed, refused_at, no_counts, replayed_script}
 
+abbrev pub kv_texts : Texts KvCmd KvOut
+kv_texts = record { input_of = kv.input_of; input_text = kv.input_text; output_text = kv.output_text; is_reply = λ _. true }
+
 abbrev pub kv_pb_texts : Texts KvCmd (PbOut KvOut)
 kv_pb_texts = record { input_of = kv.input_of; input_text = kv.input_text; output_text = pb_output_text kv.output_text; is_reply = pb_replies }
 
@@ -56,6 +59,10 @@ lock_seq_stack h = stack_of net.Dup (sequence_numbered (lock_server h.nodes)) lo
 -- the header of the key-value machine alone
 abbrev pub kv_header : Header
 kv_header = record { net = net.One; stack = stack.Kv; nodes = 1 }
+
+-- the key-value machine alone, at its node: its image is the schedule itself
+abbrev pub kv_stack : Stack Store Store KvCmd KvOut ⊥
+kv_stack = stack_of net.One (machine kv) kv_texts (record { header = kv_header; steps = λ ss. ss })
 
 -- what is below primary-backup: the key-value machine alone, over the commands that were replied to
 abbrev pub kv_image : {S M : Type 0} → Meaning S KvCmd (PbOut KvOut) M → Image KvCmd
@@ -86,7 +93,7 @@ replayed_stack whole h stack.KvPbSeq most number events ls = replayed_by kv_pb_s
 replayed_stack whole h stack.KvRaft most number events ls = refused_at (number - 1) why.Header
 replayed_stack whole h stack.TablePbSeq most number events ls = refused_at (number - 1) why.Header
 replayed_stack whole h stack.TableRaft most number events ls = refused_at (number - 1) why.Header
-replayed_stack whole h stack.Kv most number events ls = refused_at (number - 1) why.Header
+replayed_stack whole h stack.Kv most number events ls = replayed_by kv_stack whole most number events ls
 replayed_stack whole h stack.Table most number events ls = refused_at (number - 1) why.Header
 
 -- a text without a header is refused at the line after its last, if that was its end

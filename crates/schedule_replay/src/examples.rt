@@ -53,6 +53,11 @@ pub fn worked()
     ensures acknowledged_twice { (replayed (codes "schedule 1 dup kv/pb/seq 2\nin 0 put a x\nin 0 get a\ndeliver 0\ndup 1\ndeliver 1\ndeliver 1\nin 1 get a\n")).out
         ≡ codes "in 0 put a x\nin 0 get a\nout 0 a =x -\nin 1 get a\nout 1 redirect\nbelow\nschedule 1 one kv 1\nin 0 put a x\n" }
     ensures redirects_are_no_replies { (replayed (codes "schedule 1 bag kv/pb 2\nin 1 get a\n")).counts ≡ record { events = 1; inputs = 1; outputs = 1; replies = 0; image = 0 } }
+
+    // A machine alone answers each command at once.
+    ensures at_once { (replayed (codes "schedule 1 one kv 1\nin 0 cas a - x\nin 0 cas a =y z\nin 0 cad a x\nin 0 del a\n")).out
+        ≡ codes "in 0 cas a - x\nout 0 a =x -\nin 0 cas a =y z\nout 0 a =x =x\nin 0 cad a x\nout 0 a - =x\nin 0 del a\nout 0 a - -\nbelow\nschedule 1 one kv 1\nin 0 cas a - x\nin 0 cas a =y z\nin 0 cad a x\nin 0 del a\n" }
+    ensures one_node_alone { (replayed (codes "schedule 1 one kv 1\nin 1 get a\n")).refused ≡ Some (2, NoSuchNode) }
     ensures no_key_value_machine_on_a_bag { (replayed (codes "schedule 1 bag kv 1\n")).refused ≡ Some (1, Header) }
 
     // A text that broke off: its whole lines alone.

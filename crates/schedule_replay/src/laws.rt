@@ -3,16 +3,18 @@ ghost use Rattle.kv_machine.specs.Kv.{kv};
 ghost use Rattle.kv_machine.specs.declared.cmd.KvCmd.{KvCmd};
 ghost use Rattle.net_semantics.specs.BelowPb.{IsExplainedBy};
 ghost use Rattle.net_semantics.specs.Once.{once};
-ghost use Rattle.net_semantics.specs.Runs.{IsAllowed};
+ghost use Rattle.net_semantics.specs.Runs.{IsAllowed, machine_trace};
 ghost use Rattle.schedule_replay.specs.Replaying.{trace_of};
-ghost use Rattle.schedule_replay.specs.Replays.{kv_pb_seq_stack, kv_pb_stack, lock_header, lock_seq_stack, lock_stack};
+ghost use Rattle.schedule_replay.specs.Replays.{kv_pb_seq_stack, kv_pb_stack, kv_stack, lock_header, lock_seq_stack, lock_stack};
 ghost use Rattle.schedule_text.specs.declared.header.Header.{Header};
+ghost use Rattle.trace_maps.specs.Replying.{alone};
 ghost use Rattle.vst_base.specs.declared.step.Step.{Step};
 
 use kv_machine::KvMachine;
 use lock_server::LockServer;
 use primary_backup::{PrimaryBackup, one_machine_explains};
 use seqnum_xform::repeats_do_nothing;
+use single_node::is_the_machine;
 use vst_base::LockInput;
 
 /// Under the image below a trace of the lock server with numbered packets the lock server itself has the same trace: its
@@ -34,4 +36,13 @@ pub fn machine_explains_images()
 {
     one_machine_explains::<KvMachine>();
     repeats_do_nothing::<PrimaryBackup<KvMachine>>();
+}
+
+/// What is below primary-backup can itself be replayed: the key-value machine alone takes any commands, and its trace is each
+/// command with the machine's output behind it.
+pub fn machine_takes_images()
+    ensures allowed { (cs : List KvCmd) → IsAllowed kv_stack.net kv_stack.meaning kv_stack.recovery (alone cs) }
+    ensures trace { (cs : List KvCmd) → trace_of kv_stack (alone cs) ≡ machine_trace kv cs }
+{
+    is_the_machine::<KvMachine>();
 }

@@ -20,7 +20,7 @@ mod writing;
 pub use done::Done;
 pub use examples::worked;
 pub use fault::ReplayFault;
-pub use laws::{machine_explains_images, same_under_images};
+pub use laws::{machine_explains_images, machine_takes_images, same_under_images};
 pub use stream::replay;
 
 #[cfg(test)]

@@ -6,11 +6,12 @@ ghost use Rattle.schedule_replay.specs.Replays.{kv_header, lock_header, replayed
 
 use crate::rest::replay_rest;
 use crate::{Done, ReplayFault};
-use app_text::{KvPbText, LockText};
+use app_text::{KvPbText, KvText, LockText};
 use kv_machine::{KvCmd, KvMachine};
 use lock_server::LockServer;
 use outside::{Sink, Source};
 use primary_backup::PrimaryBackup;
+use single_node::SingleNode;
 use schedule_text::{Header, MAX_LINES, Reader, read_header};
 use std::alloc::Global;
 use vst_base::{LockInput, Net, StackId};
@@ -82,6 +83,13 @@ fn replay_stack<S: Source, K: Sink>(
             let numbered = SeqNum::new(nodes);
             replay_rest::<SeqNum<PrimaryBackup<KvMachine>>, KvPbText, RepliedTo<KvCmd>, S, K>(
                 alloc, numbered, header, &below, reader, source, sink,
+            )
+        }
+        StackId::Kv => {
+            let below = kv_header();
+            let node = SingleNode::new(KvMachine);
+            replay_rest::<SingleNode<KvMachine>, KvText, Itself<KvCmd>, S, K>(
+                alloc, node, header, &below, reader, source, sink,
             )
         }
         _ => unreachable!(),

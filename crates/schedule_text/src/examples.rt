@@ -44,6 +44,8 @@ pub fn worked_headers()
     ensures two_nodes { header_of (codes "schedule 1 bag kv/pb 2") ≡ Some (record { net = Net.Bag; stack = StackId.KvPb; nodes = 2 }) }
     ensures numbered_two_nodes { header_of (codes "schedule 1 dup kv/pb/seq 2") ≡ Some (record { net = Net.Dup; stack = StackId.KvPbSeq; nodes = 2 }) }
     ensures not_two_nodes { (header_of (codes "schedule 1 bag kv/pb 1") ≡ None) × (header_of (codes "schedule 1 dup kv/pb/seq 3") ≡ None) }
+    ensures machine_alone { header_of (codes "schedule 1 one kv 1") ≡ Some (record { net = Net.One; stack = StackId.Kv; nodes = 1 }) }
+    ensures machine_on_a_bag { (header_of (codes "schedule 1 bag kv 1") ≡ None) × (header_of (codes "schedule 1 one kv 2") ≡ None) }
     ensures text { header_text (record { net = Net.Bag; stack = StackId.Lock; nodes = 2 }) ≡ codes "schedule 1 bag lock 2" }
     ensures numbered_text { header_text (record { net = Net.Dup; stack = StackId.LockSeq; nodes = 9 }) ≡ codes "schedule 1 dup lock/seq 9" }
     ensures opens_empty { opening 2000000 1 [] ≡ EndedAt 1 }

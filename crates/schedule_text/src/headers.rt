@@ -47,8 +47,16 @@ const KV_PB_SEQ: Row = Row {
     most: 2,
 };
 
+// The key-value machine alone, at its one node.
+const KV: Row = Row {
+    net: Net::One,
+    stack: StackId::Kv,
+    least: 1,
+    most: 1,
+};
+
 // The pairings that there are. A line is tried by each in this order.
-const ROWS: &[Row] = &[LOCK, LOCK_SEQ, KV_PB, KV_PB_SEQ];
+const ROWS: &[Row] = &[LOCK, LOCK_SEQ, KV_PB, KV_PB_SEQ, KV];
 
 fn net_word(net: Net) -> &'static [u8]
     ensures { result.now ≡ net_word net }

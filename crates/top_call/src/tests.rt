@@ -192,6 +192,25 @@ fn commands_are_acknowledged_before_they_are_answered(rt: HostRuntime) -> Result
 }
 
 #[test]
+fn a_machine_alone_answers_at_once(rt: HostRuntime) -> Result<(), Fail> {
+    expect(
+        &rt,
+        b"schedule 1 one kv 1\nin 0 cas a - x\nin 0 cas a =y z\nin 0 cad a x\nin 0 del a\n",
+        0,
+        b"in 0 cas a - x\nout 0 a =x -\nin 0 cas a =y z\nout 0 a =x =x\nin 0 cad a x\nout 0 a - =x\nin 0 del a\nout 0 a - -\nbelow\nschedule 1 one kv 1\nin 0 cas a - x\nin 0 cas a =y z\nin 0 cad a x\nin 0 del a\n",
+        b"",
+    )?;
+    expect(
+        &rt,
+        b"schedule 1 one kv 1\nin 0 get a\ntick 0\n",
+        3,
+        b"in 0 get a\nout 0 a - -\n",
+        b"line 3: not this network\n",
+    )?;
+    Ok(())
+}
+
+#[test]
 fn a_text_outside_the_grammar_is_refused(rt: HostRuntime) -> Result<(), Fail> {
     expect(&rt, b"", 3, b"", b"line 1: header\n")?;
     expect(

@@ -2,12 +2,14 @@
 //! explains it. It knows nothing of texts.
 #![tactic(auto)]
 
+mod alone;
 mod backed;
 mod laws;
 mod ran;
 mod run;
 mod running;
 
+pub use alone::run_one;
 pub use backed::{run_backed, run_backed_dup};
 pub use laws::numbered_lock_excludes;
 pub use ran::{Ran, RunFault};
@@ -17,6 +19,6 @@ pub use seqnum_xform::SeqNum;
 pub use trace_maps::{Image, Itself, RepliedTo, TraceMap, WithoutRepeats};
 
 #[cfg(test)]
-mod backed_tests;
+mod machine_tests;
 #[cfg(test)]
 mod tests;

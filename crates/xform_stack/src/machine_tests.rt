@@ -4,7 +4,7 @@ use super::*;
 use net_semantics::Trace;
 use std::alloc::{AllocError, Global};
 use std::test::Fail;
-use vst_base::{Item, Machine, Node, PbOut, Step};
+use vst_base::{Item, Machine, Node, PbOut, Step, StepRefusal};
 
 // A machine that keeps the greatest command, and answers with the greatest before.
 #[derive(Drop)]
@@ -50,6 +50,23 @@ fn is_seen(trace: &Trace<u8, PbOut<u8>>) -> bool {
         Item::Input(primary, 7),
     ];
     trace.items() == seen.as_slice()
+}
+
+#[test]
+fn a_machine_alone_answers_at_once(rt: HostRuntime) -> Result<(), Fail> {
+    let ran = run_one(rt.alloc(), Greatest, &[Step::In(0, 5), Step::In(0, 7)])?;
+    let node = Node::new(0, 1).unwrap();
+    let seen = [
+        Item::Input(node, 5),
+        Item::Output(node, 0),
+        Item::Input(node, 7),
+        Item::Output(node, 5),
+    ];
+    assert!(rt; ran.trace.items() == seen.as_slice());
+    assert_eq!(rt; ran.image.lines().len(), 2);
+    let refused = run_one(rt.alloc(), Greatest, &[Step::In(0, 5), Step::Tick(0)]);
+    assert!(rt; matches!(refused, Err(RunFault::Step(StepRefusal::NotThisNet, 1))));
+    Ok(())
 }
 
 #[test]

@@ -1,5 +1,5 @@
 -- These print numbers, whose digits have to be computed.
-use Rattle.std.proofs.Common.{◌≡◌, ◌∷◌, [], List, None, Some, codes, map, refl}
+use Rattle.std.proofs.Common.{◌≡◌, ◌∷◌, [], List, Option, None, Some, ℕ, codes, map, refl}
 use Rattle.std.specs.Cmp.Lexicographic.{nat_list_cmp_total}
 use Rattle.std.specs.FinMap.{get-empty, get-insert, get-remove}
 use Rattle.std.specs.Fmt.{digits}
@@ -28,7 +28,7 @@ use Rattle.net_semantics.specs.Runs.{first_refused}
 use Rattle.seqnum_xform.specs.Numbered.{Numbered}
 use Rattle.schedule_text.specs.Schedules.{Script}
 use Rattle.schedule_replay.specs.Replaying.{steps_of, trace_of}
-use Rattle.schedule_replay.specs.Replays.{kv_pb_seq_stack, lock_seq_stack}
+use Rattle.schedule_replay.specs.Replays.{kv_stack, kv_pb_seq_stack, lock_seq_stack}
 use Rattle.schedule_replay.specs.Stacks.{Stack}
 use Rattle.schedule_replay.proofs.Wholly.{whole-out, whole-out-by}
 use Rattle.number_set.specs.NumberSetLaws.{set_tests}
@@ -119,3 +119,31 @@ acked-trace = simp lookups_and_sets
 pub returns-clause-acknowledged_twice : goal.returns-clause-acknowledged_twice
 unfolding digits
 returns-clause-acknowledged_twice c = whole-out-by kv_pb_seq_stack acked_script refl acked-allowed (λ items. map (step_text kv.input_text) (alone (below_pb items))) refl acked_items acked-trace
+
+-- each command of a machine alone is answered at once
+abbrev alone_script : Script KvCmd
+alone_script = record {
+  steps =
+      (2, step.In 0 (cmd.Cas (codes "a") None (codes "x"))) ∷ (3, step.In 0 (cmd.Cas (codes "a") (Some (codes "y")) (codes "z")))
+      ∷ (4, step.In 0 (cmd.Cad (codes "a") (codes "x"))) ∷ (5, step.In 0 (cmd.Del (codes "a"))) ∷ [];
+  fault = None;
+}
+
+alone-allowed : first_refused kv_stack.net kv_stack.meaning kv_stack.recovery (steps_of alone_script) ≡ None
+alone-allowed = refl
+
+abbrev said : Option (List ℕ) → Option (List ℕ) → Item KvCmd KvOut
+said after before = item.Output 0 (record { key = codes "a"; after = after; before = before })
+
+abbrev alone_items : List (Item KvCmd KvOut)
+alone_items =
+    item.Input 0 (cmd.Cas (codes "a") None (codes "x")) ∷ said (Some (codes "x")) None
+    ∷ item.Input 0 (cmd.Cas (codes "a") (Some (codes "y")) (codes "z")) ∷ said (Some (codes "x")) (Some (codes "x"))
+    ∷ item.Input 0 (cmd.Cad (codes "a") (codes "x")) ∷ said None (Some (codes "x")) ∷ item.Input 0 (cmd.Del (codes "a")) ∷ said None None ∷ []
+
+alone-trace : trace_of kv_stack (steps_of alone_script) ≡ alone_items
+alone-trace = simp lookups
+
+pub returns-clause-at_once : goal.returns-clause-at_once
+unfolding digits
+returns-clause-at_once c = whole-out kv_stack alone_script refl alone-allowed alone_items alone-trace
