@@ -65,11 +65,11 @@ impl Peer {
         self.matched
     }
 
-    /// Takes the node's answer to entries that the leader, whose log has this length, sent in its term
-    /// (section 5.3): yes, its log is the leader's up to the index, or no, it has no entry there of the
-    /// leader's term for it. A yes may come late or be forged, so it tells something only of an index past
-    /// the one known and in the log. A no tells something only of the index right before next, past the one
-    /// known: the node is then sent entries from that index on.
+    /// Takes the node's answer to the entries that the leader, whose log has this length, sent it (section
+    /// 5.3): yes, its log is now the leader's up to the index, or no, it has not the leader's entry there.
+    /// An answer may be old or forged. So a yes tells something only of an index past the one known and in
+    /// the log, and a no only of the one right before next, past the one known: the node is then sent the
+    /// entries from that index on.
     pub fn on_answer(&mut self, ok: bool, index: u32, len: u32) -> Moved
         requires { len < u32.MAX }
         ensures answer { result ≡ moved self.old ok index len }

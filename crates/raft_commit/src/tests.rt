@@ -28,6 +28,7 @@ fn peers(alloc: Global, matched: &[u32]) -> Result<Vec<Peer>, Fail> {
     Ok(made)
 }
 
+// How far a leader of a log of these terms, that knows this of the nodes, commits.
 fn committed(
     alloc: Global,
     terms: &[u64],
@@ -146,14 +147,6 @@ fn answers_of_one_node_in_turn(rt: HostRuntime) {
             "{ok} {index}"
         );
     }
-}
-
-#[test]
-fn nothing_is_before_the_first_entry(rt: HostRuntime) {
-    let mut peer = Peer::new(1);
-    assert_eq!(rt; peer.on_answer(false, 1, 1), Moved::Back);
-    assert_eq!(rt; peer.on_answer(false, 0, 1), Moved::Nothing);
-    assert_eq!(rt; (peer.next(), peer.matched()), (1, 0));
 }
 
 // Of these terms, in order.
