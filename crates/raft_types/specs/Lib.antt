@@ -1,0 +1,4 @@
+pub mod Keeping
+pub mod Messages
+pub mod Ranges
+pub mod Terms

@@ -1,0 +1,29 @@
+//! What clients ask of a Raft cluster and are told, what its nodes send each other, and what a node keeps
+//! when it stops (the Raft paper, Figure 2), each in its range. It knows nothing of what a node does with
+//! them, or of how they are written as bytes.
+#![tactic(auto)]
+
+mod append;
+mod appended;
+mod client;
+mod entries;
+mod examples;
+mod kept;
+mod limits;
+mod msg;
+mod request_vote;
+mod vote;
+
+pub use append::Append;
+pub use appended::Appended;
+pub use client::{RaftInput, RaftOut};
+pub use entries::Entries;
+pub use examples::{worked_messages, worked_ranges};
+pub use kept::Kept;
+pub use limits::{MAX_BATCH, MAX_INDEX, MAX_NODES};
+pub use msg::RaftMsg;
+pub use request_vote::RequestVote;
+pub use vote::Vote;
+
+#[cfg(test)]
+mod tests;
