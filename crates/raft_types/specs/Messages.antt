@@ -21,7 +21,7 @@ pub record AppendView (C : Type 0) : Type 0 where
   pub commit : ℕ
   pub entries : List (Entry C)
 
--- the answer of a node in the term: it has the leader's entries up to the index, or has not the one there
+-- the answer of a node in the term: it has the leader's entries up to the index, or took none behind it
 pub record AppendedView : Type 0 where
   pub term : ℕ
   pub ok : Bool
