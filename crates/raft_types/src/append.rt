@@ -6,8 +6,9 @@ use crate::{Entries, MAX_BATCH};
 use std::marker::Model;
 use vst_base::Entry;
 
-/// A leader sends the entries behind an index of its log, at most `MAX_BATCH`, and says how far it has
-/// committed. Contracts see the record of its parts.
+/// A leader of a term, from 1 to `MAX_TERM`, sends the entries behind an index of its log, and says how far it
+/// has committed. They are at most `MAX_BATCH`, and the last stands at `MAX_INDEX` at most. Contracts see the
+/// record of its parts.
 #[derive(Debug, Drop)]
 pub struct Append<C> {
     term: u64,
@@ -26,11 +27,15 @@ impl<C> Model for Append<C> {
 
     ghost Value = { AppendView C };
 
-    ghost view = { λ a. record { term = a.term; prev_index = a.prev_index; prev_term = a.prev_term; commit = a.commit; entries = a.entries } };
+    ghost view = { λ a.
+        record { term = a.term; prev_index = a.prev_index; prev_term = a.prev_term; commit = a.commit; entries = a.entries } };
 
-    ghost invariant = { λ a. IsElectionTerm a.term × IsTerm a.prev_term × IsIndex a.commit × (length a.entries ≤ MAX_BATCH) × IsIndex (a.prev_index + length a.entries) };
+    ghost invariant = { λ a.
+        IsElectionTerm a.term × IsTerm a.prev_term × IsIndex a.commit
+        × (length a.entries ≤ MAX_BATCH) × IsIndex (a.prev_index + length a.entries) };
 
-    ghost inverse = { λ v. record { term = v.term; prev_index = v.prev_index; prev_term = v.prev_term; commit = v.commit; entries = v.entries } };
+    ghost inverse = { λ v.
+        record { term = v.term; prev_index = v.prev_index; prev_term = v.prev_term; commit = v.commit; entries = v.entries } };
 }
 
 impl<C> Append<C> {
@@ -42,7 +47,8 @@ impl<C> Append<C> {
         requires commit { IsIndex commit }
         requires count { length entries ≤ MAX_BATCH }
         requires last_index { IsIndex (prev_index + length entries) }
-        ensures { result ≡ record { term = term; prev_index = prev_index; prev_term = prev_term; commit = commit; entries = entries } }
+        ensures { result
+            ≡ record { term = term; prev_index = prev_index; prev_term = prev_term; commit = commit; entries = entries } }
     {
         Append {
             term,
@@ -69,7 +75,7 @@ impl<C> Append<C> {
         self.prev_index
     }
 
-    /// The term of the leader's entry at that index, 0 at index 0.
+    /// The term of the leader's entry at that index, at most `MAX_TERM`, and 0 at index 0.
     pub fn prev_term(&self) -> u64
         ensures value { result ≡ self.now.prev_term }
         ensures in_range { IsTerm result }
@@ -77,7 +83,7 @@ impl<C> Append<C> {
         self.prev_term
     }
 
-    /// The index up to which the leader has committed.
+    /// The index up to which the leader has committed, at most `MAX_INDEX`.
     pub fn commit(&self) -> u32
         ensures value { result ≡ self.now.commit }
         ensures in_range { IsIndex result }

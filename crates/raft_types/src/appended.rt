@@ -4,7 +4,8 @@ ghost use Rattle.raft_types.specs.Ranges.{IsIndex};
 
 use std::marker::Model;
 
-/// The answer to a leader that sent entries. Contracts see the record of its parts.
+/// A node in a term, from 1 to `MAX_TERM`, answers a leader that sent entries. Contracts see the record of its
+/// parts.
 #[derive(Clone, Copy, Debug, PartialEq, Eq)]
 pub struct Appended {
     term: u64,
@@ -52,7 +53,7 @@ impl Appended {
         self.ok
     }
 
-    /// The index that it answers for: of the last entry of the leader's that it has now, or the one behind
+    /// The index that it answers for, at most `MAX_INDEX`: up to which it has the leader's entries, or behind
     /// which it took none.
     pub fn index(&self) -> u32
         ensures value { result ≡ self.now.index }

@@ -5,8 +5,8 @@ use crate::Entries;
 use std::marker::Model;
 use vst_base::{Entry, Node};
 
-/// What a node keeps when it stops: its term, for whom it voted in it, which may be a node of any number,
-/// and its log. Contracts see the record of these.
+/// What a node keeps when it stops: its term, from 0 to `MAX_TERM`, for whom it voted in it, which may be a
+/// node of any number, and its log. Contracts see the record of these.
 #[derive(Debug, Drop)]
 pub struct Kept<C> {
     term: u64,

@@ -4,7 +4,8 @@ ghost use Rattle.raft_types.specs.Ranges.{IsIndex, IsTerm};
 
 use std::marker::Model;
 
-/// A candidate asks for a vote. Contracts see the record of its parts.
+/// A candidate of a term, from 1 to `MAX_TERM`, asks for a vote, and tells the index and the term of the last
+/// entry of its log. Contracts see the record of its parts.
 #[derive(Clone, Copy, Debug, PartialEq, Eq)]
 pub struct RequestVote {
     term: u64,
@@ -50,7 +51,7 @@ impl RequestVote {
         self.term
     }
 
-    /// The index of the last entry of the candidate's log.
+    /// The index of the last entry of the candidate's log, at most `MAX_INDEX`.
     pub fn last_index(&self) -> u32
         ensures value { result ≡ self.now.last_index }
         ensures in_range { IsIndex result }
@@ -58,7 +59,7 @@ impl RequestVote {
         self.last_index
     }
 
-    /// The term of the last entry of the candidate's log.
+    /// The term of the last entry of the candidate's log, at most `MAX_TERM`.
     pub fn last_term(&self) -> u64
         ensures value { result ≡ self.now.last_term }
         ensures in_range { IsTerm result }

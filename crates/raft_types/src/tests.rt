@@ -1,3 +1,5 @@
+ghost use Rattle.std.specs.Prelude.{◌≤◌, length, IfOk};
+
 use super::*;
 use std::alloc::Global;
 use std::process::Abort;
@@ -5,14 +7,16 @@ use std::test::Fail;
 use vst_base::{ClientId, Entry, MAX_TERM, Node, ReqId};
 
 // So many entries of the first term, told apart by their requests.
-fn entries(alloc: Global, count: u64) -> Result<Entries<u8>, Fail> {
+fn entries(alloc: Global, count: u64) -> Result<Entries<u8>, Fail>
+    ensures { IfOk result (λ made. length made ≤ MAX_BATCH) }
+{
     let origin = Node::new(4, MAX_NODES).ok_or("a node")?;
     let mut made = Vec::new(alloc);
     for request in 0..count {
         made.push(Entry::new(1, ClientId::new(7), ReqId::new(request), origin, 0u8))?;
     }
     if made.len() > MAX_BATCH {
-        return Err(Fail::from("a short log"));
+        return Err(Fail::from("few entries"));
     }
     Ok(Entries::new(made))
 }

@@ -3,7 +3,8 @@ ghost use Rattle.vst_base.specs.Entries.{IsElectionTerm};
 
 use std::marker::Model;
 
-/// The answer to a candidate that asked for a vote. Contracts see the record of its parts.
+/// A node in a term, from 1 to `MAX_TERM`, answers a candidate that asked for its vote. Contracts see the
+/// record of its parts.
 #[derive(Clone, Copy, Debug, PartialEq, Eq)]
 pub struct Vote {
     term: u64,
