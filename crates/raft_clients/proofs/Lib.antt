@@ -1,0 +1,7 @@
+pub mod Answering
+pub mod Executing
+pub mod Found
+pub mod Known
+pub mod Listed
+pub mod Once
+pub mod Views
