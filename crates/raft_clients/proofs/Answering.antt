@@ -14,7 +14,7 @@ use Rattle.raft_clients.proofs.Listed.{slice_get_seam}
 use Rattle.raft_clients.proofs.Views.{get-written}
 use Rattle.raft_clients.specs.Executed.{executed_behind}
 use Rattle.raft_clients.specs.Executions.{IsAnswered}
-use Rattle.raft_clients.specs.Sessions.{Sessions, answer, applied_all, executes, is_over, kept_output}
+use Rattle.raft_clients.specs.Sessions.{Sessions, answer, applied_all, is_new}
 use Rattle.raft_clients.specs.declared.session.Session.{Session}
 
 slice_get_front : {A : Type 0} (xs ys : List A) (k : ℕ) (v : A) → slice_get xs k ≡ Some v → slice_get (xs ++ ys) k ≡ Some v
@@ -63,15 +63,15 @@ module _ {S C O : Type 0} (m : MachineMeaning S C O) (whole : List (Entry C × O
       done ++ outcomes m s (executed_behind earlier es) ≡ whole → All (IsAnswered whole) (applied_all m s ss es).answers
   answers_all s ss earlier [] done knows held is = All-nil (IsAnswered whole)
   answers_all s ss earlier (e ∷ es) done knows held is =
-      go (is_over (get ss e.client) e.request) refl
+      go (is_new (get ss e.client) e.request) refl
       (λ new. answers_all (m.apply s e.cmd).0 (insert ss e.client (session_of e (m.apply s e.cmd).1)) (earlier ++ e ∷ []) es (done ++ (e, (m.apply s e.cmd).1) ∷ [])
       (knows_kept ss earlier e knows (m.apply s e.cmd).1 new) (held_kept ss done e (m.apply s e.cmd).1 held))
       (λ old. answers_all s ss (earlier ++ e ∷ []) es done (knows_passed ss earlier e knows old) held)
     where
-      go : (b : Bool) → is_over (get ss e.client) e.request ≡ b →
-          (is_over (get ss e.client) e.request ≡ true → (done ++ (e, (m.apply s e.cmd).1) ∷ []) ++ outcomes m (m.apply s e.cmd).0 (executed_behind (earlier ++ e ∷ []) es) ≡ whole →
+      go : (b : Bool) → is_new (get ss e.client) e.request ≡ b →
+          (is_new (get ss e.client) e.request ≡ true → (done ++ (e, (m.apply s e.cmd).1) ∷ []) ++ outcomes m (m.apply s e.cmd).0 (executed_behind (earlier ++ e ∷ []) es) ≡ whole →
           All (IsAnswered whole) (applied_all m (m.apply s e.cmd).0 (insert ss e.client (session_of e (m.apply s e.cmd).1)) es).answers) →
-          (is_over (get ss e.client) e.request ≡ false → done ++ outcomes m s (executed_behind (earlier ++ e ∷ []) es) ≡ whole → All (IsAnswered whole) (applied_all m s ss es).answers) →
+          (is_new (get ss e.client) e.request ≡ false → done ++ outcomes m s (executed_behind (earlier ++ e ∷ []) es) ≡ whole → All (IsAnswered whole) (applied_all m s ss es).answers) →
           All (IsAnswered whole) (applied_all m s ss (e ∷ es)).answers
       go true t new old =
           let rest : done ++ (e, (m.apply s e.cmd).1) ∷ outcomes m (m.apply s e.cmd).0 (executed_behind (earlier ++ e ∷ []) es) ≡ whole = rw (knows.tells e.client e.request ∙ t) at is in

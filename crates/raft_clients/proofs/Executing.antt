@@ -1,29 +1,28 @@
 -- Applied in order, the entries of a log do with the machine what its executed entries do.
-use Rattle.std.proofs.Common.{◌≡◌, ℕ, Bool, true, false, cond, eqb, ltb, List, [], ◌∷◌, ◌++◌, Option, None, Some, refl, ap, sym, ◌∙◌}
-use Rattle.std.specs.FinMap.{empty, get, insert, get-empty}
+use Rattle.std.proofs.Common.{◌≡◌, ℕ, Bool, true, false, cond, eqb, List, [], ◌∷◌, ◌++◌, Option, None, Some, refl, ap, ◌∙◌}
+use Rattle.std.specs.FinMap.{get, insert}
 use Rattle.std.specs.List.{zip}
 use Rattle.std.specs.Option.{option_or}
-use Rattle.std.specs.Ordering.{nat_cmp}
 use Rattle.vst_base.specs.Machines.{MachineMeaning, outputs_from, state_after}
 use Rattle.vst_base.specs.declared.entry.Entry.{Entry}
-use Rattle.raft_clients.proofs.Known.{Knows, knows_none, knows_kept, knows_passed, session_of}
+use Rattle.raft_clients.proofs.Known.{Knows, knows_kept, knows_passed, session_of}
 use Rattle.raft_clients.proofs.Views.{get-written}
-use Rattle.raft_clients.specs.Executed.{commands, exceeds, executed, executed_behind}
-use Rattle.raft_clients.specs.Executions.{executions, last_session}
-use Rattle.raft_clients.specs.Sessions.{Applied, AppliedAll, Sessions, applied, applied_all, applied_by, executes, is_over, kept_output}
+use Rattle.raft_clients.specs.Executed.{commands, executed_behind}
+use Rattle.raft_clients.specs.Executions.{last_session}
+use Rattle.raft_clients.specs.Sessions.{Applied, AppliedAll, Sessions, applied_all, applied_by, executes, is_new, kept_output}
 use Rattle.raft_clients.specs.declared.session.Session.{Session}
 
--- what a session answers to a request that is not over its own, if there is one
+-- what a session answers to a request that is not new, if there is one
 abbrev pub kept : {O : Type 0} → Option (Session O) → ℕ → Option O
 kept None request = None
 kept (Some session) request = kept_output session request
 
 module _ {S C O : Type 0} (m : MachineMeaning S C O) where
-  pub applied_new : (s : S) (ss : Sessions O) (e : Entry C) (o : Option (Session O)) → is_over o e.request ≡ true → applied_by m s ss e o ≡ executes m s ss e
+  pub applied_new : (s : S) (ss : Sessions O) (e : Entry C) (o : Option (Session O)) → is_new o e.request ≡ true → applied_by m s ss e o ≡ executes m s ss e
   applied_new s ss e None new = refl
   applied_new s ss e (Some session) new = ap (λ b. cond b (executes m s ss e) (record { state = s; sessions = ss; output = kept_output session e.request })) new
 
-  pub applied_old : (s : S) (ss : Sessions O) (e : Entry C) (o : Option (Session O)) → is_over o e.request ≡ false → applied_by m s ss e o ≡ record { state = s; sessions = ss; output = kept o e.request }
+  pub applied_old : (s : S) (ss : Sessions O) (e : Entry C) (o : Option (Session O)) → is_new o e.request ≡ false → applied_by m s ss e o ≡ record { state = s; sessions = ss; output = kept o e.request }
   applied_old s ss e None old = absurd (cc)
   applied_old s ss e (Some session) old = ap (λ b. cond b (executes m s ss e) (record { state = s; sessions = ss; output = kept_output session e.request })) old
 
@@ -48,13 +47,13 @@ module _ {S C O : Type 0} (m : MachineMeaning S C O) where
   pub executes_all : (s : S) (ss : Sessions O) (earlier es : List (Entry C)) → Knows ss earlier → Executes s ss (executed_behind earlier es) (applied_all m s ss es)
   executes_all s ss earlier [] knows = record { state = refl; sessions = λ client. refl }
   executes_all s ss earlier (e ∷ es) knows =
-      go (is_over (get ss e.client) e.request) refl
+      go (is_new (get ss e.client) e.request) refl
       (λ new. executes_all (m.apply s e.cmd).0 (insert ss e.client (session_of e (m.apply s e.cmd).1)) (earlier ++ e ∷ []) es (knows_kept ss earlier e knows (m.apply s e.cmd).1 new))
       (λ old. executes_all s ss (earlier ++ e ∷ []) es (knows_passed ss earlier e knows old))
     where
-      go : (b : Bool) → is_over (get ss e.client) e.request ≡ b →
-          (is_over (get ss e.client) e.request ≡ true → Executes (m.apply s e.cmd).0 (insert ss e.client (session_of e (m.apply s e.cmd).1)) (executed_behind (earlier ++ e ∷ []) es) (all_behind (executes m s ss e) es)) →
-          (is_over (get ss e.client) e.request ≡ false → Executes s ss (executed_behind (earlier ++ e ∷ []) es) (applied_all m s ss es)) →
+      go : (b : Bool) → is_new (get ss e.client) e.request ≡ b →
+          (is_new (get ss e.client) e.request ≡ true → Executes (m.apply s e.cmd).0 (insert ss e.client (session_of e (m.apply s e.cmd).1)) (executed_behind (earlier ++ e ∷ []) es) (all_behind (executes m s ss e) es)) →
+          (is_new (get ss e.client) e.request ≡ false → Executes s ss (executed_behind (earlier ++ e ∷ []) es) (applied_all m s ss es)) →
           Executes s ss (executed_behind earlier (e ∷ es)) (applied_all m s ss (e ∷ es))
       go true t new old = rw (knows.tells e.client e.request ∙ t, applied_new s ss e (get ss e.client) t) (record {
         state = (new t).state;

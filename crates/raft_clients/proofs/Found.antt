@@ -5,7 +5,7 @@ use Rattle.std.specs.FinMap.{get, insert}
 use Rattle.vst_base.specs.declared.entry.Entry.{Entry}
 use Rattle.raft_clients.proofs.Known.{Knows, knows_kept, knows_passed, session_of}
 use Rattle.raft_clients.specs.Executed.{exceeds, executed_places, places_behind}
-use Rattle.raft_clients.specs.Sessions.{Sessions, is_over}
+use Rattle.raft_clients.specs.Sessions.{Sessions, is_new}
 
 -- the places among the first i entries, and the sessions that tell which of the others are new
 pub record Found {C O : Type 0} (entries : List (Entry C)) (i : ℕ) (places : List ℕ) (sessions : Sessions O) : Type 0 where
@@ -18,7 +18,7 @@ module _ {C O : Type 0} (entries : List (Entry C)) (i : ℕ) (e : Entry C) (plac
   up_to = ap (λ d. take i entries ++ d ∷ []) is ∙ sym (take_more entries i e within)
 
   -- what is owed from the entry on
-  owed : (b : Bool) → is_over (get sessions e.client) e.request ≡ b →
+  owed : (b : Bool) → is_new (get sessions e.client) e.request ≡ b →
       places ++ cond b (i ∷ places_behind (take (i + 1) entries) (drop (i + 1) entries)) (places_behind (take (i + 1) entries) (drop (i + 1) entries)) ≡ executed_places entries
   unfolding up_to
   owed b t =
@@ -29,14 +29,14 @@ module _ {C O : Type 0} (entries : List (Entry C)) (i : ℕ) (e : Entry C) (plac
       let step : places_behind (take i entries) (drop i entries) ≡ F b i (take (i + 1) entries) = ap (places_behind (take i entries)) rest ∙ (λ j. F (new j) (place j) (up_to j)) in
       ap (λ r. places ++ r) (sym step) ∙ found.so_far
 
-  pub found_kept : (output : O) → is_over (get sessions e.client) e.request ≡ true →
+  pub found_kept : (output : O) → is_new (get sessions e.client) e.request ≡ true →
       Found entries (i + 1) (places ++ i ∷ []) (insert sessions e.client (session_of e output))
   found_kept output new = record {
     so_far = append_assoc places (i ∷ []) (places_behind (take (i + 1) entries) (drop (i + 1) entries)) ∙ owed true new;
     knows = subst (λ earlier. Knows (insert sessions e.client (session_of e output)) earlier) up_to (knows_kept sessions (take i entries) e found.knows output new);
   }
 
-  pub found_passed : is_over (get sessions e.client) e.request ≡ false → Found entries (i + 1) places sessions
+  pub found_passed : is_new (get sessions e.client) e.request ≡ false → Found entries (i + 1) places sessions
   found_passed old = record {
     so_far = owed false old;
     knows = subst (λ earlier. Knows sessions earlier) up_to (knows_passed sessions (take i entries) e found.knows old);

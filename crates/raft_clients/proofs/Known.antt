@@ -8,23 +8,23 @@ use Rattle.std.specs.Ordering.{nat_cmp}
 use Rattle.vst_base.specs.declared.entry.Entry.{Entry}
 use Rattle.raft_clients.proofs.Views.{get-written}
 use Rattle.raft_clients.specs.Executed.{exceeds}
-use Rattle.raft_clients.specs.Sessions.{Sessions, is_over}
+use Rattle.raft_clients.specs.Sessions.{Sessions, is_new}
 use Rattle.raft_clients.specs.declared.session.Session.{Session}
 
 -- a request is new to its client's session exactly where it exceeds the earlier ones
 pub record Knows {C O : Type 0} (sessions : Sessions O) (earlier : List (Entry C)) : Type 0 where
-  pub tells : (client request : ℕ) → exceeds earlier client request ≡ is_over (get sessions client) request
+  pub tells : (client request : ℕ) → exceeds earlier client request ≡ is_new (get sessions client) request
 
 pub knows_none : {C O : Type 0} → Knows {C = C} {O = O} empty []
-knows_none = record { tells = λ client request. sym (ap (λ s. is_over s request) (get-empty nat_cmp client)) }
+knows_none = record { tells = λ client request. sym (ap (λ s. is_new s request) (get-empty nat_cmp client)) }
 
-over_more : {O : Type 0} (s : Option (Session O)) (q r : ℕ) → is_over s q ≡ true → ltb q r ≡ true → is_over s r ≡ true
-over_more None q r h l = refl
-over_more (Some s) q r h l = let a = ltb-true s.request q h in let b = ltb-true q r l in lt-ltb s.request r (omega arith)
+new_more : {O : Type 0} (s : Option (Session O)) (q r : ℕ) → is_new s q ≡ true → ltb q r ≡ true → is_new s r ≡ true
+new_more None q r h l = refl
+new_more (Some s) q r h l = let a = ltb-true s.request q h in let b = ltb-true q r l in lt-ltb s.request r (omega arith)
 
-over_passed : {O : Type 0} (s : Option (Session O)) (q r : ℕ) → is_over s q ≡ false → is_over s r ≡ true → ltb q r ≡ true
-over_passed None q r h l = cc
-over_passed (Some s) q r h l = let a = ltb-false s.request q h in let b = ltb-true s.request r l in lt-ltb q r (omega arith)
+new_passed : {O : Type 0} (s : Option (Session O)) (q r : ℕ) → is_new s q ≡ false → is_new s r ≡ true → ltb q r ≡ true
+new_passed None q r h l = cc
+new_passed (Some s) q r h l = let a = ltb-false s.request q h in let b = ltb-true s.request r l in lt-ltb q r (omega arith)
 
 exceeds_more : {C : Type 0} (earlier : List (Entry C)) (e : Entry C) (client request : ℕ) →
     exceeds (earlier ++ e ∷ []) client request ≡ (exceeds earlier client request && ((not (eqb e.client client) || ltb e.request request) && true))
@@ -35,25 +35,25 @@ abbrev pub session_of : {C O : Type 0} → Entry C → O → Session O
 session_of e output = record { request = e.request; output = output }
 
 module _ {C O : Type 0} (sessions : Sessions O) (earlier : List (Entry C)) (e : Entry C) (knows : Knows sessions earlier) where
-  pub knows_kept : (output : O) → is_over (get sessions e.client) e.request ≡ true →
+  pub knows_kept : (output : O) → is_new (get sessions e.client) e.request ≡ true →
       Knows (insert sessions e.client (session_of e output)) (earlier ++ e ∷ [])
-  knows_kept output new = record { tells = λ q r. exceeds_more earlier e q r ∙ go q r (eqb e.client q) refl (ltb e.request r) refl ∙ sym (ap (λ o. is_over o r) (get-written sessions e.client (session_of e output) q)) }
+  knows_kept output new = record { tells = λ q r. exceeds_more earlier e q r ∙ go q r (eqb e.client q) refl (ltb e.request r) refl ∙ sym (ap (λ o. is_new o r) (get-written sessions e.client (session_of e output) q)) }
     where
       go : (q r : ℕ) (b : Bool) → eqb e.client q ≡ b → (l : Bool) → ltb e.request r ≡ l →
-          (exceeds earlier q r && ((not b || l) && true)) ≡ is_over (cond b (Some (session_of e output)) (get sessions q)) r
+          (exceeds earlier q r && ((not b || l) && true)) ≡ is_new (cond b (Some (session_of e output)) (get sessions q)) r
       go q r false t l m = and-true _ ∙ knows.tells q r
       go q r true t false m = and-false _ ∙ sym m
       go q r true t true m =
-          let new_here : is_over (get sessions q) e.request ≡ true = ap (λ k. is_over (get sessions k) e.request) (sym (eqb-true e.client q t)) ∙ new in
-          and-true _ ∙ knows.tells q r ∙ over_more (get sessions q) e.request r new_here m ∙ sym m
+          let new_here : is_new (get sessions q) e.request ≡ true = ap (λ k. is_new (get sessions k) e.request) (sym (eqb-true e.client q t)) ∙ new in
+          and-true _ ∙ knows.tells q r ∙ new_more (get sessions q) e.request r new_here m ∙ sym m
 
-  pub knows_passed : is_over (get sessions e.client) e.request ≡ false → Knows sessions (earlier ++ e ∷ [])
-  knows_passed old = record { tells = λ q r. exceeds_more earlier e q r ∙ go q r (eqb e.client q) refl (is_over (get sessions q) r) refl }
+  pub knows_passed : is_new (get sessions e.client) e.request ≡ false → Knows sessions (earlier ++ e ∷ [])
+  knows_passed old = record { tells = λ q r. exceeds_more earlier e q r ∙ go q r (eqb e.client q) refl (is_new (get sessions q) r) refl }
     where
-      go : (q r : ℕ) (b : Bool) → eqb e.client q ≡ b → (l : Bool) → is_over (get sessions q) r ≡ l →
+      go : (q r : ℕ) (b : Bool) → eqb e.client q ≡ b → (l : Bool) → is_new (get sessions q) r ≡ l →
           (exceeds earlier q r && ((not b || ltb e.request r) && true)) ≡ l
       go q r false t l m = and-true _ ∙ knows.tells q r ∙ m
       go q r true t false m = ap (λ b. b && (ltb e.request r && true)) (knows.tells q r ∙ m)
       go q r true t true m =
-          let old_here : is_over (get sessions q) e.request ≡ false = ap (λ k. is_over (get sessions k) e.request) (sym (eqb-true e.client q t)) ∙ old in
-          ap (λ b. b && (ltb e.request r && true)) (knows.tells q r ∙ m) ∙ and-true _ ∙ over_passed (get sessions q) e.request r old_here m
+          let old_here : is_new (get sessions q) e.request ≡ false = ap (λ k. is_new (get sessions k) e.request) (sym (eqb-true e.client q t)) ∙ old in
+          ap (λ b. b && (ltb e.request r && true)) (knows.tells q r ∙ m) ∙ and-true _ ∙ new_passed (get sessions q) e.request r old_here m

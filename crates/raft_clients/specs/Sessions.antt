@@ -1,4 +1,4 @@
--- What is kept of clients, and what an entry of the log does with a machine and it (the Raft paper, section 8).
+-- What is kept of clients, and what an entry of the log does with a machine and it (the extended Raft paper, section 8).
 use Rattle.std.specs.Prelude.{ℕ, Bool, true, List, [], ◌∷◌, ◌++◌, Option, Some, None, nat_lt, ◌==◌, if◌then◌else◌, refl}
 use Rattle.std.specs.Coded.{Coded, code_by, coded×, coded_ℕ}
 use Rattle.std.specs.FinMap.{FinMap, code, get, insert}
@@ -17,13 +17,13 @@ session_code {O} output = code_by (ℕ × O) (coded× coded_ℕ output) (λ s. (
 abbrev pub sessions_code : {O : Type 0} → Coded O → Coded (Sessions O)
 sessions_code output = code coded_ℕ (session_code output)
 
--- whether a request number is over the session's, if there is one
-abbrev pub is_over : {O : Type 0} → Option (Session O) → ℕ → Bool
-is_over None request = true
-is_over (Some session) request = nat_lt session.request request
+-- whether a request is new to a client with this session: its number is over the session's, if there is one
+abbrev pub is_new : {O : Type 0} → Option (Session O) → ℕ → Bool
+is_new None request = true
+is_new (Some session) request = nat_lt session.request request
 
--- what a session answers to a request that is not over its own: to its own the output that is kept, to an
--- earlier one nothing
+-- what a session answers to a request that is not new: to its own the output that is kept, to an earlier one
+-- nothing
 abbrev pub kept_output : {O : Type 0} → Session O → ℕ → Option O
 kept_output session request = if request == session.request then Some session.output else None
 

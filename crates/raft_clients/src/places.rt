@@ -14,7 +14,7 @@ pub fn executed<C>(alloc: Global, entries: &[Entry<C>]) -> Result<Vec<usize>, Al
     let mut places = Vec::new(alloc);
     for (place, entry) in entries.iter().enumerate() {
         let request = entry.request();
-        if last.is_over(entry.client(), request) {
+        if last.is_new(entry.client(), request) {
             let output = ();
             last.keep(entry.client(), Session { request, output })?;
             places.push(place)?;

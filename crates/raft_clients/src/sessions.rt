@@ -1,7 +1,7 @@
 ghost use Rattle.std.specs.Prelude.{◌≡◌, OnErr, OnOk};
 ghost use Rattle.std.specs.FinMap as map;
 ghost use Rattle.std.specs.Option.{option_copied};
-ghost use Rattle.raft_clients.specs.Sessions.{is_over};
+ghost use Rattle.raft_clients.specs.Sessions.{is_new};
 
 use crate::Session;
 use indexmap::IndexMap;
@@ -43,9 +43,9 @@ impl<O: Drop> Sessions<O> {
         self.by_client.get(&client)
     }
 
-    // Whether the client's request is to be executed.
-    pub(crate) fn is_over(&self, client: ClientId, request: ReqId) -> bool
-        ensures { result ≡ is_over (map.get self.now client) request }
+    // Whether the request is new to the client.
+    pub(crate) fn is_new(&self, client: ClientId, request: ReqId) -> bool
+        ensures { result ≡ is_new (map.get self.now client) request }
     {
         match self.get(client) {
             Some(session) => session.request < request,

@@ -1,4 +1,4 @@
-use Rattle.std.proofs.Common.{ap, sym, ◌∙◌}
+use Rattle.std.proofs.Common.{ap, ◌∙◌}
 use Rattle.std.specs.FinMap as map
 use Rattle.raft_clients.proofs.Views.{written}
 use Rattle.raft_clients.proofs.sessions.Sessions.keep.Goals as goal
