@@ -8,7 +8,7 @@ use Rattle.std.specs.List.{All, slice_get}
 use Rattle.std.specs.Ordering.{nat_cmp}
 use Rattle.vst_base.specs.Machines.{MachineMeaning}
 use Rattle.vst_base.specs.declared.entry.Entry.{Entry}
-use Rattle.raft_clients.proofs.Executing.{applied_new, applied_old, kept, outcomes}
+use Rattle.raft_clients.proofs.Executing.{applied_new, applied_old, kept, next, noted, outcomes, told}
 use Rattle.raft_clients.proofs.Known.{Knows, knows_kept, knows_passed, session_of}
 use Rattle.raft_clients.proofs.Listed.{slice_get_seam}
 use Rattle.raft_clients.proofs.Views.{get-written}
@@ -49,7 +49,8 @@ module _ {C O : Type 0} where
           }
       go x session false t g q = later done ((e, o) ∷ []) (x, session.output) (held.at x session g q)
 
-  pub repeated : (whole : List (Entry C × O)) (e : Entry C) (o : Option (Session O)) (rest : List (Entry C × O)) → ((session : Session O) → o ≡ Some session → session.request ≡ e.request → IsAnswered whole (e, session.output)) →
+  pub repeated : (whole : List (Entry C × O)) (e : Entry C) (o : Option (Session O)) (rest : List (Entry C × O)) →
+      ((session : Session O) → o ≡ Some session → session.request ≡ e.request → IsAnswered whole (e, session.output)) →
       All (IsAnswered whole) rest → All (IsAnswered whole) (answer e (kept o e.request) ++ rest)
   repeated whole e None rest held all = all
   repeated whole e (Some session) rest held all = go (eqb e.request session.request) refl
@@ -59,25 +60,26 @@ module _ {C O : Type 0} where
       go false t = all
 
 module _ {S C O : Type 0} (m : MachineMeaning S C O) (whole : List (Entry C × O)) where
+  -- the answers of entries whose executions end the whole list
   pub answers_all : (s : S) (ss : Sessions O) (earlier es : List (Entry C)) (done : List (Entry C × O)) → Knows ss earlier → Held ss done →
       done ++ outcomes m s (executed_behind earlier es) ≡ whole → All (IsAnswered whole) (applied_all m s ss es).answers
   answers_all s ss earlier [] done knows held is = All-nil (IsAnswered whole)
   answers_all s ss earlier (e ∷ es) done knows held is =
       go (is_new (get ss e.client) e.request) refl
-      (λ new. answers_all (m.apply s e.cmd).0 (insert ss e.client (session_of e (m.apply s e.cmd).1)) (earlier ++ e ∷ []) es (done ++ (e, (m.apply s e.cmd).1) ∷ [])
-      (knows_kept ss earlier e knows (m.apply s e.cmd).1 new) (held_kept ss done e (m.apply s e.cmd).1 held))
+      (λ new. answers_all (next m s e) (noted m s ss e) (earlier ++ e ∷ []) es (done ++ (e, told m s e) ∷ []) (knows_kept ss earlier e knows (told m s e) new) (held_kept ss done e (told m s e) held))
       (λ old. answers_all s ss (earlier ++ e ∷ []) es done (knows_passed ss earlier e knows old) held)
     where
       go : (b : Bool) → is_new (get ss e.client) e.request ≡ b →
-          (is_new (get ss e.client) e.request ≡ true → (done ++ (e, (m.apply s e.cmd).1) ∷ []) ++ outcomes m (m.apply s e.cmd).0 (executed_behind (earlier ++ e ∷ []) es) ≡ whole →
-          All (IsAnswered whole) (applied_all m (m.apply s e.cmd).0 (insert ss e.client (session_of e (m.apply s e.cmd).1)) es).answers) →
+          (is_new (get ss e.client) e.request ≡ true → (done ++ (e, told m s e) ∷ []) ++ outcomes m (next m s e) (executed_behind (earlier ++ e ∷ []) es) ≡ whole →
+          All (IsAnswered whole) (applied_all m (next m s e) (noted m s ss e) es).answers) →
           (is_new (get ss e.client) e.request ≡ false → done ++ outcomes m s (executed_behind (earlier ++ e ∷ []) es) ≡ whole → All (IsAnswered whole) (applied_all m s ss es).answers) →
           All (IsAnswered whole) (applied_all m s ss (e ∷ es)).answers
       go true t new old =
-          let rest : done ++ (e, (m.apply s e.cmd).1) ∷ outcomes m (m.apply s e.cmd).0 (executed_behind (earlier ++ e ∷ []) es) ≡ whole = rw (knows.tells e.client e.request ∙ t) at is in
+          let rest : done ++ (e, told m s e) ∷ outcomes m (next m s e) (executed_behind (earlier ++ e ∷ []) es) ≡ whole = rw (knows.tells e.client e.request ∙ t) at is in
+          let there : slice_get whole (length done) ≡ Some (e, told m s e) = ap (λ l. slice_get l (length done)) (sym rest) ∙ slice_get_seam done (e, told m s e) _ in
           rw (applied_new m s ss e (get ss e.client) t) (All-cons (IsAnswered whole) _ _
-          (record { place = length done; entry = e; there = ap (λ l. slice_get l (length done)) (sym rest) ∙ slice_get_seam done (e, (m.apply s e.cmd).1) _; client = refl; request = refl })
-          (new t (append_assoc done ((e, (m.apply s e.cmd).1) ∷ []) _ ∙ rest)))
+          (record { place = length done; entry = e; there = there; client = refl; request = refl }) (new t (append_assoc done ((e, told m s e) ∷ []) _ ∙ rest)))
       go false t new old =
           let rest : done ++ outcomes m s (executed_behind (earlier ++ e ∷ []) es) ≡ whole = rw (knows.tells e.client e.request ∙ t) at is in
-          rw (applied_old m s ss e (get ss e.client) t) (repeated whole e (get ss e.client) _ (λ session g q. subst (λ l. IsAnswered l (e, session.output)) rest (later done _ _ (held.at e session g q))) (old t rest))
+          let again = λ (session : Session O) (g : get ss e.client ≡ Some session) (q : session.request ≡ e.request). subst (λ l. IsAnswered l (e, session.output)) rest (later done _ _ (held.at e session g q)) in
+          rw (applied_old m s ss e (get ss e.client) t) (repeated whole e (get ss e.client) _ again (old t rest))

@@ -37,7 +37,9 @@ session_of e output = record { request = e.request; output = output }
 module _ {C O : Type 0} (sessions : Sessions O) (earlier : List (Entry C)) (e : Entry C) (knows : Knows sessions earlier) where
   pub knows_kept : (output : O) → is_new (get sessions e.client) e.request ≡ true →
       Knows (insert sessions e.client (session_of e output)) (earlier ++ e ∷ [])
-  knows_kept output new = record { tells = λ q r. exceeds_more earlier e q r ∙ go q r (eqb e.client q) refl (ltb e.request r) refl ∙ sym (ap (λ o. is_new o r) (get-written sessions e.client (session_of e output) q)) }
+  knows_kept output new = record {
+    tells = λ q r. exceeds_more earlier e q r ∙ go q r (eqb e.client q) refl (ltb e.request r) refl ∙ sym (ap (λ o. is_new o r) (get-written sessions e.client (session_of e output) q));
+  }
     where
       go : (q r : ℕ) (b : Bool) → eqb e.client q ≡ b → (l : Bool) → ltb e.request r ≡ l →
           (exceeds earlier q r && ((not b || l) && true)) ≡ is_new (cond b (Some (session_of e output)) (get sessions q)) r

@@ -1,4 +1,5 @@
--- What is kept of clients, and what an entry of the log does with a machine and it (the extended Raft paper, section 8).
+-- What is kept of clients, and what an entry of the log does with it and a machine (the extended Raft paper,
+-- section 8).
 use Rattle.std.specs.Prelude.{ℕ, Bool, true, List, [], ◌∷◌, ◌++◌, Option, Some, None, nat_lt, ◌==◌, if◌then◌else◌, refl}
 use Rattle.std.specs.Coded.{Coded, code_by, coded×, coded_ℕ}
 use Rattle.std.specs.FinMap.{FinMap, code, get, insert}
@@ -41,13 +42,13 @@ executes m state sessions e = record {
   output = Some (m.apply state e.cmd).1;
 }
 
--- by the client's session
+-- what an entry does, by its client's session: it is executed where its request is new to the client, and else
+-- changes nothing
 abbrev pub applied_by : {S C O : Type 0} → MachineMeaning S C O → S → Sessions O → Entry C → Option (Session O) → Applied S O
 applied_by m state sessions e None = executes m state sessions e
 applied_by m state sessions e (Some session) =
     if nat_lt session.request e.request then executes m state sessions e else record { state = state; sessions = sessions; output = kept_output session e.request }
 
--- what an entry does
 abbrev pub applied : {S C O : Type 0} → MachineMeaning S C O → S → Sessions O → Entry C → Applied S O
 applied m state sessions e = applied_by m state sessions e (get sessions e.client)
 
@@ -62,6 +63,7 @@ pub record AppliedAll (S C O : Type 0) : Type 0 where
   pub sessions : Sessions O
   pub answers : List (Entry C × O)
 
+-- an entry before those
 abbrev pub with_answer : {S C O : Type 0} → Entry C → Option O → AppliedAll S C O → AppliedAll S C O
 with_answer e output rest = record rest { answers = answer e output ++ rest.answers }
 
@@ -70,7 +72,7 @@ applied_all m state sessions [] = record { state = state; sessions = sessions; a
 applied_all m state sessions (e ∷ es) =
     with_answer e (applied m state sessions e).output (applied_all m (applied m state sessions e).state (applied m state sessions e).sessions es)
 
--- further entries behind those
+-- further entries behind
 abbrev pub applied_behind : {S C O : Type 0} → MachineMeaning S C O → AppliedAll S C O → List (Entry C) → AppliedAll S C O
 applied_behind m before es =
     record (applied_all m before.state before.sessions es) { answers = before.answers ++ (applied_all m before.state before.sessions es).answers }

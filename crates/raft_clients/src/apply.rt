@@ -42,9 +42,9 @@ fn execute<M: Machine>(
     Ok(Some(told))
 }
 
-/// Applies an entry of the log (the extended Raft paper, section 8). A request over its client's last one is executed,
-/// and its output kept; the last one again is answered with the output that was kept; an earlier one is not
-/// answered. What a request asks for is not compared.
+/// Applies an entry of the log (the extended Raft paper, section 8). A request over its client's last one is
+/// executed, and its output kept; the last one again is answered with the output that was kept; an earlier
+/// one is not answered. What a request asks for is not compared.
 ///
 /// After an `Err` state and sessions are given up. A request that is not answered takes no memory.
 pub fn apply_entry<M: Machine>(

@@ -22,8 +22,12 @@ pub fn the_log_decides<C>()
 /// with the output of its request's execution. Entries may be applied in parts. It holds of every record of
 /// a machine over the types of `M`, and not of the meaning of `M` alone.
 pub fn the_machine_takes_each_request_once<M: Machine>()
-    ensures state { (m : MachineMeaning M.State M.Cmd M.Out) (es : List (Entry M.Cmd)) → (applied_all m m.init finite.empty es).state ≡ state_after m m.init (commands (executed es)) }
-    ensures sessions { (m : MachineMeaning M.State M.Cmd M.Out) (es : List (Entry M.Cmd)) (client : ℕ) → finite.get (applied_all m m.init finite.empty es).sessions client ≡ last_session (executions m es) client }
-    ensures answers { (m : MachineMeaning M.State M.Cmd M.Out) (es : List (Entry M.Cmd)) → All (IsAnswered (executions m es)) (applied_all m m.init finite.empty es).answers }
-    ensures in_parts { (m : MachineMeaning M.State M.Cmd M.Out) (state : M.State) (sessions : Sessions M.Out) (xs ys : List (Entry M.Cmd)) → applied_all m state sessions (xs ++ ys) ≡ applied_behind m (applied_all m state sessions xs) ys }
+    ensures state { (m : MachineMeaning M.State M.Cmd M.Out) (es : List (Entry M.Cmd))
+        → (applied_all m m.init finite.empty es).state ≡ state_after m m.init (commands (executed es)) }
+    ensures sessions { (m : MachineMeaning M.State M.Cmd M.Out) (es : List (Entry M.Cmd)) (client : ℕ)
+        → finite.get (applied_all m m.init finite.empty es).sessions client ≡ last_session (executions m es) client }
+    ensures answers { (m : MachineMeaning M.State M.Cmd M.Out) (es : List (Entry M.Cmd))
+        → All (IsAnswered (executions m es)) (applied_all m m.init finite.empty es).answers }
+    ensures in_parts { (m : MachineMeaning M.State M.Cmd M.Out) (state : M.State) (sessions : Sessions M.Out) (xs ys : List (Entry M.Cmd))
+        → applied_all m state sessions (xs ++ ys) ≡ applied_behind m (applied_all m state sessions xs) ys }
 {}
