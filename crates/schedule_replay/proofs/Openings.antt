@@ -13,7 +13,6 @@ use Rattle.line_reader.specs.Readers.{ReaderView, HasRest, fresh}
 use Rattle.line_reader.specs.Outcomes.{Uses, HasReadCause}
 use Rattle.line_reader.proofs.Lining.{whole-append, last-append}
 use Rattle.line_reader.proofs.Using.{decided-behind}
-use Rattle.app_text.specs.LockTexts.{input_of}
 use Rattle.vst_base.specs.declared.net.Net.{Net}
 use Rattle.vst_base.specs.declared.net.Net.TheVariants as net
 use Rattle.vst_base.specs.declared.lock.LockInput.{LockInput}
@@ -23,14 +22,14 @@ use Rattle.lock_server.specs.declared.state.LockState.{LockState}
 use Rattle.lock_server.specs.Locks.{lock_server}
 use Rattle.schedule_text.specs.declared.header.Header.{Header}
 use Rattle.schedule_text.specs.Headers.{IsHeader}
-use Rattle.schedule_text.specs.Schedules.{Opening, Opened, RefusedAt, EndedAt, opening, opening_refusal, script}
+use Rattle.schedule_text.specs.Schedules.{Opening, Opened, RefusedAt, EndedAt, opening, opening_refusal}
 use Rattle.schedule_text.specs.Streams.{ReadsHeader}
 use Rattle.schedule_text.proofs.ScheduleLaws.{opening_with, opening-append}
 use Rattle.schedule_replay.specs.declared.done.Done.{Done}
 use Rattle.schedule_replay.specs.declared.fault.ReplayFault.{ReplayFault}
 use Rattle.schedule_replay.specs.declared.fault.ReplayFault.TheVariants as fault
 use Rattle.schedule_replay.specs.Faults.{replay_fault}
-use Rattle.schedule_replay.specs.Replaying.{Replayed, replayed_script}
+use Rattle.schedule_replay.specs.Replaying.{Replayed}
 use Rattle.schedule_replay.specs.Replays.{kv_stack, kv_pb_stack, kv_pb_seq_stack, lock_seq_stack, lock_texts, most_lines, replayed_by, replayed_stack, replayed_opening, replayed, replayed_so_far, stack_whole, stack_so_far, rest_whole, rest_so_far}
 use Rattle.schedule_replay.specs.Stacks.{Stack, stack_of}
 use Rattle.schedule_replay.specs.Outcomes.{HasGiven, ComesTo, HasFault, HasCause}

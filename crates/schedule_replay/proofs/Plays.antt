@@ -11,12 +11,11 @@ use Rattle.vst_base.specs.declared.step.Step.{Step}
 use Rattle.vst_base.specs.declared.step.Item.{Item}
 use Rattle.net_semantics.specs.Worlds.{first_world}
 use Rattle.net_semantics.specs.Steps.{refusal_of}
-use Rattle.net_semantics.specs.Runs.{run, trace, trace_from, first_refused, no_recovery}
+use Rattle.net_semantics.specs.Runs.{run, trace_from, first_refused, no_recovery}
 use Rattle.net_semantics.specs.RunLaws.{trace_from-append}
 use Rattle.outside.specs.Wholes.{Gained, GainedFront}
 use Rattle.outside.proofs.Wholes.{gained-both, gained-front, gained-some, gained-nothing}
 use Rattle.line_reader.specs.declared.why.Why.{Why}
-use Rattle.line_reader.specs.declared.fault.LineFault.TheVariants as fault
 use Rattle.line_reader.specs.Lines.{lines_of, whole_lines}
 use Rattle.line_reader.specs.Readers.{ReaderView, HasRest}
 use Rattle.line_reader.specs.Outcomes.{Uses, StandsAt}
@@ -31,7 +30,6 @@ use Rattle.xform_stack.specs.RunningLaws.{has_run-forget}
 use Rattle.schedule_replay.specs.declared.halt.Halt.{Halt}
 use Rattle.schedule_replay.specs.declared.halt.Halt.TheVariants as halt
 use Rattle.schedule_replay.specs.declared.tally.Tally.{Tally}
-use Rattle.schedule_text.specs.declared.header.Header.{Header}
 use Rattle.schedule_replay.specs.Stacks.{Stack, Texts, Image, stack_of}
 use Rattle.schedule_replay.specs.Tallying.{tallied}
 use Rattle.schedule_replay.specs.Replaying.{is_input, is_output, is_reply_by, why_of, stop, taken, trace_of, trace_lines, image_lines, ended, replayed_script}

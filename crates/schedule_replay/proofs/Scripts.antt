@@ -10,7 +10,7 @@ use Rattle.vst_base.specs.declared.step.StepRefusal.{StepRefusal}
 use Rattle.line_reader.specs.declared.why.Why.{Why}
 use Rattle.net_semantics.specs.Worlds.{World}
 use Rattle.net_semantics.specs.Steps.{next, refusal_of}
-use Rattle.net_semantics.specs.Runs.{run_from, first_refused_from, place_and_why}
+use Rattle.net_semantics.specs.Runs.{run_from, first_refused_from}
 use Rattle.net_semantics.specs.RunLaws.{later, first_refused_from-append, place_and_why-first}
 use Rattle.schedule_text.specs.Schedules.{Script, with_step}
 use Rattle.schedule_text.proofs.ScheduleLaws.{prefixed}

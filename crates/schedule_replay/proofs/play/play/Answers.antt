@@ -1,4 +1,4 @@
-use Rattle.std.proofs.Common.{List, map, Ok, Some, arith, ap, ◌∙◌, sym, subst, refl}
+use Rattle.std.proofs.Common.{List, map, Ok, arith, ap, ◌∙◌, subst, refl}
 use Rattle.std.proofs.lemmas.Result.{err_from_is_err_and}
 use Rattle.net_semantics.specs.Shown.{IsSound}
 use Rattle.vst_base.specs.declared.step.Step.{Step}

@@ -4,7 +4,6 @@ use Rattle.line_reader.specs.Lines.{lines_of}
 use Rattle.line_reader.specs.Readers.{HasRest}
 use Rattle.outside.specs.Wholes.{GainedFront}
 use Rattle.schedule_text.specs.Schedules.{script}
-use Rattle.schedule_replay.specs.declared.halt.Halt.TheVariants as halt
 use Rattle.schedule_replay.specs.Replays.{stack_so_far, stack_whole}
 use Rattle.schedule_replay.specs.Replaying.{replayed_script}
 use Rattle.schedule_replay.specs.Stacks.{Image, stack_of, texts_of}

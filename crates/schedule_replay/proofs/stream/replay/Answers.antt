@@ -1,6 +1,6 @@
 use Rattle.std.proofs.Common.{Ok, Err, ap, ◌∙◌, subst}
 use Rattle.std.proofs.lemmas.Result.{err_from_is_err_and}
-use Rattle.line_reader.specs.Readers.{ReaderView, fresh}
+use Rattle.line_reader.specs.Readers.{ReaderView}
 use Rattle.schedule_text.specs.Streams.{ReadsHeader}
 use Rattle.schedule_text.specs.HeaderLaws.{header_of-row}
 use Rattle.schedule_replay.proofs.Openings.{header-comes, header-then, fresh-rest, if-told, going-of}
