@@ -1,10 +1,8 @@
 ghost use Rattle.std.specs.Prelude.{◌≡◌, ◌+◌, ◌≤◌, length};
 ghost use Rattle.raft_commit.specs.Batches.{batch};
 
+use raft_types::MAX_BATCH;
 use vst_base::Entry;
-
-/// The greatest number of entries that are sent at once.
-pub const MAX_BATCH: usize = 8;
 
 /// The entries of a leader's log from the index next on, `MAX_BATCH` at most. The log has one at
 /// next - 1, or next is 1.

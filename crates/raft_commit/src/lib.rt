@@ -8,7 +8,7 @@ mod commit;
 mod examples;
 mod peer;
 
-pub use batch::{MAX_BATCH, next_batch};
+pub use batch::next_batch;
 pub use commit::advance;
 pub use examples::{worked_answers, worked_batches, worked_commits};
 pub use peer::{Moved, Peer};

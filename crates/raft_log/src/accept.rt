@@ -2,7 +2,8 @@ ghost use Rattle.std.specs.Prelude.{◌≡◌, ◌+◌, ◌≤◌, true, drop, l
 ghost use Rattle.vst_base.specs.Logs.{has_conflict};
 ghost use Rattle.raft_log.specs.Accepting.{agreed, answer, log_behind};
 
-use crate::{Log, MAX_ENTRIES};
+use crate::Log;
+use raft_types::MAX_INDEX;
 use std::alloc::{AllocError, Global};
 use vst_base::{Entry, Machine};
 
@@ -45,7 +46,7 @@ impl<C: Drop> Log<C> {
     ) -> Result<Accept, AllocError>
         requires prev { prev ≤ length self.old }
         requires commit { commit ≤ length self.old }
-        requires room { prev + length entries.now ≤ MAX_ENTRIES }
+        requires room { prev + length entries.now ≤ MAX_INDEX }
         ensures answer { IfOk result (λ accept. accept ≡ answer self.old commit prev entries.now) }
         ensures log { OnOk result (self.new ≡ log_behind self.old commit prev entries.now) }
         ensures err { OnErr result (self.new ≡ self.old) }

@@ -11,7 +11,7 @@ mod log;
 pub use accept::Accept;
 pub use copies::{copy_entries, copy_entry};
 pub use examples::worked_answers;
-pub use log::{Log, MAX_ENTRIES};
+pub use log::Log;
 
 #[cfg(test)]
 mod tests;

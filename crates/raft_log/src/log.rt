@@ -4,14 +4,12 @@ ghost use Rattle.vst_base.specs.Logs.{last_term, matches, term_at};
 ghost use Rattle.vst_base.specs.declared.entry.TheConstants.{MAX_TERM};
 
 use crate::copy_entries;
+use raft_types::MAX_INDEX;
 use std::alloc::{AllocError, Global};
 use std::marker::Model;
 use vst_base::{Entry, Machine};
 
-/// The greatest number of entries in a log.
-pub const MAX_ENTRIES: u32 = 1_000_000;
-
-/// The log of a node: at most `MAX_ENTRIES` entries, whose indexes count from 1. Contracts see the list.
+/// The log of a node: at most `MAX_INDEX` entries, whose indexes count from 1. Contracts see the list.
 #[derive(Drop)]
 pub struct Log<C> {
     entries: Vec<Entry<C>>,
@@ -20,13 +18,13 @@ pub struct Log<C> {
 impl<C> Model for Log<C> {
     ghost use Rattle.std.specs.Prelude.{◌≤◌, List, length};
     ghost use Rattle.vst_base.specs.declared.entry.Entry.{Entry};
-    ghost use Rattle.raft_log.specs.declared.log.TheConstants.{MAX_ENTRIES};
+    ghost use Rattle.raft_types.specs.declared.limits.TheConstants.{MAX_INDEX};
 
     ghost Value = { List (Entry C) };
 
     ghost view = { λ l. l.entries.items };
 
-    ghost invariant = { λ l. length l.entries.items ≤ MAX_ENTRIES };
+    ghost invariant = { λ l. length l.entries.items ≤ MAX_INDEX };
 }
 
 impl<C: Drop> Log<C> {
@@ -39,7 +37,7 @@ impl<C: Drop> Log<C> {
         new: &[Entry<C>],
     ) -> Result<(), AllocError>
         requires kept { kept ≤ length self.old }
-        requires room { kept + length new.now ≤ MAX_ENTRIES }
+        requires room { kept + length new.now ≤ MAX_INDEX }
         ensures ok { OnOk result (self.new ≡ take kept self.old ++ new.now) }
         ensures err { OnErr result (self.new ≡ self.old) }
     {
@@ -52,7 +50,7 @@ impl<C: Drop> Log<C> {
 
     /// The log of these entries.
     pub fn new(entries: Vec<Entry<C>>) -> Self
-        requires { length entries.items ≤ MAX_ENTRIES }
+        requires { length entries.items ≤ MAX_INDEX }
         ensures { result ≡ entries.items }
     {
         Log { entries }
@@ -61,7 +59,7 @@ impl<C: Drop> Log<C> {
     /// Its entries, from index 1 on.
     pub fn entries(&self) -> &[Entry<C>]
         ensures entries { result.now ≡ self.now }
-        ensures in_range { length result.now ≤ MAX_ENTRIES }
+        ensures in_range { length result.now ≤ MAX_INDEX }
     {
         &self.entries
     }
@@ -69,7 +67,7 @@ impl<C: Drop> Log<C> {
     /// Gives up the log for its entries.
     pub fn into_entries(self) -> Vec<Entry<C>>
         ensures entries { result.items ≡ self }
-        ensures in_range { length result.items ≤ MAX_ENTRIES }
+        ensures in_range { length result.items ≤ MAX_INDEX }
     {
         self.entries
     }
@@ -77,7 +75,7 @@ impl<C: Drop> Log<C> {
     // How many entries it has.
     fn count(&self) -> u32
         ensures count { result ≡ length self.now }
-        ensures in_range { result ≤ MAX_ENTRIES }
+        ensures in_range { result ≤ MAX_INDEX }
     {
         self.entries.len() as u32
     }
@@ -98,7 +96,7 @@ impl<C: Drop> Log<C> {
     pub fn last(&self) -> (u32, u64)
         ensures index { result.0 ≡ length self.now }
         ensures term { result.1 ≡ last_term self.now }
-        ensures index_in_range { result.0 ≤ MAX_ENTRIES }
+        ensures index_in_range { result.0 ≤ MAX_INDEX }
         ensures term_in_range { result.1 ≤ MAX_TERM }
     {
         let index = self.count();

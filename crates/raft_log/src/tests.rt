@@ -1,4 +1,5 @@
 use super::*;
+use raft_types::MAX_INDEX;
 use std::alloc::{AllocError, Global};
 use std::process::Abort;
 use std::test::Fail;
@@ -66,7 +67,7 @@ fn entries(alloc: Global, terms: &[u64], cmd: u8) -> Result<Vec<Entry<u8>>, Fail
 
 fn log(alloc: Global, terms: &[u64], cmd: u8) -> Result<Log<u8>, Fail> {
     let made = entries(alloc, terms, cmd)?;
-    if made.len() > MAX_ENTRIES as usize {
+    if made.len() > MAX_INDEX as usize {
         return Err(Fail::from("a short log"));
     }
     Ok(Log::new(made))
@@ -81,7 +82,7 @@ fn accept<M: Machine>(
     commit: u32,
 ) -> Result<Accept, Fail> {
     let (last, _) = log.last();
-    if prev > last || commit > last || new.len() > (MAX_ENTRIES - last) as usize {
+    if prev > last || commit > last || new.len() > (MAX_INDEX - last) as usize {
         return Err(Fail::from("indexes of the log"));
     }
     Ok(log.accept(alloc, machine, prev, new, commit)?)
