@@ -10,7 +10,7 @@ use Rattle.vst_base.specs.declared.net.Net.TheVariants as net
 use Rattle.vst_base.specs.declared.seq.SeqMsg.{SeqMsg}
 use Rattle.net_semantics.specs.BelowPb.{below_pb}
 use Rattle.net_semantics.specs.Once.{once}
-use Rattle.net_semantics.specs.Runs.{machine, trace, no_recovery}
+use Rattle.net_semantics.specs.Runs.{trace, no_recovery}
 use Rattle.handler_trait.specs.Handling.{Meaning}
 use Rattle.trace_maps.specs.Replying.{alone}
 use Rattle.vst_base.specs.declared.pb_msg.PbMsg.{PbMsg}
@@ -23,6 +23,7 @@ use Rattle.primary_backup.specs.Backup.{primary_backup}
 use Rattle.seqnum_xform.specs.Numbered.{Numbered}
 use Rattle.seqnum_xform.specs.Numbering.{sequence_numbered}
 use Rattle.lock_server.specs.Locks.{lock_server}
+use Rattle.single_node.specs.SingleNode.{single_node}
 use Rattle.app_text.specs.LockTexts.{input_of, input_text, output_text}
 use Rattle.app_text.specs.KvTexts as kv
 use Rattle.app_text.specs.PbTexts.{pb_output_text, pb_replies}
@@ -61,8 +62,8 @@ abbrev pub kv_header : Header
 kv_header = record { net = net.One; stack = stack.Kv; nodes = 1 }
 
 -- the key-value machine alone, at its node: its image is the schedule itself
-abbrev pub kv_stack : Stack Store Store KvCmd KvOut ⊥
-kv_stack = stack_of net.One (machine kv) kv_texts (record { header = kv_header; steps = λ ss. ss })
+abbrev pub kv_stack : Stack Store Store KvCmd KvOut (Unit {0})
+kv_stack = stack_of net.One (single_node kv) kv_texts (record { header = kv_header; steps = λ ss. ss })
 
 -- what is below primary-backup: the key-value machine alone, over the commands that were replied to
 abbrev pub kv_image : {S M : Type 0} → Meaning S KvCmd (PbOut KvOut) M → Image KvCmd

@@ -11,22 +11,23 @@ use Rattle.vst_base.specs.declared.step.Item.TheVariants as item
 use Rattle.vst_base.specs.declared.step.StepRefusal.TheVariants as refusal
 use Rattle.net_semantics.specs.Worlds.{World}
 use Rattle.net_semantics.specs.Steps.{next, refusal_of}
-use Rattle.net_semantics.specs.Runs.{first_refused_from, machine, machine_trace_from, trace_from}
+use Rattle.net_semantics.specs.Runs.{first_refused_from, machine_trace_from, trace_from}
 use Rattle.net_semantics.specs.RunLaws.{place_and_why-none}
 use Rattle.single_node.specs.Commands.{commands}
+use Rattle.single_node.specs.SingleNode.{single_node}
 use Rattle.trace_maps.specs.Replying.{alone}
 
 module _ {S K C O : Type 0} (m : MachineMeaning S C O) (r : Recovery S K) where
   -- the step that such a network takes first is not refused
-  taken : (w : World S K ⊥) (s : Step C) (ss : List (Step C)) → first_refused_from net.One (machine m) r w (s ∷ ss) ≡ None → refusal_of net.One (machine m) w s ≡ None
-  taken w s ss allowed = (place_and_why-none (refusal_of net.One (machine m) w s) (first_refused_from net.One (machine m) r (next (machine m) r w s) ss) allowed).0
+  taken : (w : World S K (Unit {0})) (s : Step C) (ss : List (Step C)) → first_refused_from net.One (single_node m) r w (s ∷ ss) ≡ None → refusal_of net.One (single_node m) w s ≡ None
+  taken w s ss allowed = (place_and_why-none (refusal_of net.One (single_node m) w s) (first_refused_from net.One (single_node m) r (next (single_node m) r w s) ss) allowed).0
 
-  pub from-any-state : (w : World S K ⊥) (ss : List (Step C)) → first_refused_from net.One (machine m) r w ss ≡ None
-      → trace_from (machine m) r w ss ≡ machine_trace_from m (w.state 0) (commands ss)
+  pub from-any-state : (w : World S K (Unit {0})) (ss : List (Step C)) → first_refused_from net.One (single_node m) r w ss ≡ None
+      → trace_from (single_node m) r w ss ≡ machine_trace_from m (w.state 0) (commands ss)
   from-any-state w [] allowed = refl
   from-any-state w (step.In zero c ∷ ss) allowed =
-      let after = next (machine m) r w (step.In 0 c) in
-      let rest = place_and_why-none (refusal_of net.One (machine m) w (step.In 0 c)) (first_refused_from net.One (machine m) r after ss) allowed in
+      let after = next (single_node m) r w (step.In 0 c) in
+      let rest = place_and_why-none (refusal_of net.One (single_node m) w (step.In 0 c)) (first_refused_from net.One (single_node m) r after ss) allowed in
       ap (λ items. item.Input 0 c ∷ item.Output 0 (m.apply (w.state 0) c).1 ∷ items) (from-any-state after ss rest.1)
   from-any-state w (step.In (suc n) c ∷ ss) allowed =
       let no_node : nat_lt (suc n) 1 ≡ false = le-ltb (suc n) 1 (omega arith) in
@@ -40,9 +41,9 @@ module _ {S K C O : Type 0} (m : MachineMeaning S C O) (r : Recovery S K) where
   from-any-state w (step.Reboot n ∷ ss) allowed = let clash : Some refusal.NotThisNet ≡ None = taken w (step.Reboot n) ss allowed in cc
 
   -- a node that is up takes any commands
-  pub any-commands : (w : World S K ⊥) (cs : List C) → w.is_up 0 ≡ true → first_refused_from net.One (machine m) r w (alone cs) ≡ None
+  pub any-commands : (w : World S K (Unit {0})) (cs : List C) → w.is_up 0 ≡ true → first_refused_from net.One (single_node m) r w (alone cs) ≡ None
   any-commands w [] up = refl
-  any-commands w (c ∷ cs) up = rw (up, any-commands (next (machine m) r w (step.In 0 c)) cs up) refl
+  any-commands w (c ∷ cs) up = rw (up, any-commands (next (single_node m) r w (step.In 0 c)) cs up) refl
 
 pub all-of-them : {C : Type 0} (cs : List C) → commands (alone cs) ≡ cs
 all-of-them [] = refl

@@ -8,7 +8,7 @@ mod single_node;
 
 pub use examples::worked;
 pub use laws::is_the_machine;
-pub use single_node::{NoMessage, SingleNode};
+pub use single_node::SingleNode;
 
 #[cfg(test)]
 mod tests;

@@ -1,22 +1,11 @@
 ghost use Rattle.std.specs.Prelude.{◌≡◌, refl};
-ghost use Rattle.net_semantics.specs.Runs.{machine};
 ghost use Rattle.single_node.specs.Modest.{modest_input, modest_stay};
+ghost use Rattle.single_node.specs.SingleNode.{single_node};
 
 use handler_trait::{Effects, Handlers};
 use std::alloc::{AllocError, Global};
-use std::convert::Infallible;
 use std::marker::Model;
 use vst_base::{Machine, Node};
-
-/// The messages of a node that sends none: there are none.
-#[derive(Drop)]
-pub struct NoMessage(Infallible);
-
-impl Model for NoMessage {
-    ghost Value = { ⊥ };
-
-    ghost view = { λ m. elim m.0 [ ] };
-}
 
 /// A machine at one node. Contracts see the machine.
 #[derive(Drop)]
@@ -46,9 +35,9 @@ impl<M: Machine> Handlers for SingleNode<M> {
 
     type Output = M::Out;
 
-    type Msg = NoMessage;
+    type Msg = ();
 
-    ghost meaning = { λ s. machine (M.meaning s) };
+    ghost meaning = { λ s. single_node (M.meaning s) };
 
     ghost sound = { λ _ _ _. Unit {0} };
 
@@ -76,7 +65,7 @@ impl<M: Machine> Handlers for SingleNode<M> {
         _node: Node,
         state: &mut M::State,
         input: &M::Cmd,
-        effects: &mut Effects<M::Out, NoMessage>,
+        effects: &mut Effects<M::Out, ()>,
     ) -> Result<(), AllocError> {
         let output = self.machine.apply(alloc, state, input)?;
         effects.output(output)
@@ -88,10 +77,10 @@ impl<M: Machine> Handlers for SingleNode<M> {
         _node: Node,
         _state: &mut M::State,
         _from: Node,
-        message: &NoMessage,
-        _effects: &mut Effects<M::Out, NoMessage>,
+        _message: &(),
+        _effects: &mut Effects<M::Out, ()>,
     ) -> Result<(), AllocError> {
-        match message.0 {}
+        Ok(())
     }
 
     fn timeout(
@@ -99,7 +88,7 @@ impl<M: Machine> Handlers for SingleNode<M> {
         _alloc: Global,
         _node: Node,
         _state: &mut M::State,
-        _effects: &mut Effects<M::Out, NoMessage>,
+        _effects: &mut Effects<M::Out, ()>,
     ) -> Result<(), AllocError> {
         Ok(())
     }

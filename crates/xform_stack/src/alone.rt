@@ -1,6 +1,7 @@
 ghost use Rattle.std.specs.Prelude.{◌≡◌, ◌≤◌, length, None, OnOk, IfOk, IfErr};
-ghost use Rattle.net_semantics.specs.Runs.{first_refused, machine as at_one_node, machine_trace, no_recovery};
+ghost use Rattle.net_semantics.specs.Runs.{first_refused, machine_trace, no_recovery};
 ghost use Rattle.single_node.specs.Commands.{commands};
+ghost use Rattle.single_node.specs.SingleNode.{single_node};
 ghost use Rattle.xform_stack.specs.Running.{IsRunRefusal};
 
 use crate::run::run_on;
@@ -18,10 +19,10 @@ pub fn run_one<M: Machine>(
     steps: &[Step<M::Cmd>],
 ) -> Result<Ran<M::Cmd, M::Out, Step<M::Cmd>>, RunFault>
     requires { length steps.now ≤ 1000000 }
-    ensures allowed { OnOk result (first_refused Net.One (at_one_node (M.meaning machine)) no_recovery steps.now ≡ None) }
+    ensures allowed { OnOk result (first_refused Net.One (single_node (M.meaning machine)) no_recovery steps.now ≡ None) }
     ensures trace { IfOk result (λ ran. ran.trace ≡ machine_trace (M.meaning machine) (commands steps.now)) }
     ensures image { IfOk result (λ ran. ran.image ≡ steps.now) }
-    ensures refused { IfErr result (λ why. IsRunRefusal why (first_refused Net.One (at_one_node (M.meaning machine)) no_recovery steps.now)) }
+    ensures refused { IfErr result (λ why. IsRunRefusal why (first_refused Net.One (single_node (M.meaning machine)) no_recovery steps.now)) }
 {
     is_the_machine::<M>();
     run_on::<SingleNode<M>, Itself<M::Cmd>>(alloc, SingleNode::new(machine), Net::One, steps)

@@ -1,14 +1,15 @@
 use Rattle.std.specs.Prelude.{refl}
-use Rattle.net_semantics.specs.Runs.{machine, no_recovery}
+use Rattle.net_semantics.specs.Runs.{no_recovery}
 use Rattle.net_semantics.specs.Worlds.{first_world}
+use Rattle.single_node.specs.SingleNode.{single_node}
 use Rattle.single_node.proofs.Alone.{all-of-them, any-commands, from-any-state}
 use Rattle.single_node.proofs.laws.is_the_machine.Goals as goal
 
 pub returns-clause-trace : goal.returns-clause-trace
-returns-clause-trace g c = λ m ss allowed. from-any-state m no_recovery (first_world (machine m)) ss allowed
+returns-clause-trace g c = λ m ss allowed. from-any-state m no_recovery (first_world (single_node m)) ss allowed
 
 pub returns-clause-allowed : goal.returns-clause-allowed
-returns-clause-allowed g c = λ m cs. any-commands m no_recovery (first_world (machine m)) cs refl
+returns-clause-allowed g c = λ m cs. any-commands m no_recovery (first_world (single_node m)) cs refl
 
 pub returns-clause-all_of_them : goal.returns-clause-all_of_them
 returns-clause-all_of_them g c = λ cs. all-of-them cs
