@@ -1,0 +1,4 @@
+pub mod Doing
+pub mod Keeping
+pub mod Lengths
+pub mod Sounding

@@ -1,0 +1,10 @@
+use Rattle.std.proofs.Common.{◌≡◌, ◌+◌, ◌≤◌, ◌++◌}
+use Rattle.raft_xform.specs.Sending.{request, to_others}
+use Rattle.raft_xform.proofs.sending.ask_others.Given as goal
+
+abbrev pub invariant-loop-n : goal.invariant-loop-n
+invariant-loop-n g l = record {
+  sends : l.effects.sends ≡ l.initial.effects.sends ++ to_others l.n l.seat.me (λ _. request l.state);
+  outputs : l.effects.outputs ≡ l.initial.effects.outputs;
+  room : l.seat.nodes ≤ l.effects.send_places + l.n;
+}

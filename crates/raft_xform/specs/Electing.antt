@@ -1,0 +1,68 @@
+-- How leaders are elected (the Raft paper, sections 5.1, 5.2 and 5.4.1, and Figure 2).
+use Rattle.std.specs.Prelude.{ℕ, Bool, true, false, ◌&&◌, [], ◌∷◌, length, nat_lt, replicate, ◌==◌, if◌then◌else◌}
+use Rattle.vst_base.specs.Elections.{is_majority, is_up_to_date}
+use Rattle.raft_commit.specs.Peers.{new_peer}
+use Rattle.raft_election.specs.Ballots.{counted, grants, learned, may_start, started, voted_for}
+use Rattle.raft_election.specs.Votes.{has_vote}
+use Rattle.raft_types.specs.Messages.{RequestVoteView, VoteView}
+use Rattle.raft_types.specs.declared.msg.RaftMsg.TheVariants as msg
+use Rattle.raft_xform.specs.declared.role.Role.TheVariants as role
+use Rattle.raft_xform.specs.Nodes.{RaftEffect, RaftView, is_candidate, is_leader, sending, stays}
+use Rattle.raft_xform.specs.Sending.{appends, request, to_others}
+
+module _ {S C O : Type 0} where
+  -- a new leader knows nothing of the other nodes' logs
+  abbrev pub led : ℕ → RaftView S C O → RaftView S C O
+  led nodes s = record s { role = role.Leader; peers = replicate nodes (new_peer (length s.log)) }
+
+  -- upon election: send heartbeats to each server
+  abbrev pub lead : ℕ → ℕ → RaftView S C O → RaftEffect S C O
+  lead nodes me s = sending (led nodes s) (appends nodes me (led nodes s))
+
+  -- votes received from a majority of servers
+  abbrev pub has_won : ℕ → RaftView S C O → Bool
+  has_won nodes s = is_majority nodes (has_vote s.ballot.votes)
+
+  -- on conversion to candidate: increment the term, vote for self
+  abbrev pub candidate : ℕ → RaftView S C O → RaftView S C O
+  candidate me s = record s { role = role.Candidate; ballot = started me s.ballot }
+
+  -- send RequestVote to all other servers, or lead where its own vote is a majority
+  abbrev pub campaign : ℕ → ℕ → RaftView S C O → RaftEffect S C O
+  campaign nodes me s = if has_won nodes s then lead nodes me s else sending s (to_others nodes me (λ _. request s))
+
+  -- a leader's timer: repeat heartbeats. Of any other node: start an election, unless there is no next term
+  abbrev pub tick : ℕ → ℕ → RaftView S C O → RaftEffect S C O
+  tick nodes me s =
+      if is_leader s.role then sending s (appends nodes me s)
+      else (if may_start s.ballot then campaign nodes me (candidate me s) else stays s)
+
+  -- a message of a greater term, whatever it says: go on to the term, and follow
+  abbrev pub heard : ℕ → RaftView S C O → RaftView S C O
+  heard term s = if nat_lt s.ballot.term term then record s { role = role.Follower; ballot = learned term s.ballot } else s
+
+  -- a node in this state answers a candidate
+  abbrev pub vote : RaftView S C O → Bool → ℕ → RaftEffect S C O
+  vote s granted to = sending s ((to, msg.Vote (record { term = s.ballot.term; granted = granted })) ∷ [])
+
+  -- the candidate's log is at least as up-to-date as this one
+  abbrev pub sees_up_to_date : RaftView S C O → RequestVoteView → Bool
+  sees_up_to_date s r = is_up_to_date s.log r.last_index r.last_term
+
+  -- RequestVote: grant it in the node's own term, where no other candidate has the vote and the log is up to date
+  abbrev pub on_request : RaftView S C O → ℕ → RequestVoteView → RaftEffect S C O
+  on_request s from r =
+      if grants s.ballot r.term from (sees_up_to_date s r)
+      then vote (record s { ballot = voted_for from s.ballot }) true from
+      else vote s false from
+
+  -- a vote more is counted
+  abbrev pub voted : RaftView S C O → ℕ → RaftView S C O
+  voted s from = record s { ballot = counted from s.ballot }
+
+  -- Vote: a candidate counts one that was granted in its term, and leads once it has a majority
+  abbrev pub on_vote : ℕ → ℕ → RaftView S C O → ℕ → VoteView → RaftEffect S C O
+  on_vote nodes me s from v =
+      if is_candidate s.role && v.term == s.ballot.term && v.granted
+      then (if has_won nodes (voted s from) then lead nodes me (voted s from) else stays (voted s from))
+      else stays s

@@ -1,0 +1,11 @@
+pub mod Applying
+pub mod Clusters
+pub mod Codes
+pub mod Electing
+pub mod Examples
+pub mod Nodes
+pub mod Raft
+pub mod RaftLaws
+pub mod Replicating
+pub mod Sending
+pub mod Sound

@@ -1,0 +1,23 @@
+//! Raft: a machine is carried to a cluster of nodes that fail (the Raft paper, Figure 2). It knows nothing of
+//! what the machine does.
+#![tactic(auto)]
+
+mod applying;
+mod electing;
+mod examples;
+mod raft;
+mod replicating;
+mod role;
+mod seat;
+mod sending;
+mod state;
+
+pub use examples::{worked_elections, worked_refusals, worked_replication, worked_runs};
+pub use raft::Raft;
+pub use role::Role;
+pub use state::RaftState;
+
+#[cfg(test)]
+mod run_tests;
+#[cfg(test)]
+mod tests;

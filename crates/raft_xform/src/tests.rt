@@ -1,0 +1,304 @@
+ghost use Rattle.std.specs.Prelude.{◌≡◌, ◌<◌, ◌≤◌, length, vec_len, IfOk, IsTrue};
+ghost use Rattle.handler_trait.specs.declared.handlers.TheConstants.{MAX_SENDS};
+ghost use Rattle.raft_types.specs.Ranges.{IsIndex};
+ghost use Rattle.vst_base.specs.Examples.{counter};
+
+use super::*;
+use handler_trait::{Effects, Handlers, MAX_SENDS, Rebootable};
+use raft_types::{
+    Append, Appended, Entries, Kept, MAX_INDEX, RaftInput, RaftMsg, RaftOut, RequestVote, Vote,
+};
+use std::alloc::{AllocError, Global};
+use std::process::Abort;
+use std::test::Fail;
+use vst_base::{ClientId, Entry, MAX_TERM, Machine, Node, ReqId};
+
+// Adds its commands up to 255, and answers with the sum before.
+#[derive(Drop)]
+pub(crate) struct Counter;
+
+impl Machine for Counter {
+    type State = u8;
+
+    type Cmd = u8;
+
+    type Out = u8;
+
+    ghost meaning = { λ _. counter };
+
+    fn init(&self, _alloc: Global) -> Result<u8, AllocError> {
+        Ok(0)
+    }
+
+    fn apply(&self, _alloc: Global, state: &mut u8, cmd: &u8) -> Result<u8, AllocError> {
+        let before = *state;
+        *state = before.saturating_add(*cmd);
+        Ok(before)
+    }
+
+    fn copy_cmd(&self, _alloc: Global, cmd: &u8) -> Result<u8, AllocError> {
+        Ok(*cmd)
+    }
+
+    fn copy_out(&self, _alloc: Global, out: &u8) -> Result<u8, AllocError> {
+        Ok(*out)
+    }
+}
+
+// Client 7 asks for this to be added.
+pub(crate) fn asks(request: u64, cmd: u8) -> RaftInput<u8> {
+    RaftInput {
+        client: ClientId::new(7),
+        request: ReqId::new(request),
+        cmd,
+    }
+}
+
+// Entries of these terms.
+fn entries(alloc: Global, terms: &[u64]) -> Result<Entries<u8>, Fail>
+    ensures { IfOk result (λ made. length made ≤ 8) }
+{
+    let origin = Node::new(0, 3).ok_or("a node")?;
+    let mut made = Vec::new(alloc);
+    for term in terms {
+        if *term == 0 || *term > MAX_TERM {
+            return Err(Fail::from("a term of an entry"));
+        }
+        made.push(Entry::new(*term, ClientId::new(7), ReqId::new(1), origin, 0u8))?;
+    }
+    if made.len() > 8 {
+        return Err(Fail::from("few entries"));
+    }
+    Ok(Entries::new(made))
+}
+
+fn room<O: Drop, M: Drop>(alloc: Global) -> Result<Effects<O, M>, AllocError>
+    ensures { IfOk result (λ effects. MAX_SENDS ≤ effects.send_places) }
+{
+    let mut effects = Effects::new(alloc);
+    effects.reserve(1, MAX_SENDS)?;
+    Ok(effects)
+}
+
+// What a node that starts from this makes of a message.
+fn told<H: Rebootable>(
+    alloc: Global,
+    handlers: &H,
+    node: Node,
+    kept: H::Kept,
+    from: Node,
+    message: &H::Msg,
+) -> Result<(H::State, Effects<H::Output, H::Msg>), AllocError>
+    requires node { node < (H.meaning handlers.now).nodes }
+    requires from { from < (H.meaning handlers.now).nodes }
+    requires fits { H.fits handlers.now kept }
+{
+    let mut state = handlers.reboot(alloc, node, kept)?;
+    let mut effects = room(alloc)?;
+    handlers.message(alloc, node, &mut state, from, message, &mut effects)?;
+    Ok((state, effects))
+}
+
+// The one vote that was sent, with its destination.
+fn one_vote(effects: &Effects<RaftOut<u8>, RaftMsg<u8>>) -> Result<(Node, Vote), Fail> {
+    let [(to, message)] = effects.sends() else {
+        return Err(Fail::from("one packet"));
+    };
+    match message {
+        RaftMsg::Vote(vote) => Ok((*to, *vote)),
+        _ => Err(Fail::from("a vote")),
+    }
+}
+
+// The one answer to a leader that was sent, with its destination.
+fn one_answer(effects: &Effects<RaftOut<u8>, RaftMsg<u8>>) -> Result<(Node, Appended), Fail> {
+    let [(to, message)] = effects.sends() else {
+        return Err(Fail::from("one packet"));
+    };
+    match message {
+        RaftMsg::Appended(appended) => Ok((*to, *appended)),
+        _ => Err(Fail::from("an answer")),
+    }
+}
+
+// What node 0, in term 2 with a log of terms 1 and 2, answers to node 2, which asks for its vote.
+fn answer(alloc: Global, voted: Option<u8>, request: RequestVote) -> Result<(Node, Vote), Fail> {
+    let (me, from) = (Node::new(0, 3).unwrap(), Node::new(2, 3).unwrap());
+    let voted = match voted {
+        None => None,
+        Some(n) => Some(Node::new(n, 3).ok_or("a node")?),
+    };
+    let kept = Kept::new(2, voted, entries(alloc, &[1, 2])?);
+    let message = RaftMsg::RequestVote(request);
+    let (_, effects) = told(alloc, &Raft::new(Counter, 3), me, kept, from, &message)?;
+    one_vote(&effects)
+}
+
+#[test]
+fn a_vote_goes_to_a_log_that_is_up_to_date(rt: HostRuntime) -> Result<(), Fail> {
+    for (voted, term, last_index, last_term, granted) in [
+        (None, 2, 2, 2, true),
+        (None, 2, 9, 1, false),
+        (None, 2, 1, 2, false),
+        (None, 3, 1, 3, true),
+        (None, 1, 9, 9, false),
+        (Some(2), 2, 2, 2, true),
+        (Some(1), 2, 9, 9, false),
+        (Some(1), 3, 2, 2, true),
+    ] {
+        let request = RequestVote::new(term, last_index, last_term);
+        let (to, vote) = answer(rt.alloc(), voted, request)?;
+        assert_eq!(rt; to.index(), 2);
+        assert_eq!(rt; (vote.term(), vote.granted()), (term.max(2), granted));
+    }
+    Ok(())
+}
+
+// The terms of a node's log.
+fn has_log(rt: &impl Abort, state: &RaftState<u8, u8, u8>, terms: &[u64]) {
+    assert_eq!(rt; state.log.entries().len(), terms.len());
+    for (entry, term) in state.log.entries().iter().zip(terms) {
+        assert_eq!(rt; entry.term(), *term);
+    }
+}
+
+// Node 1 leads a term, and sends entries of these terms from behind an index on to node 0, which is in term 2 and
+// whose log has entries of terms 1, 1 and 2.
+fn sends_entries(
+    rt: &impl Abort,
+    alloc: Global,
+    term: u64,
+    prev: (u32, u64),
+    terms: &[u64],
+    answer: (u64, bool, u32),
+    log: &[u64],
+) -> Result<(), Fail> {
+    let raft = Raft::new(Counter, 3);
+    let (me, leader) = (Node::new(0, 3).unwrap(), Node::new(1, 3).unwrap());
+    let new = entries(alloc, terms)?;
+    if term == 0 || term > MAX_TERM || prev.0 > 9 || prev.1 > MAX_TERM {
+        return Err(Fail::from("numbers of a message"));
+    }
+    let message = RaftMsg::Append(Append::new(term, prev.0, prev.1, 2, new));
+    let kept = Kept::new(2, None, entries(alloc, &[1, 1, 2])?);
+    let (state, effects) = told(alloc, &raft, me, kept, leader, &message)?;
+    has_log(rt, &state, log);
+    let (to, appended) = one_answer(&effects)?;
+    assert_eq!(rt; to, leader);
+    assert_eq!(rt; (appended.term(), appended.ok(), appended.index()), answer);
+    assert_eq!(rt;
+        raft.applied(&state),
+        if answer.1 { answer.2.min(2) } else { 0 }
+    );
+    Ok(())
+}
+
+#[test]
+fn a_follower_takes_what_fits_its_log(rt: HostRuntime) -> Result<(), Fail> {
+    let alloc = rt.alloc();
+    sends_entries(&rt, alloc, 2, (3, 2), &[], (2, true, 3), &[1, 1, 2])?;
+    sends_entries(
+        &rt,
+        alloc,
+        2,
+        (3, 2),
+        &[2, 2],
+        (2, true, 5),
+        &[1, 1, 2, 2, 2],
+    )?;
+    sends_entries(&rt, alloc, 3, (1, 1), &[3], (3, true, 2), &[1, 3])?;
+    sends_entries(&rt, alloc, 2, (1, 1), &[1], (2, true, 2), &[1, 1, 2])?;
+    sends_entries(&rt, alloc, 2, (0, 0), &[1], (2, true, 1), &[1, 1, 2])
+}
+
+#[test]
+fn a_follower_refuses_what_does_not(rt: HostRuntime) -> Result<(), Fail> {
+    let alloc = rt.alloc();
+    sends_entries(&rt, alloc, 1, (3, 2), &[2], (2, false, 3), &[1, 1, 2])?;
+    sends_entries(&rt, alloc, 2, (4, 2), &[2], (2, false, 4), &[1, 1, 2])?;
+    sends_entries(&rt, alloc, 2, (3, 1), &[2], (2, false, 3), &[1, 1, 2])?;
+    sends_entries(&rt, alloc, 3, (2, 2), &[3], (3, false, 2), &[1, 1, 2])
+}
+
+// As many entries of the first term as a log has places.
+fn full_log(alloc: Global) -> Result<Entries<u8>, Fail> {
+    let origin = Node::new(0, 3).unwrap();
+    let mut made = Vec::new(alloc);
+    for request in 0..u64::from(MAX_INDEX) {
+        let entry = Entry::new(1, ClientId::new(7), ReqId::new(request), origin, 0u8);
+        made.push(entry)?;
+    }
+    Ok(Entries::new(made))
+}
+
+// Node 0 of three starts from this and is elected, with node 2's vote in a term, and is asked.
+fn elected_and_asked(
+    alloc: Global,
+    kept: Kept<u8>,
+    term: u64,
+) -> Result<Effects<RaftOut<u8>, RaftMsg<u8>>, Fail> {
+    let raft = Raft::new(Counter, 3);
+    let (me, voter) = (Node::new(0, 3).unwrap(), Node::new(2, 3).unwrap());
+    if kept.voted().is_some() || term == 0 || term > MAX_TERM {
+        return Err(Fail::from("a node that has not voted, and a term"));
+    }
+    let mut state = raft.reboot(alloc, me, kept)?;
+    let mut effects = room(alloc)?;
+    raft.timeout(alloc, me, &mut state, &mut effects)?;
+    let vote = RaftMsg::Vote(Vote::new(term, true));
+    let mut effects = room(alloc)?;
+    raft.message(alloc, me, &mut state, voter, &vote, &mut effects)?;
+    let mut effects = room(alloc)?;
+    raft.input(alloc, me, &mut state, &asks(1, 5), &mut effects)?;
+    Ok(effects)
+}
+
+#[test]
+fn a_leader_whose_log_is_full_says_so(rt: HostRuntime) -> Result<(), Fail> {
+    let (client, request) = (ClientId::new(7), ReqId::new(1));
+    let kept = Kept::new(1, None, full_log(rt.alloc())?);
+    let mut effects = elected_and_asked(rt.alloc(), kept, 2)?;
+    assert_eq!(rt;
+        effects.next_output(),
+        Some(RaftOut::Full { client, request })
+    );
+    assert_eq!(rt; effects.next_output(), None);
+    assert!(rt; effects.next_send().is_none());
+    Ok(())
+}
+
+#[test]
+fn a_leader_sends_a_request_to_the_others(rt: HostRuntime) -> Result<(), Fail> {
+    let kept = Kept::new(1, None, entries(rt.alloc(), &[1])?);
+    let mut effects = elected_and_asked(rt.alloc(), kept, 2)?;
+    assert_eq!(rt; effects.next_output(), None);
+    assert_eq!(rt; effects.sends().len(), 2);
+    for (place, (to, message)) in effects.sends().iter().enumerate() {
+        assert_eq!(rt; usize::from(to.index()), place + 1);
+        let RaftMsg::Append(append) = message else {
+            return Err(Fail::from("entries"));
+        };
+        assert_eq!(rt; (append.term(), append.commit()), (2, 0));
+        assert_eq!(rt; (append.prev_index(), append.prev_term()), (1, 1));
+        assert_eq!(rt; append.entries().len(), 1);
+    }
+    Ok(())
+}
+
+#[test]
+fn no_election_follows_the_greatest_term(rt: HostRuntime) -> Result<(), Fail> {
+    let raft = Raft::new(Counter, 3);
+    let me = Node::new(1, 3).unwrap();
+    for (term, sends) in [(0, 2), (MAX_TERM - 1, 2), (MAX_TERM, 0)] {
+        let kept = Kept::new(term, None, entries(rt.alloc(), &[])?);
+        let mut state = raft.reboot(rt.alloc(), me, kept)?;
+        let mut effects = room(rt.alloc())?;
+        raft.timeout(rt.alloc(), me, &mut state, &mut effects)?;
+        assert_eq!(rt; effects.sends().len(), sends);
+        let kept = raft.keep(rt.alloc(), &state)?;
+        assert_eq!(rt; kept.term(), if sends == 0 { term } else { term + 1 });
+        assert_eq!(rt; kept.voted(), if sends == 0 { None } else { Some(me) });
+        assert!(rt; !raft.leads(&state));
+    }
+    Ok(())
+}
