@@ -1,0 +1,17 @@
+pub mod Acting
+pub mod Advancing
+pub mod Computing
+pub mod Explaining
+pub mod Growing
+pub mod Listing
+pub mod Longest
+pub mod Mirroring
+pub mod Ordering
+pub mod Peers
+pub mod Refining
+pub mod Refusing
+pub mod Remembering
+pub mod Safe
+pub mod Sending
+pub mod Told
+pub mod Turning

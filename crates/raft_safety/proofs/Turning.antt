@@ -1,0 +1,180 @@
+-- What happens at a node in a step that the network allows.
+use Rattle.std.proofs.Common.{◌≡◌, ℕ, zero, suc, ◌<◌, Bool, true, false, not, List, [], ◌∷◌, ◌++◌, Option, Some, None, ltb, cond, slice_get, inl, inr, refl, sym}
+use Rattle.std.proofs.lemmas.Bool.{false≢true, ltb-true, not-false}
+use Rattle.net_semantics.specs.Steps.{Event, acting, delivery, event_of, fails, input_item, node_of, packet_of, reboots, refusal_of, takes_input_of}
+use Rattle.net_semantics.specs.Worlds.{Packet, copies}
+use Rattle.vst_base.specs.Nets.{has_kind, kind_of}
+use Rattle.vst_base.specs.declared.step.StepRefusal.TheVariants as refusal
+use Rattle.vst_base.specs.Firsts.{first_of}
+use Rattle.vst_base.specs.Machines.{MachineMeaning}
+use Rattle.vst_base.specs.declared.entry.Entry.{Entry}
+use Rattle.vst_base.specs.declared.net.Net.TheVariants as net
+use Rattle.vst_base.specs.declared.step.Item.TheVariants as item
+use Rattle.vst_base.specs.declared.step.Step.{Step}
+use Rattle.vst_base.specs.declared.step.Step.TheVariants as step
+use Rattle.raft_free.specs.Events.{In}
+use Rattle.raft_free.specs.Nodes as free
+use Rattle.raft_types.specs.declared.client.RaftInput.{RaftInput}
+use Rattle.raft_types.specs.declared.client.RaftOut.{RaftOut}
+use Rattle.raft_types.specs.declared.msg.RaftMsg.{RaftMsg}
+use Rattle.raft_xform.specs.Nodes.{RaftView}
+use Rattle.raft_xform.specs.Raft.{raft, raft_recovery}
+use Rattle.raft_xform.specs.Sound.{IsSoundNode}
+use Rattle.raft_xform.proofs.Keeping.{keeps_input, keeps_message, keeps_tick}
+use Rattle.raft_safety.specs.Applied.{request_of}
+use Rattle.raft_safety.specs.Runs.{RaftWorld}
+use Rattle.linearizability.specs.Linearizable.{HasInput, Seen}
+use Rattle.raft_safety.specs.Mirrors.{Mirrors}
+use Rattle.raft_safety.proofs.Refining.{Refined, input_refined, message_refined, tick_refined}
+use Rattle.raft_safety.proofs.Sending.{AreGood, IsGood, good_input, good_message, good_tick}
+
+-- what always holds of a cluster: its nodes are sound, one that is down has kept what it was, and each packet goes to
+-- another node, with a message in range
+pub record Stands {S C O : Type 0} (m : MachineMeaning S C O) (n : ℕ) (w : RaftWorld S C O) : Type 0 where
+  pub sound : (i : ℕ) → i < n → IsSoundNode n i (w.state i)
+  pub kept : (i : ℕ) → w.kept i ≡ cond (w.is_up i) None (Some ((raft_recovery m).keep (w.state i)))
+  pub sources : (p : Packet (RaftMsg C)) → In p w.packets → p.source < n
+  pub good : (p : Packet (RaftMsg C)) → In p w.packets → IsGood n p.source p.destination p.content
+
+-- clients put in what the entry asks for
+abbrev pub WasPutIn : {C O : Type 0} → Seen C O → Entry C → Type 0
+WasPutIn seen e = HasInput seen (request_of e)
+
+-- of an event at a node that is up: the node's turn, from what clients had seen before
+pub record Turn {S C O : Type 0} (m : MachineMeaning S C O) (n : ℕ) (w : RaftWorld S C O) (v : free.FreeWorld C) (seen : Seen C O)
+    (e : Event (RaftView S C O) (RaftInput C) (RaftOut O) (RaftMsg C)) : Type 0 where
+  pub below : e.node < n
+  pub is_up : w.is_up e.node ≡ true
+  pub refined : Refined m n e.node (WasPutIn (seen ++ input_item e.node e.input)) v.sent (w.state e.node) e.effect
+  pub sound : IsSoundNode n e.node e.effect.state
+  pub good : AreGood n e.node e.effect.sends
+
+-- where none of the refusals applies
+none_applies : (a b c d e f : Bool) →
+    first_of ((refusal.NotThisNet, a) ∷ (refusal.NoSuchNode, b) ∷ (refusal.NoInputHere, c) ∷ (refusal.NodeDown, d) ∷ (refusal.NodeUp, e) ∷ (refusal.NoCopy, f) ∷ []) ≡ None →
+    (b ≡ false) × (d ≡ false) × (e ≡ false)
+none_applies true b c d e f h = absurd (cc (h))
+none_applies false true c d e f h = absurd (cc (h))
+none_applies false false true d e f h = absurd (cc (h))
+none_applies false false false true e f h = absurd (cc (h))
+none_applies false false false false true f h = absurd (cc (h))
+none_applies false false false false false f h = (refl, refl, refl)
+
+module _ {S C O : Type 0} (m : MachineMeaning S C O) (n : ℕ) (w : RaftWorld S C O) where
+  -- the network takes the step
+  abbrev pub IsTaken : Step (RaftInput C) → Type 0
+  IsTaken s = refusal_of net.Fail (raft n m) w s ≡ None
+
+  passes : (s : Step (RaftInput C)) → IsTaken s →
+      (fails (node_of s) (λ i. ltb i n) ≡ false) × (fails (acting w s) w.is_up ≡ false) × (fails (reboots s) (λ i. not (w.is_up i)) ≡ false)
+  passes s e =
+      none_applies (not (has_kind net.Fail (kind_of s))) (fails (node_of s) (λ i. ltb i n)) (not (takes_input_of (raft n m).takes_input s)) (fails (acting w s) w.is_up) (fails (reboots s) (λ i. not (w.is_up i)))
+      (fails (packet_of s) (λ k. ltb 0 (copies w k))) e
+
+  at_up_node : (i : ℕ) → not (ltb i n) ≡ false → not (w.is_up i) ≡ false → (i < n) × (w.is_up i ≡ true)
+  at_up_node i a b = (ltb-true i n (not-false _ a), not-false _ b)
+
+  taken_input : (i : ℕ) (q : RaftInput C) → IsTaken (step.In i q) → (i < n) × (w.is_up i ≡ true)
+  taken_input i q e = let p = passes (step.In i q) e in at_up_node i p.0 p.1
+
+  taken_tick : (i : ℕ) → IsTaken (step.Tick i) → (i < n) × (w.is_up i ≡ true)
+  taken_tick i e = let p = passes (step.Tick i) e in at_up_node i p.0 p.1
+
+  pub taken_crash : (i : ℕ) → IsTaken (step.Crash i) → (i < n) × (w.is_up i ≡ true)
+  taken_crash i e = let p = passes (step.Crash i) e in at_up_node i p.0 p.1
+
+  pub taken_reboot : (i : ℕ) → IsTaken (step.Reboot i) → (i < n) × (w.is_up i ≡ false)
+  taken_reboot i e = let p = passes (step.Reboot i) e in (ltb-true i n (not-false _ p.0), off (w.is_up i) p.2)
+    where
+      off : (b : Bool) → not (not b) ≡ false → b ≡ false
+      off true e = absurd (false≢true (sym e))
+      off false e = refl
+
+  taken_deliver : (k : ℕ) → IsTaken (step.Deliver k) → (p : Packet (RaftMsg C)) → slice_get w.packets k ≡ Some p → w.is_up p.destination ≡ true
+  taken_deliver k e p is = let q = passes (step.Deliver k) e in not-false _ (rw is at q.1)
+
+  pub in_packets : (ps : List (Packet (RaftMsg C))) (k : ℕ) (p : Packet (RaftMsg C)) → slice_get ps k ≡ Some p → In p ps
+  in_packets [] k p e = absurd (cc (e))
+  in_packets (x ∷ ps) zero p e = inl (cc (e))
+  in_packets (x ∷ ps) (suc k) p e = inr (in_packets ps k p e)
+
+  last_input : (seen : Seen C O) (i : ℕ) (q : RaftInput C) → HasInput (seen ++ input_item i (Some q)) q
+  last_input [] i q = inl refl
+  last_input (item.Input j r ∷ seen) i q = inr (last_input seen i q)
+  last_input (item.Output j o ∷ seen) i q = last_input seen i q
+
+  -- the event of a step, if there is one
+  pub turn : (v : free.FreeWorld C) (seen : Seen C O) → Mirrors w v → Stands m n w → (s : Step (RaftInput C)) → IsTaken s →
+      (e : Event (RaftView S C O) (RaftInput C) (RaftOut O) (RaftMsg C)) → event_of (raft n m) w s ≡ Some e → Turn m n w v seen e
+  turn v seen mirrors stands (step.In i q) taken e is = rw (← same) (record {
+    below = t.0;
+    is_up = t.1;
+    refined = input_refined m n i (WasPutIn (seen ++ input_item i (Some q))) (w.state i) q k.peers after.peers k.applied (last_input seen i q) v.sent;
+    sound = after;
+    good = (good_input m n i (w.state i) q).good after;
+  })
+    where
+      same : record { node = i; input = Some q; effect = (raft n m).input i (w.state i) q } ≡ e
+      same = cc (is)
+
+      t : (i < n) × (w.is_up i ≡ true)
+      t = taken_input i q taken
+
+      k : IsSoundNode n i (w.state i)
+      k = stands.sound i t.0
+
+      after : IsSoundNode n i ((raft n m).input i (w.state i) q).state
+      after = (keeps_input k m q).sound
+  turn v seen mirrors stands (step.Tick i) taken e is = rw (← same) (record {
+    below = t.0;
+    is_up = t.1;
+    refined = tick_refined m n i (WasPutIn (seen ++ input_item i None)) (w.state i) k.peers v.sent;
+    sound = after;
+    good = (good_tick m n i (w.state i)).good after;
+  })
+    where
+      same : record { node = i; input = None; effect = (raft n m).timeout i (w.state i) } ≡ e
+      same = cc (is)
+
+      t : (i < n) × (w.is_up i ≡ true)
+      t = taken_tick i taken
+
+      k : IsSoundNode n i (w.state i)
+      k = stands.sound i t.0
+
+      after : IsSoundNode n i ((raft n m).timeout i (w.state i)).state
+      after = (keeps_tick k).sound
+  turn v seen mirrors stands (step.Deliver k) taken e is = by_packet (slice_get w.packets k) refl is
+    where
+      by_packet : (o : Option (Packet (RaftMsg C))) → slice_get w.packets k ≡ o → delivery (raft n m) w o ≡ Some e → Turn m n w v seen e
+      by_packet None at it = absurd (cc (it))
+      by_packet (Some p) at it = rw (← same) (record {
+        below = g.below;
+        is_up = taken_deliver k taken p at;
+        refined = message_refined m n p.destination (WasPutIn (seen ++ input_item p.destination None)) (w.state p.destination) p.source p.content from (λ f. g.other (sym f))
+            before.peers before.applied after.peers v.sent (mirrors.sent p here);
+        sound = after;
+        good = (good_message m n p.destination (w.state p.destination) p.source p.content from (λ f. g.other (sym f))).good after;
+      })
+        where
+          same : record { node = p.destination; input = None; effect = (raft n m).message p.destination (w.state p.destination) p.source p.content } ≡ e
+          same = cc (it)
+
+          here : In p w.packets
+          here = in_packets w.packets k p at
+
+          g : IsGood n p.source p.destination p.content
+          g = stands.good p here
+
+          from : p.source < n
+          from = stands.sources p here
+
+          before : IsSoundNode n p.destination (w.state p.destination)
+          before = stands.sound p.destination g.below
+
+          after : IsSoundNode n p.destination ((raft n m).message p.destination (w.state p.destination) p.source p.content).state
+          after = (keeps_message before m p.source from p.content g.range).sound
+  turn v seen mirrors stands (step.Dup k) taken e is = absurd (cc (is))
+  turn v seen mirrors stands (step.Lose k) taken e is = absurd (cc (is))
+  turn v seen mirrors stands (step.Crash i) taken e is = absurd (cc (is))
+  turn v seen mirrors stands (step.Reboot i) taken e is = absurd (cc (is))

@@ -1,0 +1,37 @@
+-- By what a map has at a number after a change.
+use Rattle.std.proofs.Common.{◌≡◌, ℕ, List, [], ◌∷◌, ◌++◌, map, refl, ◌∙◌}
+use Rattle.std.specs.Cmp.{nat_cmp_total}
+use Rattle.std.specs.FinMap.{empty, get-empty, get-insert}
+use Rattle.vst_base.specs.Examples.{counter}
+use Rattle.vst_base.specs.declared.entry.Entry.{Entry}
+use Rattle.vst_base.specs.declared.step.Item.TheVariants as item
+use Rattle.raft_clients.specs.Sessions.{applied_all}
+use Rattle.raft_xform.specs.Applying.{replies}
+use Rattle.raft_safety.specs.Runs.{seen}
+use Rattle.linearizability.specs.Examples.{asks, put}
+use Rattle.raft_safety.specs.Examples.{asked_again, five}
+use Rattle.linearizability.specs.Linearizable.{Seen}
+use Rattle.raft_safety.proofs.examples.worked_runs.Goals as goal
+
+ruleset lookups = (get-empty, get-insert, nat_cmp_total)
+
+pub returns-clause-two_clients_told : goal.returns-clause-two_clients_told
+returns-clause-two_clients_told c = simp lookups
+
+-- what both nodes answer, and what they tell by it
+once : (applied_all counter 0 empty (five 1 0 ∷ [])).answers ≡ (five 1 0, 0) ∷ []
+once = simp lookups
+
+again : (applied_all counter 0 empty (five 1 0 ∷ five 2 1 ∷ [])).answers ≡ (five 1 0, 0) ∷ (five 2 1, 0) ∷ []
+again = simp lookups
+
+tells : List (Entry ℕ × ℕ) → List (Entry ℕ × ℕ) → Seen ℕ ℕ
+tells first second = put (asks 7 1 5) ∷ (map (λ o. item.Output 0 o) (replies 0 first) ++ item.Input 1 (asks 7 1 5) ∷ (map (λ o. item.Output 1 o) (replies 1 second) ++ []))
+
+told : seen counter 3 asked_again ≡ tells (applied_all counter 0 empty (five 1 0 ∷ [])).answers (applied_all counter 0 empty (five 1 0 ∷ five 2 1 ∷ [])).answers
+unfolding tells
+told = refl
+
+pub returns-clause-told_the_same : goal.returns-clause-told_the_same
+unfolding tells
+returns-clause-told_the_same c = told ∙ (λ i. tells (once i) (again i))

@@ -1,0 +1,30 @@
+-- What the definitions are computed on.
+use Rattle.std.specs.Prelude.{ℕ, List, [], ◌∷◌, ◌++◌}
+use Rattle.vst_base.specs.declared.entry.Entry.{Entry}
+use Rattle.vst_base.specs.declared.step.Step.{Step}
+use Rattle.vst_base.specs.declared.step.Step.TheVariants as step
+use Rattle.raft_types.specs.declared.client.RaftInput.{RaftInput}
+use Rattle.linearizability.specs.Examples.{asks}
+
+-- client 7's first request, to add 5, as a leader has it in its log
+abbrev pub five : ℕ → ℕ → Entry ℕ
+five term leader = record { term = term; client = 7; request = 1; origin = leader; cmd = 5 }
+
+-- node 1 votes for node 0, and 0 leads
+abbrev pub elected : List (Step (RaftInput ℕ))
+elected = step.Tick 0 ∷ step.Deliver 0 ∷ step.Deliver 2 ∷ []
+
+-- two clients ask it, and node 1 has both entries; then node 0 stops
+abbrev pub two_clients : List (Step (RaftInput ℕ))
+two_clients = elected ++ step.In 0 (asks 7 1 5) ∷ step.In 0 (asks 9 1 3) ∷ step.Deliver 7 ∷ step.Deliver 9 ∷ step.Crash 0 ∷ []
+
+-- a client asks it, node 1 has the entry, and node 0 tells the client and stops
+abbrev pub asked_once : List (Step (RaftInput ℕ))
+asked_once = elected ++ step.In 0 (asks 7 1 5) ∷ step.Deliver 5 ∷ step.Deliver 7 ∷ step.Crash 0 ∷ []
+
+-- node 2 votes for node 1, and 1 leads; the client asks it the same again; node 2 has no entry yet, and gets both
+abbrev pub asked_again : List (Step (RaftInput ℕ))
+asked_again =
+    asked_once
+    ++ step.Tick 1 ∷ step.Deliver 9 ∷ step.Deliver 10 ∷ step.In 1 (asks 7 1 5) ∷ step.Deliver 14 ∷ step.Deliver 15 ∷ step.Deliver 16
+    ∷ step.Deliver 17 ∷ []
