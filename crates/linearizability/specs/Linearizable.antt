@@ -79,11 +79,14 @@ module _ {C O : Type 0} where
   abbrev pub AreOutputs : {S : Type 0} → MachineMeaning S C O → List (RaftInput C) → Seen C O → Type 0
   AreOutputs m order seen = Each (λ t. beside t.client t.request (with_outputs m order) ≡ Some t.output) (told_behind [] seen)
 
-  -- no client is told an output before the request, and each that stands before it in the order, was put in
+  -- no client is told an output before the request, and each that stands before it in the order, was put in: so a
+  -- request that is first put in after another was answered stands behind it (the real-time order of Herlihy and Wing)
   abbrev pub AreInTime : List (RaftInput C) → Seen C O → Type 0
   AreInTime order seen = Each (λ t. Each (HasInput t.before) (up_to t.client t.request order)) (told_behind [] seen)
 
-  -- one machine that takes the requests in this order explains what clients see
+  -- one machine that takes the requests in this order explains what clients see. Its parts are to be taken together: for
+  -- an output of a request that is not in the order `up_to` gives the whole order, and with a request that is there twice
+  -- `up_to` and `beside` stop at the first
   pub record IsLinearizable {S : Type 0} (m : MachineMeaning S C O) (order : List (RaftInput C)) (seen : Seen C O) : Type 0 where
     pub requested : AreRequested order seen
     pub outputs : AreOutputs m order seen

@@ -5,3 +5,6 @@
 mod examples;
 
 pub use examples::{worked_orders, worked_parts};
+
+#[cfg(test)]
+mod tests;

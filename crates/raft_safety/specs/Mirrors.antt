@@ -1,4 +1,4 @@
--- What a world of a cluster is in Raft with free choices.
+-- When a world of Raft with free choices mirrors a world of a cluster.
 use Rattle.std.specs.Prelude.{◌≡◌, ℕ, Bool, if◌then◌else◌}
 use Rattle.net_semantics.specs.Worlds.{Packet}
 use Rattle.raft_commit.specs.Peers.{matched_of}

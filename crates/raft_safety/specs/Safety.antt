@@ -28,8 +28,8 @@ pub record AreMirrored {S C O : Type 0} (nodes : ℕ) (v w : RaftWorld S C O) : 
   pub mirrors_first : Mirrors v first
   pub mirrors_second : Mirrors w second
 
--- the packet was sent, and has entries of a leader. Its destination is up, and once it has heard of the entries' term
--- it is in no later one
+-- the packet was sent, and is a leader's AppendEntries, with entries or none. Its destination is up, and once it has
+-- heard of the packet's term it is in no later one
 pub record ComesInItsTerm {S C O : Type 0} (w : RaftWorld S C O) (p : Packet (RaftMsg C)) (a : AppendView C) : Type 0 where
   pub sent : In p w.packets
   pub entries : p.content ≡ msg.Append a
@@ -61,7 +61,8 @@ module _ (S C O : Type 0) where
       take k (log_at v i) ≡ take k (log_at w j)
 
   -- what a node has committed, or knows to be, with all before it, is in the log of each leader of a term over the
-  -- node's: of one that leads later
+  -- node's: of one that leads later. Right after a leader commits by the rule (the Raft paper, 5.4.2), its commit is that
+  -- index and its term is the commit's, so this covers what is committed in a term, and the leaders of all greater ones
   abbrev pub LeaderCompleteness : Type 0
   LeaderCompleteness =
       (m : MachineMeaning S C O) (nodes : ℕ) (v w : RaftWorld S C O) (i j k term : ℕ) → AreMoments m nodes v w →
@@ -86,7 +87,7 @@ module _ (S C O : Type 0) where
       (m : MachineMeaning S C O) (nodes : ℕ) (w : RaftWorld S C O) (i : ℕ) → IsReached m nodes w →
       length (applied_list (w.state i)) ≡ (w.state i).applied
 
-  -- entries of a node's own term that may come to it: it does not lead
+  -- a leader's AppendEntries of a node's own term that may come to it: it does not lead
   abbrev pub NoRivalAppends : Type 0
   NoRivalAppends =
       (m : MachineMeaning S C O) (nodes : ℕ) (w : RaftWorld S C O) (p : Packet (RaftMsg C)) (a : AppendView C) → IsReached m nodes w →

@@ -1,9 +1,12 @@
-ghost use Rattle.std.specs.Prelude.{◌≡◌, ℕ, [], ◌∷◌, Some};
+ghost use Rattle.std.specs.Prelude.{◌≡◌, [], ◌∷◌, ◌++◌};
+ghost use Rattle.net_semantics.specs.Worlds.{copies};
 ghost use Rattle.vst_base.specs.Examples.{counter};
-ghost use Rattle.raft_safety.specs.Applied.{applied_by, executed_by};
+ghost use Rattle.vst_base.specs.declared.step.Step.TheVariants as step;
+ghost use Rattle.raft_safety.specs.Applied.{applied_by, executed_by, longest};
 ghost use Rattle.raft_safety.specs.Runs.{IsRun, Leads, log_at, seen, world_after};
+ghost use Rattle.raft_safety.specs.Safety.{ComesInItsTerm};
 ghost use Rattle.linearizability.specs.Examples.{asks, put, tell};
-ghost use Rattle.raft_safety.specs.Examples.{asked_again, asked_once, elected, five, two_clients};
+ghost use Rattle.raft_safety.specs.Examples.{asked_again, asked_once, copied, elected, five, late_copy, sent_first, started_again, two_clients, two_leaders};
 ghost use Rattle.raft_types.specs.declared.client.RaftOut.TheVariants as told;
 
 use vst_base::Item;
@@ -11,7 +14,9 @@ use vst_base::Item;
 /// Runs of three nodes in which requests are executed and clients told, so that the laws are not empty. In
 /// the first one node leads, and two clients ask it. In the second a client is told, another node leads in
 /// the next term, the client asks that one the same again, and is told the same: the request is executed
-/// once.
+/// once. In the third the node that told the client starts again: what it had applied before it stopped
+/// still counts. In the fourth a copy of an entry comes late, to a node that knows it to be committed. In the
+/// last two nodes lead at once, in different terms, and the one of the lesser term commits.
 pub fn worked_runs()
     ensures two_clients_allowed { IsRun counter 3 two_clients }
     ensures two_clients_told { seen counter 3 two_clients ≡ put (asks 7 1 5) ∷ put (asks 9 1 3) ∷ tell 7 1 0 ∷ tell 9 1 5 ∷ [] }
@@ -25,4 +30,23 @@ pub fn worked_runs()
     ensures executed_once { executed_by counter 3 asked_again ≡ asks 7 1 5 ∷ [] }
     ensures kept_while_down { log_at (world_after counter 3 asked_again) 0 ≡ five 1 0 ∷ [] }
     ensures told_the_same { seen counter 3 asked_again ≡ put (asks 7 1 5) ∷ tell 7 1 0 ∷ Item.Input 1 (asks 7 1 5) ∷ Item.Output 1 (told.Reply 7 1 0) ∷ [] }
+
+    ensures started_again_allowed { IsRun counter 3 started_again }
+    ensures applied_before_it_stopped { applied_by counter 3 started_again ≡ five 1 0 ∷ [] }
+    ensures applied_by_none_now { longest 3 (world_after counter 3 started_again) [] ≡ [] }
+    ensures kept_by_the_start { log_at (world_after counter 3 started_again) 0 ≡ five 1 0 ∷ [] }
+
+    ensures copied_allowed { IsRun counter 3 (copied ++ step.Deliver 5 ∷ []) }
+    ensures known_to_be_committed { ((world_after counter 3 copied).state 1).commit ≡ 1 }
+    ensures applied_by_the_follower { ((world_after counter 3 copied).state 1).applied ≡ 1 }
+    ensures lost { copies (world_after counter 3 copied) 6 ≡ 0 }
+    ensures comes_late { ComesInItsTerm (world_after counter 3 copied) late_copy sent_first }
+    ensures changes_no_commit { ((world_after counter 3 (copied ++ step.Deliver 5 ∷ [])).state 1).commit ≡ 1 }
+    ensures changes_no_log { log_at (world_after counter 3 (copied ++ step.Deliver 5 ∷ [])) 1 ≡ five 1 0 ∷ [] }
+
+    ensures two_leaders_allowed { IsRun counter 3 two_leaders }
+    ensures one_leads_in_its_term { Leads (world_after counter 3 two_leaders) 0 1 }
+    ensures another_leads_in_the_next { Leads (world_after counter 3 two_leaders) 1 2 }
+    ensures committed_in_the_lesser { ((world_after counter 3 two_leaders).state 0).commit ≡ 1 }
+    ensures told_by_the_lesser { seen counter 3 two_leaders ≡ put (asks 7 1 5) ∷ tell 7 1 0 ∷ [] }
 {}

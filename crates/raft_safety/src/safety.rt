@@ -16,7 +16,8 @@ pub fn runs_are_safe<M: Machine>()
     ensures log_matching { LogMatching M.State M.Cmd M.Out }
 
     // What a node knows to be committed, with all before it, is in the log of each leader of a greater term,
-    // whether it leads later or led before.
+    // whether it leads later or led before. Right after a leader commits by the rule, its commit is that index
+    // and its term the commit's, so this covers what is committed in a term.
     ensures leader_completeness { LeaderCompleteness M.State M.Cmd M.Out }
     ensures leader_completeness_before { LeaderCompletenessBefore M.State M.Cmd M.Out }
 
@@ -26,8 +27,9 @@ pub fn runs_are_safe<M: Machine>()
     ensures applied_is_there { AppliedIsThere M.State M.Cmd M.Out }
 {}
 
-/// Two answers to a leader's entries that never come, on any run: no leader is sent entries of its own term,
-/// and no entries of a node's own term that are sent to it conflict with what it knows to be committed.
+/// Two cases of a leader's AppendEntries that never come, on any run: no leader is sent one of its own term
+/// (it would ignore it), and none of a node's own term that is sent to it conflicts with what it knows to be
+/// committed (it would refuse it).
 pub fn refusals_never_come<M: Machine>()
     ensures no_rival_appends { NoRivalAppends M.State M.Cmd M.Out }
     ensures no_committed_conflict { NoCommittedConflict M.State M.Cmd M.Out }

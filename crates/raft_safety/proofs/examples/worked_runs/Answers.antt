@@ -18,6 +18,9 @@ ruleset lookups = (get-empty, get-insert, nat_cmp_total)
 pub returns-clause-two_clients_told : goal.returns-clause-two_clients_told
 returns-clause-two_clients_told c = simp lookups
 
+pub returns-clause-told_by_the_lesser : goal.returns-clause-told_by_the_lesser
+returns-clause-told_by_the_lesser c = simp lookups
+
 -- what both nodes answer, and what they tell by it
 once : (applied_all counter 0 empty (five 1 0 ∷ [])).answers ≡ (five 1 0, 0) ∷ []
 once = simp lookups
