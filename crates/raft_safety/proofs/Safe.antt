@@ -22,9 +22,9 @@ use Rattle.raft_xform.specs.Raft.{raft, raft_recovery}
 use Rattle.raft_safety.specs.Runs.{AreMoments, IsReached, IsRun, Leads, RaftWorld, log_at, log_of, seen, world_after}
 use Rattle.linearizability.specs.Linearizable.{Seen}
 use Rattle.raft_safety.specs.Mirrors.{free_node, free_role}
-use Rattle.raft_safety.specs.Safety.{AppliedIsThere, ElectionSafety, IsFree, LeaderAppendOnly, LeaderCompleteness, LeaderCompletenessBefore, LogMatching, StateMachineSafety}
+use Rattle.raft_safety.specs.Safety.{AppliedIsThere, ElectionSafety, FirstIsFree, IsFree, LeaderAppendOnly, LeaderCompleteness, LeaderCompletenessBefore, LogMatching, StateMachineSafety, StepIsFree}
 use Rattle.raft_safety.proofs.Longest.{did_fits}
-use Rattle.raft_safety.proofs.Mirroring.{AreTaken, Goes, first_mirror, first_stands, first_taken, run_goes}
+use Rattle.raft_safety.proofs.Mirroring.{AreTaken, Goes, first_mirror, first_stands, first_taken, run_goes, step_goes}
 use Rattle.raft_safety.proofs.Turning.{Stands}
 
 -- the log of a node is in its state, also while it is down
@@ -89,6 +89,17 @@ pub is_free : (S C O : Type 0) → IsFree S C O
 is_free S C O m n v w a =
     let t = moment m n v w a in
     record { first = t.before.world; second = t.after.world; moments = times t; mirrors_first = t.before.mirrors; mirrors_second = t.after.mirrors }
+
+pub first_is_free : (S C O : Type 0) → FirstIsFree S C O
+first_is_free S C O m n = first_mirror m n
+
+pub step_is_free : (S C O : Type 0) → StepIsFree S C O
+step_is_free S C O m n ss s x r mirrors =
+    let p = parts m n (first_world (raft n m)) ss (s ∷ []) r.allowed in
+    let stands = (goes m n ss (record { size = r.size; allowed = p.0 })).stands in
+    let g = step_goes m n (world_after m n ss) x [] mirrors stands s (first_taken m n (world_after m n ss) s [] p.1).0 in
+    rw (run_from-append (raft n m) (raft_recovery m) (first_world (raft n m)) ss (s ∷ []))
+    (record { events = g.late; world = g.world; run = g.run; mirrors = g.mirrors })
 
 pub run_election_safety : (S C O : Type 0) → ElectionSafety S C O
 run_election_safety S C O m n v w i j term a li lj =

@@ -1,13 +1,13 @@
 -- The safety of a cluster (the Raft paper, Figure 3), over every run and any two moments of it.
-use Rattle.std.specs.Prelude.{◌≡◌, ℕ, ◌<◌, ◌≤◌, List, ◌++◌, length, take, IsFalse, IsTrue}
+use Rattle.std.specs.Prelude.{◌≡◌, ℕ, ◌<◌, ◌≤◌, List, [], ◌∷◌, ◌++◌, length, take, IsFalse, IsTrue}
 use Rattle.net_semantics.specs.Worlds.{Packet}
 use Rattle.vst_base.specs.Machines.{MachineMeaning, state_after}
 use Rattle.vst_base.specs.Logs.{has_conflict, term_at}
 use Rattle.vst_base.specs.declared.step.Step.{Step}
 use Rattle.raft_clients.specs.Executed.{commands, executed}
-use Rattle.raft_free.specs.Events.{In}
-use Rattle.raft_free.specs.Nodes.{FreeWorld}
-use Rattle.raft_free.specs.Runs.{Moments}
+use Rattle.raft_free.specs.Events.{Event, In}
+use Rattle.raft_free.specs.Nodes.{FreeWorld, first_world}
+use Rattle.raft_free.specs.Runs.{Moments, Run}
 use Rattle.raft_free.specs.Safety.{Has}
 use Rattle.raft_types.specs.Messages.{AppendView}
 use Rattle.raft_types.specs.declared.client.RaftInput.{RaftInput}
@@ -28,6 +28,13 @@ pub record AreMirrored {S C O : Type 0} (nodes : ℕ) (v w : RaftWorld S C O) : 
   pub mirrors_first : Mirrors v first
   pub mirrors_second : Mirrors w second
 
+-- free choices lead on from the free world x to one that mirrors this
+pub record LeadOn {S C O : Type 0} (nodes : ℕ) (x : FreeWorld C) (w : RaftWorld S C O) : Type 0 where
+  pub events : List (Event C)
+  pub world : FreeWorld C
+  pub run : Run nodes x events world
+  pub mirrors : Mirrors w world
+
 -- the packet was sent, and is a leader's AppendEntries, with entries or none. Its destination is up, and once it has
 -- heard of the packet's term it is in no later one
 pub record ComesInItsTerm {S C O : Type 0} (w : RaftWorld S C O) (p : Packet (RaftMsg C)) (a : AppendView C) : Type 0 where
@@ -37,9 +44,20 @@ pub record ComesInItsTerm {S C O : Type 0} (w : RaftWorld S C O) (p : Packet (Ra
   pub term : (heard a.term (w.state p.destination)).ballot.term ≡ a.term
 
 module _ (S C O : Type 0) where
-  -- a cluster does nothing that free choices don't allow
+  -- a cluster does nothing that free choices don't allow: two moments of a run of theirs mirror any two moments of it
   abbrev pub IsFree : Type 0
   IsFree = (m : MachineMeaning S C O) (nodes : ℕ) (v w : RaftWorld S C O) → AreMoments m nodes v w → AreMirrored nodes v w
+
+  -- and step by step: the first free world mirrors the first one of a cluster
+  abbrev pub FirstIsFree : Type 0
+  FirstIsFree = (m : MachineMeaning S C O) (nodes : ℕ) → Mirrors (world_after m nodes []) (first_world C)
+
+  -- and from each free world that mirrors one of a run, free choices lead on to one that mirrors the next: so one run of
+  -- theirs follows the whole run
+  abbrev pub StepIsFree : Type 0
+  StepIsFree =
+      (m : MachineMeaning S C O) (nodes : ℕ) (ss : List (Step (RaftInput C))) (s : Step (RaftInput C)) (x : FreeWorld C) → IsRun m nodes (ss ++ s ∷ []) →
+      Mirrors (world_after m nodes ss) x → LeadOn nodes x (world_after m nodes (ss ++ s ∷ []))
 
   -- no two nodes lead in one term
   abbrev pub ElectionSafety : Type 0
@@ -61,8 +79,9 @@ module _ (S C O : Type 0) where
       take k (log_at v i) ≡ take k (log_at w j)
 
   -- what a node has committed, or knows to be, with all before it, is in the log of each leader of a term over the
-  -- node's: of one that leads later. Right after a leader commits by the rule (the Raft paper, 5.4.2), its commit is that
-  -- index and its term is the commit's, so this covers what is committed in a term, and the leaders of all greater ones
+  -- node's: of one that leads later. Right after a leader commits by the rule (the Raft paper, section 5.4.2), its commit
+  -- is that index and its term the commit's: so this and the next cover what is committed in a term, whether the other
+  -- leader leads later or led before
   abbrev pub LeaderCompleteness : Type 0
   LeaderCompleteness =
       (m : MachineMeaning S C O) (nodes : ℕ) (v w : RaftWorld S C O) (i j k term : ℕ) → AreMoments m nodes v w →

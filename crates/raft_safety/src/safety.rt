@@ -17,7 +17,7 @@ pub fn runs_are_safe<M: Machine>()
 
     // What a node knows to be committed, with all before it, is in the log of each leader of a greater term,
     // whether it leads later or led before. Right after a leader commits by the rule, its commit is that index
-    // and its term the commit's, so this covers what is committed in a term.
+    // and its term the commit's, so the two cover what is committed in a term.
     ensures leader_completeness { LeaderCompleteness M.State M.Cmd M.Out }
     ensures leader_completeness_before { LeaderCompletenessBefore M.State M.Cmd M.Out }
 
