@@ -24,15 +24,15 @@ use Rattle.raft_xform.specs.Replicating.{last_new, may_take, moved_by, on_append
 use Rattle.raft_xform.specs.Sound.{HasTerm, IsInRange, IsSoundNode}
 use Rattle.raft_xform.proofs.Sounding.{sound_candidate, sound_caught_up, sound_committed, sound_follower, sound_granted, sound_heard, sound_known, sound_led, sound_proposed, sound_taken, sound_voted}
 
-candidate_in_a_term : (r : Role) (term : ℕ) → is_candidate r ≡ true → HasTerm r term → 1 ≤ term
+pub candidate_in_a_term : (r : Role) (term : ℕ) → is_candidate r ≡ true → HasTerm r term → 1 ≤ term
 candidate_in_a_term role.Follower term e h = absurd (false≢true e)
 candidate_in_a_term role.Candidate term e h = h
 candidate_in_a_term role.Leader term e h = h
 
-under : {n most : ℕ} → n ≤ most → eqb n most ≡ false → n < most
+pub under : {n most : ℕ} → n ≤ most → eqb n most ≡ false → n < most
 under h e = let d = eqb-false _ _ e in omega arith
 
-term_in_range : {C : Type 0} (message : RaftMsg C) → IsInRange message → term_of message ≤ MAX_TERM
+pub term_in_range : {C : Type 0} (message : RaftMsg C) → IsInRange message → term_of message ≤ MAX_TERM
 term_in_range (msg.RequestVote r) range = range
 term_in_range (msg.Vote v) range = range
 term_in_range (msg.Append a) range = range.0

@@ -1,4 +1,5 @@
 pub mod Doing
+pub mod InRange
 pub mod Keeping
 pub mod Lengths
 pub mod Sounding

@@ -1,5 +1,5 @@
 -- What the state of a node keeps to.
-use Rattle.std.specs.Prelude.{◌≡◌, ℕ, suc, ◌<◌, ◌≤◌, List, length, IfSome, IsTrue}
+use Rattle.std.specs.Prelude.{◌≡◌, ℕ, suc, ◌<◌, ◌≤◌, List, [], ◌∷◌, length, IfSome, IsTrue}
 use Rattle.std.specs.List.{All}
 use Rattle.vst_base.specs.Entries.{IsElectionTerm}
 use Rattle.vst_base.specs.declared.entry.TheConstants.{MAX_TERM}
@@ -53,3 +53,8 @@ pub record MaySend {S C O : Type 0} (s : RaftView S C O) : Type 0 where
   pub term : IsElectionTerm s.ballot.term
   pub commit : s.commit ≤ MAX_INDEX
   pub peers : All (IsPeer (length s.log)) s.peers
+
+-- each of these packets holds a message in its range
+abbrev pub AreInRange : {C : Type 0} → List (ℕ × RaftMsg C) → Type 0
+AreInRange [] = Unit {0}
+AreInRange (p ∷ ps) = IsInRange p.1 × AreInRange ps

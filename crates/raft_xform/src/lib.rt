@@ -10,11 +10,13 @@ mod replicating;
 mod role;
 mod seat;
 mod sending;
+mod soundness;
 mod state;
 
 pub use examples::{worked_elections, worked_refusals, worked_replication, worked_runs};
 pub use raft::Raft;
 pub use role::Role;
+pub use soundness::{events_keep_a_node_sound, sends_are_in_range};
 pub use state::RaftState;
 
 #[cfg(test)]

@@ -33,8 +33,7 @@ pub(crate) fn ask_others<S, C: Drop, O: Drop>(
     ensures outputs { effects.new.outputs ≡ effects.old.outputs }
 {
     for n in 0..seat.nodes {
-        let to = Node::new(n, seat.nodes).unwrap();
-        if to != seat.me {
+        if let Some(to) = seat.other(n) {
             effects.send(to, request(state));
         }
     }
@@ -78,8 +77,7 @@ pub(crate) fn append_to_others<M: Machine>(
     ensures outputs { OnOk result (effects.new.outputs ≡ effects.old.outputs) }
 {
     for n in 0..seat.nodes {
-        let to = Node::new(n, seat.nodes).unwrap();
-        if to != seat.me {
+        if let Some(to) = seat.other(n) {
             effects.send(to, append(alloc, machine, state, to)?);
         }
     }
