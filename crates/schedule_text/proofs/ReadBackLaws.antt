@@ -19,7 +19,7 @@ use Rattle.schedule_text.proofs.NumeralLaws.{number_of-decimal, own}
 cut-digit : (b : ℕ) (bs ds text : List ℕ) → (b ≡ 32 → ⊥) → cut bs ≡ Some (ds, text) → cut (b ∷ bs) ≡ Some (b ∷ ds, text)
 cut-digit b bs ds text other e = rw (ne_eqb b 32 other, e) refl
 
-cut-digits : (ds text : List ℕ) → list_all is_digit ds ≡ true → cut (ds ++ 32 ∷ text) ≡ Some (ds, text)
+pub cut-digits : (ds text : List ℕ) → list_all is_digit ds ≡ true → cut (ds ++ 32 ∷ text) ≡ Some (ds, text)
 cut-digits [] text all = refl
 cut-digits (d ∷ ds) text all =
     let parts : (is_digit d ≡ true) × (list_all is_digit ds ≡ true) = and_parts (is_digit d) (list_all is_digit ds) all in

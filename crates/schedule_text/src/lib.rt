@@ -30,7 +30,7 @@ pub use reading::{MAX_EVENTS, MAX_LINES};
 pub use sinks::{print_step, print_steps, print_text, print_trace};
 pub use skips::is_skipped;
 pub use streams::{read_header, read_step};
-pub use words::{MAX_NUMBER, number_of, word_of};
+pub use words::{MAX_NUMBER, number_of, number_up_to, word_of};
 
 #[cfg(test)]
 mod tests;

@@ -1,4 +1,4 @@
-ghost use Rattle.std.specs.Prelude.{◌≡◌, ◌≤◌};
+ghost use Rattle.std.specs.Prelude.{◌≡◌, ◌≤◌, IfSome};
 ghost use Rattle.std.specs.Option.{SomeIff};
 ghost use Rattle.std.specs.List.{list_all};
 ghost use Rattle.schedule_text.specs.Words.{is_digit, is_numeral, is_text, kind_named, number_up_to, value_from, word_of};
@@ -31,28 +31,39 @@ fn is_numeral(bytes: &[u8]) -> bool
     }
 }
 
-// The number that digits spell, if it is at most `MAX_NUMBER`.
-fn value_of(digits: &[u8]) -> Option<u32>
-    ensures { SomeIff result (value_from 0 digits.now ≤ 4294967295) (value_from 0 digits.now) }
+// The number that digits spell, if it is at most this one.
+fn value_of(digits: &[u8], most: u64) -> Option<u64>
+    ensures { SomeIff result (value_from 0 digits.now ≤ most) (value_from 0 digits.now) }
 {
-    let mut value = 0u64;
+    let mut value = 0u128;
     for digit in digits {
-        value = 10 * value + u64::from(digit.saturating_sub(b'0'));
-        if value > MAX_NUMBER {
+        value = 10 * value + u128::from(digit.saturating_sub(b'0'));
+        if value > u128::from(most) {
             return None;
         }
     }
-    Some(value as u32)
+    Some(value as u64)
+}
+
+/// The number that bytes spell: digits without a sign or a leading zero, at most this one.
+pub fn number_up_to(bytes: &[u8], most: u64) -> Option<u64>
+    ensures value { result ≡ number_up_to most bytes.now }
+    ensures in_range { IfSome result (λ n. n ≤ most) }
+{
+    if is_numeral(bytes) {
+        value_of(bytes, most)
+    } else {
+        None
+    }
 }
 
 /// The number that bytes spell: digits without a sign or a leading zero, at most 4,294,967,295.
 pub fn number_of(bytes: &[u8]) -> Option<u32>
     ensures { result ≡ number_up_to 4294967295 bytes.now }
 {
-    if is_numeral(bytes) {
-        value_of(bytes)
-    } else {
-        None
+    match number_up_to(bytes, MAX_NUMBER) {
+        Some(n) => Some(n as u32),
+        None => None,
     }
 }
 

@@ -2,8 +2,8 @@ use Rattle.std.proofs.Common.{◌+◌, ◌*◌, ◌-◌, drop, get_or, arith}
 use Rattle.schedule_text.proofs.NumberLaws.{value_from-grows, value_from-next}
 use Rattle.schedule_text.proofs.words.value_of.Goals as goal
 
-pub returns-then-value-gt-MAX_NUMBER : goal.returns-then-value-gt-MAX_NUMBER
-returns-then-value-gt-MAX_NUMBER c = λ small.
+pub returns-then-value-from : goal.returns-then-value-from
+returns-then-value-from c = λ small.
     let bs = c.args.digits.now in
     let i = c.loop-digit.digit-index in
     let v = c.loop-digit.value in

@@ -6,5 +6,5 @@ use Rattle.schedule_text.proofs.words.value_of.Given as goal
 abbrev pub invariant-loop-digit : goal.invariant-loop-digit
 invariant-loop-digit l = record {
   rest : value_from l.value (drop l.digit-index l.digits) ≡ value_from 0 l.digits;
-  small : l.value ≤ 4294967295;
+  small : l.value ≤ l.most;
 }
