@@ -1,0 +1,3 @@
+pub mod NameViews
+pub mod RaftTextLaws
+pub mod RaftTexts
