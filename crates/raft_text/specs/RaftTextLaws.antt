@@ -1,5 +1,5 @@
 -- Each request and each answer of a cluster has one text, where the machine's commands and outputs have one.
-use Rattle.std.specs.Prelude.{◌≡◌, ◌==◌, ◌^◌, ◌<◌, ℕ, Bool, true, false, nat_le, List, [], ◌∷◌, ◌++◌, Option, None, Some, codes, refl, option_map, option_and_then, cond, if◌then◌else◌}
+use Rattle.std.specs.Prelude.{◌≡◌, ◌==◌, ℕ, Bool, true, false, nat_le, List, [], ◌∷◌, ◌++◌, Option, None, Some, codes, refl, option_map, option_and_then, cond, if◌then◌else◌}
 use Rattle.std.specs.Fmt.{decimal}
 use Rattle.std.specs.List.{list_all, list_any}
 use Rattle.std.proofs.Common.{sym, ap, subst, ◌∙◌, arith}
@@ -12,7 +12,7 @@ use Rattle.line_reader.specs.Cuts.{onto_cut}
 use Rattle.raft_types.specs.declared.client.RaftInput.{RaftInput}
 use Rattle.raft_types.specs.declared.client.RaftOut.{RaftOut}
 use Rattle.raft_types.specs.declared.client.RaftOut.TheVariants.{Reply, NotLeader, Full}
-use Rattle.schedule_text.specs.Words.{cut, is_digit, is_text}
+use Rattle.schedule_text.specs.Words.{cut, is_digit}
 use Rattle.schedule_text.proofs.NumeralLaws.{own, number_up_to-decimal, numeral_read}
 use Rattle.schedule_text.proofs.ReadBackLaws.{cut-digits}
 use Rattle.raft_text.specs.RaftTexts.{IsNumber, number_of, names_text, named_text, front_number, names_of, named_of, asked, IsRaftInput, raft_input_of, raft_input_text, IsRaftOutput, reply_of, answer_of, raft_output_of, raft_output_text}

@@ -1,8 +1,8 @@
-ghost use Rattle.std.specs.Prelude.{◌≡◌, None, Some, codes};
+ghost use Rattle.std.specs.Prelude.{◌≡◌, None, Some, codes, false, true};
 ghost use Rattle.app_text.specs.KvTexts.{input_of, input_text, kv_out, output_of, output_text};
-ghost use Rattle.raft_text.specs.RaftTexts.{asked, order_text, raft_input_of, raft_input_text, raft_output_of, raft_output_text};
+ghost use Rattle.raft_text.specs.RaftTexts.{asked, order_text, raft_input_of, raft_input_text, raft_output_of, raft_output_text, raft_replies};
 
-use kv_machine::KvCmd;
+use kv_machine::{KvCmd, KvOut};
 use raft_types::RaftOut;
 
 /// The texts of requests, and what is none.
@@ -34,4 +34,5 @@ pub fn worked_outputs()
     ensures no_number { (raft_output_of output_of (codes "reply 07 1 a - -") ≡ None) × (raft_output_of output_of (codes "notleader 7 01") ≡ None) × (raft_output_of output_of (codes "full 7 +1") ≡ None) }
     ensures spaces_over { (raft_output_of output_of (codes "reply  7 1 a - -") ≡ None) × (raft_output_of output_of (codes " notleader 7 1") ≡ None) × (raft_output_of output_of (codes "full 7  1") ≡ None) }
     ensures unknown_word { (raft_output_of output_of (codes "") ≡ None) × (raft_output_of output_of (codes "7 1 a - -") ≡ None) × (raft_output_of output_of (codes "Reply 7 1 a - -") ≡ None) × (raft_output_of output_of (codes "leader 7 1") ≡ None) × (raft_output_of output_of (codes "fuller 7 1") ≡ None) }
+    ensures replies { (raft_replies (RaftOut.Reply 7 1 (kv_out (codes "a") None None)) ≡ true) × (raft_replies {O = KvOut} (RaftOut.NotLeader 7 1) ≡ false) × (raft_replies {O = KvOut} (RaftOut.Full 7 1) ≡ false) }
 {}
