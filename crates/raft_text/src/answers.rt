@@ -8,7 +8,7 @@ use raft_types::RaftOut;
 use std::alloc::Global;
 use vst_base::{ClientId, ReqId};
 
-// A client and a request of its, and nothing behind them.
+// A client and a request of its own, and nothing behind them.
 fn read_names(text: &[u8]) -> Result<(ClientId, ReqId), TextFault>
     ensures { Reads result (names_of text.now) }
 {

@@ -16,7 +16,7 @@ fn front_number(text: &[u8]) -> Option<(u64, &[u8])>
     Some((number, rest))
 }
 
-// A client and a request of its, and nothing behind them.
+// A client and a request of its own, and nothing behind them.
 pub(crate) fn names_of(text: &[u8]) -> Option<(ClientId, ReqId)>
     ensures { result ≡ names_of text.now }
 {
@@ -25,7 +25,7 @@ pub(crate) fn names_of(text: &[u8]) -> Option<(ClientId, ReqId)>
     Some((ClientId::new(client), ReqId::new(request)))
 }
 
-// A client, a request of its, and what stands behind the space after them.
+// A client, a request of its own, and what stands behind the space after them.
 pub(crate) fn named_of(text: &[u8]) -> Option<(ClientId, ReqId, &[u8])>
     ensures { named_view result ≡ named_of text.now }
 {
