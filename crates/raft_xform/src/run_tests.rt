@@ -142,6 +142,26 @@ fn an_old_entry_is_committed_with_a_new_one(rt: HostRuntime) -> Result<(), Fail>
     Ok(())
 }
 
+// A leader's timer sends again what was lost.
+#[test]
+fn a_leader_sends_again_what_was_lost(rt: HostRuntime) -> Result<(), Fail> {
+    let steps = [
+        Step::Tick(0),
+        Step::Deliver(0),
+        Step::Deliver(2),
+        Step::In(0, asks(1, 5)),
+        Step::Lose(5),
+        Step::Lose(6),
+        Step::Tick(0),
+        Step::Deliver(7),
+        Step::Deliver(9),
+    ];
+    let trace = trace_of(rt.alloc(), Raft::new(Counter, 3), &steps)?;
+    let seen = [asked(0, 1, 5), replied(0, 1, 0)];
+    assert_eq!(rt; trace.items(), seen.as_slice());
+    Ok(())
+}
+
 #[test]
 fn a_new_leader_gives_the_old_ones_reply_again(rt: HostRuntime) -> Result<(), Fail> {
     let steps = [
