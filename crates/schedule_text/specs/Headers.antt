@@ -46,6 +46,7 @@ rows =
     ∷ record { net = net.Bag; stack = stack.KvPb; least = 2; most = 2 }
     ∷ record { net = net.Dup; stack = stack.KvPbSeq; least = 2; most = 2 }
     ∷ record { net = net.One; stack = stack.Kv; least = 1; most = 1 }
+    ∷ record { net = net.Fail; stack = stack.KvRaft; least = 1; most = 5 }
     ∷ []
 
 -- a header by a pairing, and by one of several

@@ -55,8 +55,16 @@ const KV: Row = Row {
     most: 1,
 };
 
+// A Raft cluster of key-value machines, on a network that loses packets and whose nodes crash.
+const KV_RAFT: Row = Row {
+    net: Net::Fail,
+    stack: StackId::KvRaft,
+    least: 1,
+    most: 5,
+};
+
 // The pairings that there are. A line is tried by each in this order.
-const ROWS: &[Row] = &[LOCK, LOCK_SEQ, KV_PB, KV_PB_SEQ, KV];
+const ROWS: &[Row] = &[LOCK, LOCK_SEQ, KV_PB, KV_PB_SEQ, KV, KV_RAFT];
 
 fn net_word(net: Net) -> &'static [u8]
     ensures { result.now ≡ net_word net }

@@ -1,20 +1,21 @@
-ghost use Rattle.std.specs.Prelude.{◌≡◌, ℕ, ◌+◌, ◌<◌, ◌≤◌, List, length, map, None, Some};
+ghost use Rattle.std.specs.Prelude.{◌≡◌, ℕ, ◌+◌, ◌^◌, ◌<◌, ◌≤◌, List, length, map, None, Some};
 ghost use Rattle.std.specs.Fmt.{decimal};
 ghost use Rattle.line_reader.specs.Lines.{lines_of};
 ghost use Rattle.schedule_text.specs.Schedules.{script};
 ghost use Rattle.schedule_text.specs.Headers.{IsHeader, header_of, header_text};
 ghost use Rattle.schedule_text.specs.declared.header.Header.{Header};
 ghost use Rattle.schedule_text.specs.Printing.{step_text, steps_text};
-ghost use Rattle.schedule_text.specs.Reading.{number_of, step_of};
+ghost use Rattle.schedule_text.specs.Reading.{step_of};
 ghost use Rattle.schedule_text.specs.Spellable.{AreSpellable, IsSpellable, numbered_steps};
+ghost use Rattle.schedule_text.specs.Words.{number_up_to};
 
 use app_text::AppText;
 use vst_base::{Net, StackId, Step};
 
-/// Each number in range has one spelling, its decimal digits.
+/// Up to any limit of 64 bits each number has one spelling, its decimal digits.
 pub fn numbers_have_one_spelling()
-    ensures reads_back { (n : ℕ) → n < 4294967296 → number_of (decimal n) ≡ Some n }
-    ensures one_spelling { (bs : List ℕ) (n : ℕ) → number_of bs ≡ Some n → bs ≡ decimal n }
+    ensures reads_back { (most n : ℕ) → most < 2 ^ 64 → n ≤ most → number_up_to most (decimal n) ≡ Some n }
+    ensures one_spelling { (most : ℕ) (bs : List ℕ) (n : ℕ) → most < 2 ^ 64 → number_up_to most bs ≡ Some n → bs ≡ decimal n }
 {}
 
 /// The text of a step is read as the step, where its number is in range and its input has a text, as each that is

@@ -18,16 +18,16 @@ fn push_numbered(out: &mut Vec<u8>, word: &[u8], n: u32) -> Result<(), AllocErro
     push_number(out, n)
 }
 
-// What has a line of its own, where an application says how its inputs and outputs are spelled.
-pub(crate) trait Printed<A: AppText> {
-    // How it is spelled.
+/// What has a line of its own, where an application says how its inputs and outputs are spelled.
+pub trait Printed<A: AppText> {
+    /// How it is spelled.
     ghost text: { Self → List ℕ };
 
-    // Adds its text, without a newline.
+    /// Adds its text at the end, without a newline. At an `Err` it may have added a part.
     fn push_text(&self, out: &mut Vec<u8>) -> Result<(), AllocError>
         ensures { OnOk result (out.new.items ≡ out.old.items ++ text self.now) };
 
-    // Adds its line.
+    /// Adds its line at the end. At an `Err` it may have added a part.
     fn push_line(&self, out: &mut Vec<u8>) -> Result<(), AllocError>
         ensures { OnOk result (out.new.items ≡ out.old.items ++ as_line (text self.now)) }
     {

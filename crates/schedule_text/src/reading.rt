@@ -49,8 +49,8 @@ fn step_line<A: AppText>(
     }
 }
 
-// What a line behind the header says that is neither too long nor one too many, behind so many events.
-pub(crate) fn line_says<A: AppText>(
+/// What a line behind the header says that is neither too long nor one too many, behind so many events.
+pub fn line_says<A: AppText>(
     alloc: Global,
     events: u32,
     line: &[u8],

@@ -49,8 +49,9 @@ fn spill<K: Sink>(sink: &mut K, text: &mut Vec<u8>) -> Result<(), LineFault>
     Ok(())
 }
 
-// Writes lines, in order.
-fn print_lines<A: AppText, P: Printed<A>, K: Sink>(
+/// Writes a line for each of some things, in order. At an `Err`, which is `Write` or `Memory`, a front of them was
+/// written.
+pub fn print_lines<A: AppText, P: Printed<A>, K: Sink>(
     alloc: Global,
     sink: &mut K,
     lines: &[P],

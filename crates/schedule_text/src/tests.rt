@@ -115,7 +115,11 @@ fn event_one_million_is_the_last(rt: HostRuntime) -> Result<(), Fail> {
 
 #[test]
 fn a_header_is_read_and_printed_alike(rt: HostRuntime) -> Result<(), Fail> {
-    for line in ["schedule 1 bag lock 3", "schedule 1 dup lock/seq 9"] {
+    for line in [
+        "schedule 1 bag lock 3",
+        "schedule 1 dup lock/seq 9",
+        "schedule 1 fail kv/raft 5",
+    ] {
         let header = header_of(line.as_bytes()).ok_or("no header")?;
         let mut out = Vec::new(rt.alloc());
         header.push_text(&mut out)?;
@@ -123,6 +127,7 @@ fn a_header_is_read_and_printed_alike(rt: HostRuntime) -> Result<(), Fail> {
     }
     assert_eq!(rt; header_of(b"schedule 1 bag lock 10"), None);
     assert_eq!(rt; header_of(b"schedule 1 dup lock/seq 10"), None);
+    assert_eq!(rt; header_of(b"schedule 1 fail kv/raft 6"), None);
     Ok(())
 }
 

@@ -10,3 +10,7 @@ returns-clause-text c = refl
 pub returns-clause-numbered_text : goal.returns-clause-numbered_text
 unfolding digits
 returns-clause-numbered_text c = refl
+
+pub returns-clause-cluster_text : goal.returns-clause-cluster_text
+unfolding digits
+returns-clause-cluster_text c = refl
