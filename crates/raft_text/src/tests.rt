@@ -1,9 +1,14 @@
 use super::*;
-use app_text::{AppText, KvText, TextFault};
+use app_text::{AppText, TextFault};
+use kv_machine::KvCmd;
+use outside_mem::MemorySink;
 use raft_types::{RaftInput, RaftOut};
+use schedule_text::print_lines;
 use std::alloc::Global;
 use std::test::Fail;
 use vst_base::{ClientId, ReqId};
+
+type Request = RaftInput<KvCmd>;
 
 // The text of the input that a text spells.
 fn input_again<T: AppText>(alloc: Global, text: &[u8]) -> Result<Vec<u8>, Fail> {
@@ -96,10 +101,16 @@ fn the_two_numbers_are_the_client_and_its_request(rt: HostRuntime) -> Result<(),
 }
 
 #[test]
-fn the_order_names_a_request(rt: HostRuntime) -> Result<(), Fail> {
-    let input = KvRaftText::read_input(rt.alloc(), b"7 1 put a x")?;
-    let mut out = b"# ".to_vec(rt.alloc())?;
-    push_order::<KvText>(&input, &mut out)?;
-    assert_eq!(rt; out.as_slice(), b"# order 7 1 put a x".as_slice());
+fn an_order_is_a_line_for_each_request(rt: HostRuntime) -> Result<(), Fail> {
+    let alloc = rt.alloc();
+    let mut order = Vec::new(alloc);
+    order.push(KvRaftText::read_input(alloc, b"7 1 put a x")?)?;
+    order.push(KvRaftText::read_input(alloc, b"0 12 cas a =x -y")?)?;
+    let wanted = b"order 7 1 put a x\norder 0 12 cas a =x -y\n".as_slice();
+    for most in [1, 100] {
+        let mut sink = MemorySink::new(alloc, most, Vec::new(alloc), Vec::new(alloc));
+        print_lines::<KvRaftText, Request, MemorySink>(alloc, &mut sink, &order)?;
+        assert_eq!(rt; sink.written(), wanted);
+    }
     Ok(())
 }
