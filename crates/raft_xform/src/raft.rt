@@ -68,6 +68,13 @@ impl<M: Machine> Raft<M> {
         Raft { machine, nodes }
     }
 
+    /// The machine.
+    pub fn machine(&self) -> &M
+        ensures { result.now ≡ self.now.machine }
+    {
+        &self.machine
+    }
+
     // The node's place in the cluster.
     fn seat(&self, me: Node) -> Seat
         ensures { result ≡ record { me = me; nodes = self.now.nodes } }

@@ -5,13 +5,11 @@ ghost use Rattle.raft_types.specs.Ranges.{IsClusterSize};
 use super::tests::{Counter, asks};
 use super::*;
 use handler_trait::Rebootable;
-use kv_machine::{KvCmd, KvMachine};
 use net_semantics::{FailWorld, Trace};
 use raft_types::{RaftInput, RaftOut};
 use std::alloc::{AllocError, Global};
-use std::process::Abort;
 use std::test::Fail;
-use vst_base::{ClientId, Item, Key, Node, ReqId, Step, StepRefusal, Value};
+use vst_base::{ClientId, Item, Node, ReqId, Step, StepRefusal};
 
 // What clients see of these steps.
 fn trace_of<H: Rebootable>(
@@ -72,41 +70,6 @@ fn one_node_replies_at_once(rt: HostRuntime) -> Result<(), Fail> {
     Ok(())
 }
 
-#[test]
-fn a_request_again_after_a_reboot_gets_the_same_reply(rt: HostRuntime) -> Result<(), Fail> {
-    let steps = [
-        Step::Tick(0),
-        Step::In(0, asks(1, 5)),
-        Step::Crash(0),
-        Step::Reboot(0),
-        Step::Tick(0),
-        Step::In(0, asks(1, 6)),
-    ];
-    let trace = trace_of(rt.alloc(), Raft::new(Counter, 1), &steps)?;
-    let seen = [
-        asked(0, 1, 5),
-        replied(0, 1, 0),
-        asked(0, 1, 6),
-        replied(0, 1, 0),
-        replied(0, 1, 0),
-    ];
-    assert_eq!(rt; trace.items(), seen.as_slice());
-    Ok(())
-}
-
-#[test]
-fn a_late_lower_number_is_not_answered(rt: HostRuntime) -> Result<(), Fail> {
-    let steps = [
-        Step::Tick(0),
-        Step::In(0, asks(2, 5)),
-        Step::In(0, asks(1, 6)),
-    ];
-    let trace = trace_of(rt.alloc(), Raft::new(Counter, 1), &steps)?;
-    let seen = [asked(0, 2, 5), replied(0, 2, 0), asked(0, 1, 6)];
-    assert_eq!(rt; trace.items(), seen.as_slice());
-    Ok(())
-}
-
 // At three nodes, as in Figure 8 of the Raft paper: node 0 takes a request, stops, is elected again, and has its
 // old entry on a majority. With an entry of its new term on a majority, both are committed.
 #[test]
@@ -158,67 +121,6 @@ fn a_leader_sends_again_what_was_lost(rt: HostRuntime) -> Result<(), Fail> {
     ];
     let trace = trace_of(rt.alloc(), Raft::new(Counter, 3), &steps)?;
     let seen = [asked(0, 1, 5), replied(0, 1, 0)];
-    assert_eq!(rt; trace.items(), seen.as_slice());
-    Ok(())
-}
-
-#[test]
-fn a_new_leader_gives_the_old_ones_reply_again(rt: HostRuntime) -> Result<(), Fail> {
-    let steps = [
-        Step::Tick(0),
-        Step::Deliver(0),
-        Step::Deliver(2),
-        Step::In(0, asks(1, 5)),
-        Step::Deliver(5),
-        Step::Deliver(7),
-        Step::Tick(1),
-        Step::Deliver(9),
-        Step::Deliver(10),
-        Step::In(1, asks(1, 5)),
-        Step::Deliver(13),
-        Step::Deliver(15),
-    ];
-    let seen = [
-        asked(0, 1, 5),
-        replied(0, 1, 0),
-        asked(1, 1, 5),
-        replied(1, 1, 0),
-    ];
-    let trace = trace_of(rt.alloc(), Raft::new(Counter, 3), &steps)?;
-    assert_eq!(rt; trace.items(), seen.as_slice());
-    Ok(())
-}
-
-// Client 7's first request: put a x.
-fn put_a_x(alloc: Global) -> Result<RaftInput<KvCmd>, Fail> {
-    let key = Key::new(alloc, b"a")?.ok_or("a key")?;
-    let value = Value::new(alloc, b"x")?.ok_or("a value")?;
-    Ok(RaftInput {
-        client: ClientId::new(7),
-        request: ReqId::new(1),
-        cmd: KvCmd::Put(key, value),
-    })
-}
-
-#[test]
-fn a_vote_outlives_a_reboot(rt: HostRuntime) -> Result<(), Fail> {
-    let (client, request) = (ClientId::new(7), ReqId::new(1));
-    let steps = [
-        Step::Tick(0),
-        Step::Deliver(0),
-        Step::Crash(1),
-        Step::Reboot(1),
-        Step::Tick(2),
-        Step::Deliver(4),
-        Step::Deliver(5),
-        Step::In(2, put_a_x(rt.alloc())?),
-    ];
-    let trace = trace_of(rt.alloc(), Raft::new(KvMachine, 3), &steps)?;
-    let node = Node::new(2, 3).unwrap();
-    let seen = [
-        Item::Input(node, put_a_x(rt.alloc())?),
-        Item::Output(node, RaftOut::NotLeader { client, request }),
-    ];
     assert_eq!(rt; trace.items(), seen.as_slice());
     Ok(())
 }
