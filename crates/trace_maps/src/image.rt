@@ -27,6 +27,13 @@ impl<G: Drop> Image<G> {
         }
     }
 
+    /// These lines.
+    pub fn from_lines(lines: Vec<G>) -> Self
+        ensures { result ≡ lines.items }
+    {
+        Image { lines }
+    }
+
     /// Its lines, in order.
     pub fn lines(&self) -> &[G]
         ensures { result.now ≡ self.now }
