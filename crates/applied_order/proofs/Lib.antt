@@ -1,0 +1,4 @@
+pub mod Adding
+pub mod CatchingUp
+pub mod Following
+pub mod Shown

@@ -1,0 +1,53 @@
+-- What is kept of what a cluster has applied, as it grows.
+use Rattle.std.specs.Prelude.{◌≡◌, ℕ, ◌<◌, List, [], ◌∷◌, ◌++◌, length, map, IfSome, refl}
+use base.Stored.{coded_unit}
+use Rattle.std.specs.Coded.{Coded, code_by, coded×, coded_list, coded_ℕ}
+use Rattle.std.specs.FinMap.{get}
+use Rattle.net_semantics.specs.ShownFail.{FailView, IsSoundFail, ShowsFail}
+use Rattle.vst_base.specs.Machines.{MachineMeaning}
+use Rattle.vst_base.specs.declared.entry.Entry.{Entry}
+use Rattle.vst_base.specs.declared.step.Step.{Step}
+use Rattle.raft_clients.specs.Executed.{exceeds, executed}
+use Rattle.raft_clients.specs.Sessions.{Sessions, is_new, sessions_code}
+use Rattle.raft_safety.specs.Applied.{applied_by, request_of}
+use Rattle.raft_safety.specs.Runs.{IsRun, world_after}
+use Rattle.raft_types.specs.Keeping.{KeptView}
+use Rattle.raft_types.specs.declared.client.RaftInput.{RaftInput}
+use Rattle.raft_types.specs.declared.client.RaftOut.{RaftOut}
+use Rattle.raft_types.specs.declared.msg.RaftMsg.{RaftMsg}
+use Rattle.raft_xform.specs.Nodes.{RaftView}
+use Rattle.raft_xform.specs.Raft.{raft}
+use Rattle.raft_xform.specs.Sound.{IsSoundNode}
+
+-- how many entries there are, the greatest request number of each client in them, as a session with no output, and the
+-- requests of them that were executed, in order
+pub record OrderView (C : Type 0) : Type 0 where
+  pub entries : ℕ
+  pub greatest : Sessions (Unit {0})
+  pub requests : List (RaftInput C)
+
+abbrev request_code : {C : Type 0} → Coded C → Coded (RaftInput C)
+request_code {C} cmd =
+    code_by (ℕ × (ℕ × C)) (coded× coded_ℕ (coded× coded_ℕ cmd)) (λ r. (r.client, (r.request, r.cmd)))
+    (λ p. record { client = p.0; request = p.1.0; cmd = p.1.1 }) (λ _. refl)
+
+abbrev pub order_code : {C : Type 0} → Coded C → Coded (OrderView C)
+order_code {C} cmd =
+    code_by (ℕ × (Sessions (Unit {0}) × List (RaftInput C))) (coded× coded_ℕ (coded× (sessions_code coded_unit) (coded_list (request_code cmd))))
+    (λ o. (o.entries, (o.greatest, o.requests))) (λ p. record { entries = p.0; greatest = p.1.0; requests = p.1.1 }) (λ _. refl)
+
+-- it is what is kept of these entries: it tells of each further request whether its number exceeds all of its client
+pub record HasFollowed {C : Type 0} (o : OrderView C) (es : List (Entry C)) : Type 0 where
+  pub entries : o.entries ≡ length es
+  pub greatest : (client request : ℕ) → exceeds es client request ≡ is_new (get o.greatest client) request
+  pub requests : o.requests ≡ map request_of (executed es)
+
+-- what holds of a world of a cluster when it is made and after each step that doesn't answer want of memory
+abbrev pub IsSoundCluster : {H S C O : Type 0} → MachineMeaning S C O → ℕ → FailView H (RaftView S C O) (KeptView C) (RaftInput C) (RaftOut O) (RaftMsg C) → Type 0
+IsSoundCluster m nodes world = IsSoundFail (raft nodes m) (IsSoundNode nodes) (λ _. 0) (λ kept. IfSome kept.voted (λ node. node < nodes)) world
+
+-- where the world is the one behind the steps and one more, and the steps were followed, so is the one more
+abbrev pub FollowsStep : {H S C O : Type 0} → MachineMeaning S C O → ℕ → FailView H (RaftView S C O) (KeptView C) (RaftInput C) (RaftOut O) (RaftMsg C) → OrderView C → OrderView C → Type 0
+FollowsStep {C = C} m nodes world old new =
+    (ss : List (Step (RaftInput C))) (s : Step (RaftInput C)) → IsRun m nodes (ss ++ s ∷ []) → ShowsFail nodes world (world_after m nodes (ss ++ s ∷ [])) →
+    HasFollowed old (applied_by m nodes ss) → HasFollowed new (applied_by m nodes (ss ++ s ∷ []))
