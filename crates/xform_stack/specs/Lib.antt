@@ -1,2 +1,3 @@
+pub mod Clusters
 pub mod Running
 pub mod RunningLaws

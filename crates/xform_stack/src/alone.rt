@@ -4,7 +4,7 @@ ghost use Rattle.single_node.specs.Commands.{commands};
 ghost use Rattle.single_node.specs.SingleNode.{single_node};
 ghost use Rattle.xform_stack.specs.Running.{IsRunRefusal};
 
-use crate::run::run_on;
+use crate::run::run_mapped;
 use crate::{Ran, RunFault};
 use single_node::{SingleNode, is_the_machine};
 use std::alloc::Global;
@@ -25,5 +25,5 @@ pub fn run_one<M: Machine>(
     ensures refused { IfErr result (λ why. IsRunRefusal why (first_refused Net.One (single_node (M.meaning machine)) no_recovery steps.now)) }
 {
     is_the_machine::<M>();
-    run_on::<SingleNode<M>, Itself<M::Cmd>>(alloc, SingleNode::new(machine), Net::One, steps)
+    run_mapped::<SingleNode<M>, Itself<M::Cmd>>(alloc, SingleNode::new(machine), Net::One, steps)
 }

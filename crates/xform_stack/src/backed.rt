@@ -6,7 +6,7 @@ ghost use Rattle.seqnum_xform.specs.Numbering.{sequence_numbered};
 ghost use Rattle.trace_maps.specs.Replying.{alone};
 ghost use Rattle.xform_stack.specs.Running.{IsRunRefusal};
 
-use crate::run::run_on;
+use crate::run::run_mapped;
 use crate::{Ran, RunFault};
 use primary_backup::{PrimaryBackup, one_machine_explains};
 use seqnum_xform::{SeqNum, repeats_do_nothing};
@@ -30,7 +30,7 @@ pub fn run_backed<M: Machine>(
     ensures refused { IfErr result (λ why. IsRunRefusal why (first_refused Net.Bag (primary_backup (M.meaning machine)) no_recovery steps.now)) }
 {
     one_machine_explains::<M>();
-    run_on::<PrimaryBackup<M>, RepliedTo<M::Cmd>>(
+    run_mapped::<PrimaryBackup<M>, RepliedTo<M::Cmd>>(
         alloc,
         PrimaryBackup::new(machine),
         Net::Bag,
@@ -54,7 +54,7 @@ pub fn run_backed_dup<M: Machine>(
 {
     one_machine_explains::<M>();
     repeats_do_nothing::<PrimaryBackup<M>>();
-    run_on::<SeqNum<PrimaryBackup<M>>, RepliedTo<M::Cmd>>(
+    run_mapped::<SeqNum<PrimaryBackup<M>>, RepliedTo<M::Cmd>>(
         alloc,
         SeqNum::new(PrimaryBackup::new(machine)),
         Net::Dup,

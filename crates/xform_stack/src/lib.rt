@@ -4,17 +4,23 @@
 
 mod alone;
 mod backed;
+mod cluster;
+mod failing;
 mod laws;
 mod ran;
 mod run;
 mod running;
+mod runs;
 
 pub use alone::run_one;
 pub use backed::{run_backed, run_backed_dup};
+pub use cluster::RunningCluster;
+pub use failing::run_fail;
 pub use laws::numbered_lock_excludes;
 pub use ran::{Ran, RunFault};
 pub use run::{run_bag, run_dup};
 pub use running::Running;
+pub use runs::Runs;
 pub use seqnum_xform::SeqNum;
 pub use trace_maps::{Image, Itself, RepliedTo, TraceMap, WithoutRepeats};
 

@@ -2,9 +2,10 @@ ghost use Rattle.std.specs.Prelude.{max};
 
 use super::*;
 use net_semantics::Trace;
+use raft_types::{RaftInput, RaftOut};
 use std::alloc::{AllocError, Global};
 use std::test::Fail;
-use vst_base::{Item, Machine, Node, PbOut, Step, StepRefusal};
+use vst_base::{ClientId, Item, Machine, Node, PbOut, ReqId, Step, StepRefusal};
 
 // A machine that keeps the greatest command, and answers with the greatest before.
 #[derive(Drop)]
@@ -102,5 +103,50 @@ fn copies_of_numbered_packets_change_nothing_below(rt: HostRuntime) -> Result<()
     assert!(rt; is_seen(&ran.trace));
     let image = [Step::In(0, 5)];
     assert_eq!(rt; ran.image.lines(), image.as_slice());
+    Ok(())
+}
+
+// Client 7's request of this number.
+fn asks(request: u64, cmd: u8) -> RaftInput<u8> {
+    RaftInput {
+        client: ClientId::new(7),
+        request: ReqId::new(request),
+        cmd,
+    }
+}
+
+// It is answered so.
+fn replies(request: u64, output: u8) -> RaftOut<u8> {
+    RaftOut::Reply {
+        client: ClientId::new(7),
+        request: ReqId::new(request),
+        output,
+    }
+}
+
+#[test]
+fn the_order_has_what_was_executed(rt: HostRuntime) -> Result<(), Fail> {
+    let steps = [
+        Step::Tick(0),
+        Step::In(0, asks(2, 5)),
+        Step::In(0, asks(2, 6)),
+        Step::In(0, asks(1, 9)),
+        Step::Crash(0),
+        Step::Reboot(0),
+    ];
+    let ran = run_fail(rt.alloc(), Greatest, 1, &steps)?;
+    let node = Node::new(0, 1).unwrap();
+    let seen = [
+        Item::Input(node, asks(2, 5)),
+        Item::Output(node, replies(2, 0)),
+        Item::Input(node, asks(2, 6)),
+        Item::Output(node, replies(2, 0)),
+        Item::Input(node, asks(1, 9)),
+    ];
+    assert!(rt; ran.trace.items() == seen.as_slice());
+    let order = [asks(2, 5)];
+    assert_eq!(rt; ran.image.lines(), order.as_slice());
+    let refused = run_fail(rt.alloc(), Greatest, 1, &[Step::Tick(0), Step::Reboot(0)]);
+    assert!(rt; matches!(refused, Err(RunFault::Step(StepRefusal::NodeUp, 1))));
     Ok(())
 }

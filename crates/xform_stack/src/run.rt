@@ -1,18 +1,37 @@
-ghost use Rattle.std.specs.Prelude.{◌≡◌, ◌≢◌, ◌≤◌, length, None, OnOk, IfOk, IfErr};
+ghost use Rattle.std.specs.Prelude.{◌≡◌, ◌≢◌, ◌≤◌, [], length, None, OnOk, IfOk, IfErr};
 ghost use Rattle.net_semantics.specs.Once.{once};
 ghost use Rattle.net_semantics.specs.Runs.{IsAllowed, first_refused, trace, no_recovery};
 ghost use Rattle.seqnum_xform.specs.Numbering.{sequence_numbered};
-ghost use Rattle.xform_stack.specs.Running.{IsRunRefusal};
+ghost use Rattle.xform_stack.specs.Running.{HasRun, IsRunRefusal};
 
-use crate::{Ran, RunFault, Running};
+use crate::{Ran, RunFault, Running, Runs};
 use handler_trait::Handlers;
 use seqnum_xform::{SeqNum, repeats_do_nothing};
 use std::alloc::Global;
 use trace_maps::{Itself, TraceMap, WithoutRepeats};
 use vst_base::{Net, Step};
 
-// Runs a schedule of handlers on a network, with its image by a map.
-pub(crate) fn run_on<H: Handlers, T: TraceMap<H>>(
+// Runs a schedule to its end, or to the first step that is refused.
+pub(crate) fn run_on<R: Runs>(
+    mut running: R,
+    steps: &[Step<R::Input>],
+) -> Result<Ran<R::Input, R::Output, R::Line>, RunFault>
+    requires started { HasRun (R.system running) R.follows R.progress [] [] running }
+    requires sound { R.sound running }
+    requires few { length steps.now ≤ 1000000 }
+    ensures allowed { OnOk result (first_refused (R.system running).net (R.system running).meaning (R.system running).recovery steps.now ≡ None) }
+    ensures trace { IfOk result (λ ran. ran.trace ≡ trace (R.system running).meaning (R.system running).recovery steps.now) }
+    ensures image { IfOk result (λ ran. ran.image ≡ (R.system running).image steps.now) }
+    ensures refused { IfErr result (λ why. IsRunRefusal why (first_refused (R.system running).net (R.system running).meaning (R.system running).recovery steps.now)) }
+{
+    for step in steps {
+        running.step(step)?;
+    }
+    Ok(running.finish())
+}
+
+// Runs a schedule of handlers on a network that stops no node, with its image by a map.
+pub(crate) fn run_mapped<H: Handlers, T: TraceMap<H>>(
     alloc: Global,
     handlers: H,
     net: Net,
@@ -25,14 +44,10 @@ pub(crate) fn run_on<H: Handlers, T: TraceMap<H>>(
     ensures image { IfOk result (λ ran. ran.image ≡ T.image_of (H.meaning handlers) steps.now) }
     ensures refused { IfErr result (λ why. IsRunRefusal why (first_refused net (H.meaning handlers) no_recovery steps.now)) }
 {
-    let mut running = match Running::<H, T>::new(alloc, handlers, net) {
-        Ok(running) => running,
-        Err(_) => return Err(RunFault::Memory),
+    let Ok(running) = Running::<H, T>::new(alloc, handlers, net) else {
+        return Err(RunFault::Memory);
     };
-    for step in steps {
-        running.step(step)?;
-    }
-    Ok(running.finish())
+    run_on(running, steps)
 }
 
 /// Runs a schedule of handlers on a bag: the trace, and the schedule itself as its image. The first step that
@@ -48,7 +63,7 @@ pub fn run_bag<H: Handlers>(
     ensures image { IfOk result (λ ran. ran.image ≡ steps.now) }
     ensures refused { IfErr result (λ why. IsRunRefusal why (first_refused Net.Bag (H.meaning handlers) no_recovery steps.now)) }
 {
-    run_on::<H, Itself<H::Input>>(alloc, handlers, Net::Bag, steps)
+    run_mapped::<H, Itself<H::Input>>(alloc, handlers, Net::Bag, steps)
 }
 
 /// Runs a schedule of handlers, with their packets numbered, on a network that copies packets: the trace, and the schedule
@@ -68,5 +83,5 @@ pub fn run_dup<H: Handlers>(
     ensures refused { IfErr result (λ why. IsRunRefusal why (first_refused Net.Dup (sequence_numbered (H.meaning handlers)) no_recovery steps.now)) }
 {
     repeats_do_nothing::<H>();
-    run_on::<SeqNum<H>, WithoutRepeats<H::Input>>(alloc, SeqNum::new(handlers), Net::Dup, steps)
+    run_mapped::<SeqNum<H>, WithoutRepeats<H::Input>>(alloc, SeqNum::new(handlers), Net::Dup, steps)
 }

@@ -1,14 +1,13 @@
-ghost use Rattle.std.specs.Prelude.{◌≡◌, ◌≢◌, ℕ, ◌+◌, ◌<◌, ◌≤◌, drop, List, [], ◌∷◌, ◌++◌, length, IfOk, IfErr, OnOk, OnErr};
+ghost use Rattle.std.specs.Prelude.{◌≡◌, ◌≢◌, ℕ, ◌≤◌, drop, List, [], ◌∷◌, ◌++◌, length, IfOk, OnOk};
 ghost use Rattle.handler_trait.specs.Handling.{Meaning};
-ghost use Rattle.net_semantics.specs.Steps.{items_of, refusal_of};
+ghost use Rattle.net_semantics.specs.Steps.{items_of};
 ghost use Rattle.net_semantics.specs.Runs.{run, no_recovery};
 ghost use Rattle.net_semantics.specs.Shown.{IsSound, Shows};
 ghost use Rattle.net_semantics.specs.Worlds.{World as DefinedWorld, copies, ends};
 ghost use Rattle.vst_base.specs.declared.step.Step.{Step};
-ghost use Rattle.vst_base.specs.declared.step.Item.{Item};
-ghost use Rattle.xform_stack.specs.Running.{HasRun, IsRunAnswer};
+ghost use Rattle.xform_stack.specs.Running.{HasFollowed, system_of};
 
-use crate::{Ran, RunFault};
+use crate::{Ran, RunFault, Runs};
 use handler_trait::Handlers;
 use net_semantics::{Trace, World};
 use std::alloc::{AllocError, Global};
@@ -16,7 +15,8 @@ use std::marker::Model;
 use trace_maps::TraceMap;
 use vst_base::{Item, Net, Node, Step, StepRefusal};
 
-/// A schedule that is run one step at a time: the world so far, and the map to the image of the steps so far.
+/// A schedule that is run one step at a time on a network that stops no node: the world so far, and the map to the image of the
+/// steps so far.
 #[derive(Drop)]
 pub struct Running<H: Handlers, T: TraceMap<H>> {
     alloc: Global,
@@ -55,7 +55,9 @@ impl<H: Handlers, T: TraceMap<H>> Running<H, T> {
         requires { net ≢ Net.Fail }
         ensures handlers { IfOk result (λ running. running.world.handlers ≡ handlers) }
         ensures net { IfOk result (λ running. running.world.net ≡ net) }
-        ensures started { IfOk result (λ running. HasRun (H.meaning handlers) T.has_followed [] [] running) }
+        ensures started { IfOk result (λ running. HasFollowed (H.meaning handlers) T.has_followed running []) }
+        ensures trace { IfOk result (λ running. running.world.trace ≡ []) }
+        ensures taken { IfOk result (λ running. running.world.taken ≡ 0) }
         ensures sound { IfOk result (λ running. IsSound (H.meaning handlers) (H.sound handlers) (H.spent handlers) running.world) }
     {
         let world = World::new(alloc, handlers, net)?;
@@ -64,71 +66,6 @@ impl<H: Handlers, T: TraceMap<H>> Running<H, T> {
             world,
             map: T::start(alloc),
         })
-    }
-
-    /// Takes one more step, or says which refusal it meets and at which place. A refused step changes nothing.
-    /// After want of memory the running is given up.
-    pub fn step(&mut self, step: &Step<H::Input>) -> Result<(), RunFault>
-        requires sound { IsSound (H.meaning self.old.world.handlers) (H.sound self.old.world.handlers) (H.spent self.old.world.handlers) self.old.world }
-        requires steps { self.old.world.taken < 1000000 }
-        ensures refused { (ss : List (Step H.Input)) (gone : List (Item H.Input H.Output)) → HasRun (H.meaning self.old.world.handlers) T.has_followed ss gone self.old
-            → IsRunAnswer result (refusal_of self.old.world.net (H.meaning self.old.world.handlers) (run (H.meaning self.old.world.handlers) no_recovery ss) step.now) (length ss) }
-        ensures unchanged { IfErr result (λ why. why ≢ RunFault.Memory → self.new ≡ self.old) }
-        ensures next { OnOk result ((ss : List (Step H.Input)) (gone : List (Item H.Input H.Output)) → HasRun (H.meaning self.old.world.handlers) T.has_followed ss gone self.old
-            → HasRun (H.meaning self.old.world.handlers) T.has_followed (ss ++ step.now ∷ []) gone self.new) }
-        ensures handlers { self.new.world.handlers ≡ self.old.world.handlers }
-        ensures net { self.new.world.net ≡ self.old.world.net }
-        ensures taken { OnOk result (self.new.world.taken ≡ self.old.world.taken + 1) }
-        ensures sound { OnOk result (IsSound (H.meaning self.old.world.handlers) (H.sound self.old.world.handlers) (H.spent self.old.world.handlers) self.new.world) }
-    {
-        let place = self.world.taken();
-        let before = self.world.trace().items().len();
-        match self.world.step(step) {
-            Ok(()) => {}
-            Err(StepRefusal::Memory) => return Err(RunFault::Memory),
-            Err(why) => return Err(RunFault::Step(why, place)),
-        }
-        let items = self.world.trace().items();
-        let followed = follow(
-            self.alloc,
-            self.world.handlers(),
-            &mut self.map,
-            step,
-            items,
-            before,
-        );
-        let Ok(()) = followed else {
-            return Err(RunFault::Memory);
-        };
-        Ok(())
-    }
-
-    /// What clients saw since it was last let go.
-    pub fn trace(&self) -> &Trace<H::Input, H::Output>
-        ensures { result.now ≡ self.now.world.trace }
-    {
-        self.world.trace()
-    }
-
-    /// Lets go of what clients saw so far: the trace begins anew. Nothing else changes.
-    pub fn forget_trace(&mut self)
-        ensures { self.new ≡ record self.old { world = record self.old.world { trace = [] } } }
-    {
-        self.world.forget_trace();
-    }
-
-    /// The image of the steps so far.
-    pub fn image(&self) -> &[Step<H::Input>]
-        ensures { (m : Meaning H.State H.Input H.Output H.Msg) (ss : List (Step H.Input)) → T.has_followed self.now.map m ss → result.now ≡ T.image_of m ss }
-    {
-        self.map.steps()
-    }
-
-    /// How many steps were taken.
-    pub fn taken(&self) -> u32
-        ensures { result ≡ self.now.world.taken }
-    {
-        self.world.taken()
     }
 
     /// How many copies of packet `k` are in flight, none of one that was never sent.
@@ -159,12 +96,69 @@ impl<H: Handlers, T: TraceMap<H>> Running<H, T> {
     {
         self.world.is_up(n)
     }
+}
 
-    /// What clients saw since it was last let go, and the image of the steps so far.
-    pub fn finish(self) -> Ran<H::Input, H::Output, Step<H::Input>>
-        ensures trace { result.trace ≡ self.world.trace }
-        ensures image { (m : Meaning H.State H.Input H.Output H.Msg) (ss : List (Step H.Input)) → T.has_followed self.map m ss → result.image ≡ T.image_of m ss }
-    {
+impl<H: Handlers, T: TraceMap<H>> Runs for Running<H, T> {
+    type State = H::State;
+
+    type Kept = H::State;
+
+    type Input = H::Input;
+
+    type Output = H::Output;
+
+    type Msg = H::Msg;
+
+    type Line = Step<H::Input>;
+
+    ghost system = { λ r. system_of r.world.net (H.meaning r.world.handlers) (T.image_of (H.meaning r.world.handlers)) };
+
+    ghost progress = { λ r. record { trace = r.world.trace; taken = r.world.taken } };
+
+    ghost follows = { λ r ss. HasFollowed (H.meaning r.world.handlers) T.has_followed r ss };
+
+    ghost sound = { λ r. IsSound (H.meaning r.world.handlers) (H.sound r.world.handlers) (H.spent r.world.handlers) r.world };
+
+    fn step(&mut self, step: &Step<H::Input>) -> Result<(), RunFault> {
+        let place = self.world.taken();
+        let before = self.world.trace().items().len();
+        match self.world.step(step) {
+            Ok(()) => {}
+            Err(StepRefusal::Memory) => return Err(RunFault::Memory),
+            Err(why) => return Err(RunFault::Step(why, place)),
+        }
+        let items = self.world.trace().items();
+        let followed = follow(
+            self.alloc,
+            self.world.handlers(),
+            &mut self.map,
+            step,
+            items,
+            before,
+        );
+        let Ok(()) = followed else {
+            return Err(RunFault::Memory);
+        };
+        Ok(())
+    }
+
+    fn trace(&self) -> &Trace<H::Input, H::Output> {
+        self.world.trace()
+    }
+
+    fn forget_trace(&mut self) {
+        self.world.forget_trace();
+    }
+
+    fn taken(&self) -> u32 {
+        self.world.taken()
+    }
+
+    fn image(&self) -> &[Step<H::Input>] {
+        self.map.steps()
+    }
+
+    fn finish(self) -> Ran<H::Input, H::Output, Step<H::Input>> {
         Ran {
             trace: self.world.into_trace(),
             image: self.map.into_image(),

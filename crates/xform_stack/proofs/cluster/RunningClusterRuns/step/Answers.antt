@@ -1,0 +1,22 @@
+use Rattle.raft_safety.specs.Runs.{world_after}
+use Rattle.xform_stack.specs.Clusters.{cluster_of}
+use Rattle.xform_stack.proofs.Clusters.{cluster-more}
+use Rattle.xform_stack.proofs.More.{has_run-more}
+use Rattle.xform_stack.proofs.cluster.RunningClusterRuns.step.Goals as goal
+
+pub returns-clause-next : goal.returns-clause-next
+returns-clause-next g c = λ ss gone had.
+    let before = rw (← c.self.view_is) at had in
+    let world = c.self.inside.world in
+    let h = world.handlers in
+    let m = g.M.Machine.meaning h.machine in
+    let w = world_after m h.nodes ss in
+    let s = c.args.step.now in
+    let shown = before.followed.shows in
+    let not_refused = c.in-Ok.ensures.refused w shown in
+    rw (← c.self.view_is) (has_run-more (cluster_of m h.nodes) _ _ ss s gone _ _ before
+    not_refused
+    (c.in-Ok.ensures.trace w shown)
+    c.in-Ok.ensures.taken
+    (cluster-more g.M.Machine.meaning h c.step.new.self.handlers c.step.ensures.handlers (record { world = world; order = c.self.inside.order }) (record { world = c.step.new.self; order = c.follow.new.self }) ss s
+    before.followed before.allowed not_refused (c.in-Ok.ensures.next w shown) c.in-Ok-follow.ensures))
