@@ -3,11 +3,9 @@ use Rattle.std.specs.Prelude.{◌≡◌, ℕ, Bool, true, false, ◌+◌, ◌-�
 use Rattle.std.specs.List.{flat_map}
 use Rattle.std.proofs.Common.{ap, ◌∙◌, sym, subst, append_assoc, arith, length-append, zero-add}
 use Rattle.std.proofs.lemmas.List.{append-nil, length-map}
-use Rattle.handler_trait.specs.Handling.{Meaning}
-use Rattle.vst_base.specs.declared.net.Net.{Net}
 use Rattle.vst_base.specs.declared.step.Step.{Step}
 use Rattle.vst_base.specs.declared.step.Item.{Item}
-use Rattle.net_semantics.specs.Runs.{trace, no_recovery}
+use Rattle.net_semantics.specs.Runs.{trace}
 use Rattle.outside.specs.Wholes.{Gained, GainedFront}
 use Rattle.outside.proofs.Wholes.{gained-both, gained-some}
 use Rattle.line_reader.specs.declared.why.Why.{Why}
@@ -18,16 +16,15 @@ use Rattle.line_reader.specs.declared.fault.LineFault.{LineFault}
 use Rattle.line_reader.specs.declared.fault.LineFault.TheVariants as line
 use Rattle.schedule_text.specs.Sending.{HasWriteCause}
 use Rattle.schedule_replay.specs.Faults.{replay_fault}
-use Rattle.schedule_text.specs.Headers.{header_text}
-use Rattle.schedule_text.specs.Printing.{as_line, step_text, steps_text}
+use Rattle.schedule_text.specs.Printing.{as_line, lines_text}
 use Rattle.schedule_text.specs.Schedules.{Script, script}
-use Rattle.xform_stack.specs.Running.{RunView}
+use Rattle.xform_stack.specs.Running.{Progress, System}
 use Rattle.schedule_replay.specs.declared.done.Done.{Done}
 use Rattle.schedule_replay.specs.declared.fault.ReplayFault.TheVariants as fault
 use Rattle.schedule_replay.specs.declared.halt.Halt.{Halt}
 use Rattle.schedule_replay.specs.declared.halt.Halt.TheVariants as halt
 use Rattle.schedule_replay.specs.declared.tally.Tally.{Tally}
-use Rattle.schedule_replay.specs.Stacks.{Stack, Texts, Image, stack_of}
+use Rattle.schedule_replay.specs.Stacks.{ImageText, Stack, Texts, header_lines, stack_of}
 use Rattle.schedule_replay.specs.Tallying.{tallied}
 use Rattle.schedule_replay.specs.Finishing.{image_text, counted_done}
 use Rattle.schedule_replay.specs.Replaying.{Replayed, ended, replayed_script, stop, taken, trace_lines, image_lines, counts_of}
@@ -53,51 +50,51 @@ given-of old new left' rest n s = (
   omega (arith, length-append s.used new.ahead, s.decides, s.few),
 )
 
--- the lines of steps are the steps' lines
-lines-map : {I : Type 0} (t : I → List ℕ) (ss : List (Step I)) → flat_map as_line (map (step_text t) ss) ≡ steps_text t ss
-lines-map t [] = refl
-lines-map t (s ∷ ss) = ap (λ bs. as_line (step_text t s) ++ bs) (lines-map t ss)
+-- the lines of things are the things' lines
+lines-map : {G : Type 0} (text : G → List ℕ) (gs : List G) → flat_map as_line (map text gs) ≡ lines_text text gs
+lines-map text [] = refl
+lines-map text (g ∷ gs) = ap (λ bs. as_line (text g) ++ bs) (lines-map text gs)
 
-module _ {S I O M : Type 0} (on : Net) (m : Meaning S I O M) (t : Texts I O) (i : Image I) where
-  image-same : (ss : List (Step I)) → image_text t.input_text i.header (i.steps ss) ≡ image_lines (stack_of on m t i) ss
+module _ {S K I O M G : Type 0} (sys : System S K I O M G) (t : Texts I O) (i : ImageText G) where
+  image-same : (ss : List (Step I)) → image_text i (sys.image ss) ≡ image_lines (stack_of sys t i) ss
   image-same ss =
-      ap (λ bs. (as_line (codes "below") ++ bs) ++ steps_text t.input_text (i.steps ss)) (sym (append-nil (as_line (header_text i.header))))
-      ∙ ap (λ bs. (as_line (codes "below") ++ (as_line (header_text i.header) ++ [])) ++ bs) (sym (lines-map t.input_text (i.steps ss)))
+      append_assoc (as_line (codes "below")) (flat_map as_line (header_lines i.header)) (lines_text i.line (sys.image ss))
+      ∙ ap (λ bs. as_line (codes "below") ++ (flat_map as_line (header_lines i.header) ++ bs)) (sym (lines-map i.line (sys.image ss)))
 
-  counts-same : (ss : List (Step I)) → counted_done (tallied t.is_reply (record { inputs = 0; outputs = 0; replies = 0 }) (trace m (no_recovery {S = S}) ss)) (length ss) (i.steps ss) ≡ counts_of (stack_of on m t i) ss
-  counts-same ss = rw (zero-add, zero-add, zero-add, length-map (i.steps ss) (step_text t.input_text)) refl
+  counts-same : (ss : List (Step I)) → counted_done (tallied t.is_reply (record { inputs = 0; outputs = 0; replies = 0 }) (trace sys.meaning sys.recovery ss)) (length ss) (sys.image ss) ≡ counts_of (stack_of sys t i) ss
+  counts-same ss = rw (zero-add, zero-add, zero-add, length-map (sys.image ss) i.line) refl
 
-module _ {H S I O M T : Type 0} (on : Net) (m : Meaning S I O M) (follows : T → Meaning S I O M → List (Step I) → Type 0) (t : Texts I O) (i : Image I) where
-  module _ (v : RunView H S I O M T) (tally : Tally) (old new : ReaderView) (left left' out mid : Option (List ℕ)) (rest : List ℕ) (has : HasRest old left rest) where
-    all-gone : (x : Halt) (a : Halted (stack_of on m t i) follows t v tally old new left left' out mid x) → a.gone ≡ trace m (no_recovery {S = S}) a.steps
+module _ {R S K I O M G : Type 0} (sys : System S K I O M G) (follows : R → List (Step I) → Type 0) (progress : R → Progress I O) (t : Texts I O) (i : ImageText G) where
+  module _ (v : R) (tally : Tally) (old new : ReaderView) (left left' out mid : Option (List ℕ)) (rest : List ℕ) (has : HasRest old left rest) where
+    all-gone : (x : Halt) (a : Halted sys follows progress t i v tally old new left left' out mid x) → a.gone ≡ trace sys.meaning sys.recovery a.steps
     all-gone x a = sym (ap (λ items. a.gone ++ items) a.empty ∙ append-nil a.gone) ∙ a.ran.traced
 
     -- the whole trace was written
-    all-written : (x : Halt) (a : Halted (stack_of on m t i) follows t v tally old new left left' out mid x) → TraceWritten t (trace m (no_recovery {S = S}) a.steps) out mid tally
+    all-written : (x : Halt) (a : Halted sys follows progress t i v tally old new left left' out mid x) → TraceWritten t (trace sys.meaning sys.recovery a.steps) out mid tally
     all-written x a = subst (λ (items : List (Item I O)). TraceWritten t items out mid tally) (all-gone x a) a.written
 
-    pub rest-read : Halted (stack_of on m t i) follows t v tally old new left left' out mid halt.Read
-        → ComesTo (stack_whole (stack_of on m t i) old) (stack_so_far (stack_of on m t i) old) old.number rest left' out mid (Err fault.Read)
+    pub rest-read : Halted sys follows progress t i v tally old new left left' out mid halt.Read
+        → ComesTo (stack_whole (stack_of sys t i) old) (stack_so_far (stack_of sys t i) old) old.number rest left' out mid (Err fault.Read)
     rest-read a =
         let by = a.halts rest has in
         let part = by.0 in
         let before = all-written halt.Read a in
-        let same = ended-at (stack_of on m t i) false (script old.most t.input_of (old.number + 1) old.events (whole_lines part)) a.steps None by.2.1 by.2.0 in
+        let same = ended-at (stack_of sys t i) false (script old.most t.input_of (old.number + 1) old.events (whole_lines part)) a.steps None by.2.1 by.2.0 in
         record {
           given = part;
           gave = record { others = by.1.rest'; whole = by.1.whole; left_is = by.1.left_is };
           short = by.1.short;
           taken = ap (λ (r : Replayed). r.refused) same;
           written = subst (λ (r : Replayed). Gained out mid r.out) (sym same) before.written;
-          front = written-front m follows t i on v a.steps a.gone a.ran true (script old.most t.input_of (old.number + 1) old.events (lines_of rest)) (a.front rest has) out mid tally a.written;
+          front = written-front sys follows progress t i v a.steps a.gone a.ran true (script old.most t.input_of (old.number + 1) old.events (lines_of rest)) (a.front rest has) out mid tally a.written;
         }
 
-    pub rest-refused : (line : ℕ) (why : Why) → Halted (stack_of on m t i) follows t v tally old new left left' out mid (halt.Refused line why)
-        → ComesTo (stack_whole (stack_of on m t i) old) (stack_so_far (stack_of on m t i) old) old.number rest left' out mid (Err (fault.Refused line why))
+    pub rest-refused : (line : ℕ) (why : Why) → Halted sys follows progress t i v tally old new left left' out mid (halt.Refused line why)
+        → ComesTo (stack_whole (stack_of sys t i) old) (stack_so_far (stack_of sys t i) old) old.number rest left' out mid (Err (fault.Refused line why))
     rest-refused line why a =
         let by = a.halts rest has in
         let before = all-written (halt.Refused line why) a in
-        let same = ended-at (stack_of on m t i) true (script old.most t.input_of (old.number + 1) old.events (lines_of rest)) a.steps (Some (line, why)) by.2 by.1 in
+        let same = ended-at (stack_of sys t i) true (script old.most t.input_of (old.number + 1) old.events (lines_of rest)) a.steps (Some (line, why)) by.2 by.1 in
         let gave = given-of old new left' rest line by.0 in
         record {
           refused = ap (λ (r : Replayed). r.refused) same;
@@ -109,40 +106,40 @@ module _ {H S I O M T : Type 0} (on : Net) (m : Meaning S I O M) (follows : T �
         }
 
     -- the image of the steps that were taken, as the map shows it
-    module _ (shown : List (Step I)) (shows : (ss : List (Step I)) → follows v.map m ss → shown ≡ i.steps ss) where
-      image-of : (a : Halted (stack_of on m t i) follows t v tally old new left left' out mid halt.End) → shown ≡ i.steps a.steps
+    module _ (shown : List G) (shows : (ss : List (Step I)) → follows v ss → shown ≡ sys.image ss) where
+      image-of : (a : Halted sys follows progress t i v tally old new left left' out mid halt.End) → shown ≡ sys.image a.steps
       image-of a = shows a.steps a.ran.followed
 
-      pub rest-finishing : (out' : Option (List ℕ)) → Halted (stack_of on m t i) follows t v tally old new left left' out mid halt.End → GainedFront mid out' (image_text t.input_text i.header shown)
-          → GainedFront out out' (stack_whole (stack_of on m t i) old rest).out
+      pub rest-finishing : (out' : Option (List ℕ)) → Halted sys follows progress t i v tally old new left left' out mid halt.End → GainedFront mid out' (image_text i shown)
+          → GainedFront out out' (stack_whole (stack_of sys t i) old rest).out
       rest-finishing out' a more =
           let by = a.halts rest has in
           let before = all-written halt.End a in
-          let same = ended-at (stack_of on m t i) true (script old.most t.input_of (old.number + 1) old.events (lines_of rest)) a.steps None by.2 by.1 in
-          let image = ap (image_text t.input_text i.header) (image-of a) ∙ image-same on m t i a.steps in
-          let lines = trace_lines (stack_of on m t i) a.steps in
-          let below = image_lines (stack_of on m t i) a.steps in
+          let same = ended-at (stack_of sys t i) true (script old.most t.input_of (old.number + 1) old.events (lines_of rest)) a.steps None by.2 by.1 in
+          let image = ap (image_text i) (image-of a) ∙ image-same sys t i a.steps in
+          let lines = trace_lines (stack_of sys t i) a.steps in
+          let below = image_lines (stack_of sys t i) a.steps in
           subst (λ (r : Replayed). GainedFront out out' r.out) (sym same)
           (gained-some out mid out' lines below (lines ++ below) [] (ap (λ bs. lines ++ bs) (sym (append-nil below))) before.written (subst (λ (bs : List ℕ). GainedFront mid out' bs) image more))
 
-      pub rest-done : (out' : Option (List ℕ)) (done : Done) (events : ℕ) → Halted (stack_of on m t i) follows t v tally old new left left' out mid halt.End → Gained mid out' (image_text t.input_text i.header shown)
-          → done ≡ counted_done tally events shown → events ≡ v.world.taken
-          → ComesTo (stack_whole (stack_of on m t i) old) (stack_so_far (stack_of on m t i) old) old.number rest left' out out' (Ok done)
+      pub rest-done : (out' : Option (List ℕ)) (done : Done) (events : ℕ) → Halted sys follows progress t i v tally old new left left' out mid halt.End → Gained mid out' (image_text i shown)
+          → done ≡ counted_done tally events shown → events ≡ (progress v).taken
+          → ComesTo (stack_whole (stack_of sys t i) old) (stack_so_far (stack_of sys t i) old) old.number rest left' out out' (Ok done)
       rest-done out' done events a more counts taken =
           let by = a.halts rest has in
           let before = all-written halt.End a in
-          let same = ended-at (stack_of on m t i) true (script old.most t.input_of (old.number + 1) old.events (lines_of rest)) a.steps None by.2 by.1 in
-          let image = ap (image_text t.input_text i.header) (image-of a) ∙ image-same on m t i a.steps in
-          let lines = trace_lines (stack_of on m t i) a.steps in
-          let below = image_lines (stack_of on m t i) a.steps in
+          let same = ended-at (stack_of sys t i) true (script old.most t.input_of (old.number + 1) old.events (lines_of rest)) a.steps None by.2 by.1 in
+          let image = ap (image_text i) (image-of a) ∙ image-same sys t i a.steps in
+          let lines = trace_lines (stack_of sys t i) a.steps in
+          let below = image_lines (stack_of sys t i) a.steps in
           record {
             ended = by.0;
             taken = ap (λ (r : Replayed). r.refused) same;
             counts = counts
                 ∙ (ap (λ n. counted_done tally n shown) (taken ∙ a.ran.counted)
-                ∙ (ap (λ (ss : List (Step I)). counted_done tally (length a.steps) ss) (image-of a)
-                ∙ (ap (λ (x : Tally). counted_done x (length a.steps) (i.steps a.steps)) before.counted
-                ∙ (counts-same on m t i a.steps ∙ ap (λ (r : Replayed). r.counts) (sym same)))));
+                ∙ (ap (λ (gs : List G). counted_done tally (length a.steps) gs) (image-of a)
+                ∙ (ap (λ (x : Tally). counted_done x (length a.steps) (sys.image a.steps)) before.counted
+                ∙ (counts-same sys t i a.steps ∙ ap (λ (r : Replayed). r.counts) (sym same)))));
             written = subst (λ (r : Replayed). Gained out out' r.out) (sym same) (gained-both out mid out' lines below before.written (subst (λ (bs : List ℕ). Gained mid out' bs) image more));
           }
 

@@ -1,4 +1,5 @@
 pub mod Endings
+pub mod Explained
 pub mod Finishing
 pub mod Openings
 pub mod Plays

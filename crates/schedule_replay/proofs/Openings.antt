@@ -1,6 +1,6 @@
 -- What a replay comes to, by how its text opens.
 use Rattle.std.specs.Prelude.{◌≡◌, ℕ, Bool, true, false, ◌+◌, ◌-◌, ◌≤◌, List, [], ◌++◌, length, Option, Some, None, IfSome, IfErr, Result, Ok, Err, refl}
-use Rattle.std.proofs.Common.{inl, inr, ap, ◌∙◌, sym, subst, append_assoc, arith, length-append}
+use Rattle.std.proofs.Common.{ap, ◌∙◌, sym, subst, append_assoc, arith, length-append}
 use Rattle.outside.specs.Wholes.{Gained, GainedFront}
 use Rattle.outside.proofs.Wholes.{gained-nothing}
 use Rattle.vst_base.specs.declared.stack.StackId.{StackId}
@@ -13,15 +13,7 @@ use Rattle.line_reader.specs.Readers.{ReaderView, HasRest, fresh}
 use Rattle.line_reader.specs.Outcomes.{Uses, HasReadCause}
 use Rattle.line_reader.proofs.Lining.{whole-append, last-append}
 use Rattle.line_reader.proofs.Using.{decided-behind}
-use Rattle.vst_base.specs.declared.net.Net.{Net}
-use Rattle.vst_base.specs.declared.net.Net.TheVariants as net
-use Rattle.vst_base.specs.declared.lock.LockInput.{LockInput}
-use Rattle.vst_base.specs.declared.lock.LockOutput.{LockOutput}
-use Rattle.vst_base.specs.declared.lock.LockMsg.{LockMsg}
-use Rattle.lock_server.specs.declared.state.LockState.{LockState}
-use Rattle.lock_server.specs.Locks.{lock_server}
 use Rattle.schedule_text.specs.declared.header.Header.{Header}
-use Rattle.schedule_text.specs.Headers.{IsHeader}
 use Rattle.schedule_text.specs.Schedules.{Opening, Opened, RefusedAt, EndedAt, opening, opening_refusal}
 use Rattle.schedule_text.specs.Streams.{ReadsHeader}
 use Rattle.schedule_text.proofs.ScheduleLaws.{opening_with, opening-append}
@@ -30,8 +22,8 @@ use Rattle.schedule_replay.specs.declared.fault.ReplayFault.{ReplayFault}
 use Rattle.schedule_replay.specs.declared.fault.ReplayFault.TheVariants as fault
 use Rattle.schedule_replay.specs.Faults.{replay_fault}
 use Rattle.schedule_replay.specs.Replaying.{Replayed}
-use Rattle.schedule_replay.specs.Replays.{kv_stack, kv_pb_stack, kv_pb_seq_stack, lock_seq_stack, lock_texts, most_lines, replayed_by, replayed_stack, replayed_opening, replayed, replayed_so_far, stack_whole, stack_so_far, rest_whole, rest_so_far}
-use Rattle.schedule_replay.specs.Stacks.{Stack, stack_of}
+use Rattle.schedule_replay.specs.Replays.{kv_stack, kv_pb_stack, kv_pb_seq_stack, kv_raft_stack, lock_seq_stack, lock_stack, most_lines, replayed_by, replayed_stack, replayed_opening, replayed, replayed_so_far, stack_whole, stack_so_far, rest_whole, rest_so_far}
+use Rattle.schedule_replay.specs.Stacks.{Stack}
 use Rattle.schedule_replay.specs.Outcomes.{HasGiven, ComesTo, HasFault, HasCause}
 use Rattle.schedule_replay.proofs.Endings.{given-of}
 use Rattle.schedule_replay.proofs.Finishing.{front-none}
@@ -159,14 +151,12 @@ going-of ended f f' w w' result cause is =
     let both : HasCause ended f f' w w' fault.Read = subst (λ (r : Result Done ReplayFault). IfErr r (HasCause ended f f' w w')) is cause in
     both.1 refl
 
--- the lock server's stack, by its network
-abbrev pub lock_stack_on : Net → Header → Stack LockState LockState LockInput LockOutput LockMsg
-lock_stack_on on h = stack_of on (lock_server h.nodes) lock_texts (record { header = h; steps = λ ss. ss })
-
 -- which stack a header names
-pub is-lock : (h : Header) (s : StackId) (on : Net) → s ≡ stack.Lock → on ≡ net.Bag → (whole : Bool) (most n e : ℕ) (ls : List (List ℕ))
-    → replayed_stack whole h s most n e ls ≡ replayed_by (lock_stack_on on h) whole most n e ls
-is-lock h s on is on-bag whole most n e ls = rw (is, on-bag) refl
+pub is-lock : (h : Header) (s : StackId) → s ≡ stack.Lock → (whole : Bool) (most n e : ℕ) (ls : List (List ℕ)) → replayed_stack whole h s most n e ls ≡ replayed_by (lock_stack h) whole most n e ls
+is-lock h s is whole most n e ls = rw is refl
+
+pub is-lock_seq : (h : Header) (s : StackId) → s ≡ stack.LockSeq → (whole : Bool) (most n e : ℕ) (ls : List (List ℕ)) → replayed_stack whole h s most n e ls ≡ replayed_by (lock_seq_stack h) whole most n e ls
+is-lock_seq h s is whole most n e ls = rw is refl
 
 pub is-kv_pb : (h : Header) (s : StackId) → s ≡ stack.KvPb → (whole : Bool) (most n e : ℕ) (ls : List (List ℕ)) → replayed_stack whole h s most n e ls ≡ replayed_by kv_pb_stack whole most n e ls
 is-kv_pb h s is whole most n e ls = rw is refl
@@ -174,11 +164,11 @@ is-kv_pb h s is whole most n e ls = rw is refl
 pub is-kv_pb_seq : (h : Header) (s : StackId) → s ≡ stack.KvPbSeq → (whole : Bool) (most n e : ℕ) (ls : List (List ℕ)) → replayed_stack whole h s most n e ls ≡ replayed_by kv_pb_seq_stack whole most n e ls
 is-kv_pb_seq h s is whole most n e ls = rw is refl
 
+pub is-kv_raft : (h : Header) (s : StackId) → s ≡ stack.KvRaft → (whole : Bool) (most n e : ℕ) (ls : List (List ℕ)) → replayed_stack whole h s most n e ls ≡ replayed_by (kv_raft_stack h) whole most n e ls
+is-kv_raft h s is whole most n e ls = rw is refl
+
 pub is-kv : (h : Header) (s : StackId) → s ≡ stack.Kv → (whole : Bool) (most n e : ℕ) (ls : List (List ℕ)) → replayed_stack whole h s most n e ls ≡ replayed_by kv_stack whole most n e ls
 is-kv h s is whole most n e ls = rw is refl
-
-pub is-lock_seq : (h : Header) (s : StackId) → s ≡ stack.LockSeq → (whole : Bool) (most n e : ℕ) (ls : List (List ℕ)) → replayed_stack whole h s most n e ls ≡ replayed_by (lock_seq_stack h) whole most n e ls
-is-lock_seq h s is whole most n e ls = rw is refl
 
 -- what stands behind a header comes to what its stack makes of it
 pub stack-comes : {S K I O M : Type 0} (st : Stack S K I O M) (h : Header) (r : ReaderView)
@@ -190,23 +180,3 @@ stack-comes st h r is before rest left' out out' result comes =
       λ bytes. sym (is true r.most (r.number + 1) r.events (lines_of bytes)) i,
       λ bytes. sym (is false r.most (r.number + 1) r.events (whole_lines bytes)) i,
     )) comes
-
--- the network of each stack that a header names
-abbrev net_of : StackId → Net
-net_of stack.Lock = net.Bag
-net_of stack.LockSeq = net.Dup
-net_of stack.KvPb = net.Bag
-net_of stack.KvPbSeq = net.Dup
-net_of stack.KvRaft = net.Fail
-net_of stack.TablePbSeq = net.Dup
-net_of stack.TableRaft = net.Fail
-net_of stack.Kv = net.One
-net_of stack.Table = net.One
-
-pub header-net : (h : Header) → IsHeader h → (s : StackId) → h.stack ≡ s → h.net ≡ net_of s
-header-net h (inl by) s is = by.net ∙ ap net_of (sym by.stack ∙ is)
-header-net h (inr (inl by)) s is = by.net ∙ ap net_of (sym by.stack ∙ is)
-header-net h (inr (inr (inl by))) s is = by.net ∙ ap net_of (sym by.stack ∙ is)
-header-net h (inr (inr (inr (inl by)))) s is = by.net ∙ ap net_of (sym by.stack ∙ is)
-header-net h (inr (inr (inr (inr (inl by))))) s is = by.net ∙ ap net_of (sym by.stack ∙ is)
-header-net h (inr (inr (inr (inr (inr x))))) s is = elim x [ ]

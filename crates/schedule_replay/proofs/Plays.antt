@@ -5,13 +5,10 @@ use Rattle.std.proofs.Common.{inl, inr, ap, ◌∙◌, sym, subst, append_assoc,
 use Rattle.std.proofs.lemmas.List.{append-nil, map-append}
 use Rattle.std.proofs.lemmas.List.Sums.{sum_by-append}
 use Rattle.std.proofs.lemmas.Grind.{flat_map-append}
-use Rattle.handler_trait.specs.Handling.{Meaning}
-use Rattle.vst_base.specs.declared.net.Net.{Net}
 use Rattle.vst_base.specs.declared.step.Step.{Step}
 use Rattle.vst_base.specs.declared.step.Item.{Item}
 use Rattle.net_semantics.specs.Worlds.{first_world}
-use Rattle.net_semantics.specs.Steps.{refusal_of}
-use Rattle.net_semantics.specs.Runs.{run, trace_from, first_refused, no_recovery}
+use Rattle.net_semantics.specs.Runs.{run, trace_from}
 use Rattle.net_semantics.specs.RunLaws.{trace_from-append}
 use Rattle.outside.specs.Wholes.{Gained, GainedFront}
 use Rattle.outside.proofs.Wholes.{gained-both, gained-front, gained-some, gained-nothing}
@@ -25,12 +22,12 @@ use Rattle.schedule_text.specs.Printing.{as_line, item_text, trace_text}
 use Rattle.schedule_text.specs.Schedules.{Script, script, no_steps, with_step}
 use Rattle.schedule_text.specs.Streams.{ReadsStep}
 use Rattle.schedule_text.proofs.ScheduleLaws.{prefixed, script-behind}
-use Rattle.xform_stack.specs.Running.{RunView, HasRun}
+use Rattle.xform_stack.specs.Running.{HasRun, Progress, System}
 use Rattle.xform_stack.specs.RunningLaws.{has_run-forget}
 use Rattle.schedule_replay.specs.declared.halt.Halt.{Halt}
 use Rattle.schedule_replay.specs.declared.halt.Halt.TheVariants as halt
 use Rattle.schedule_replay.specs.declared.tally.Tally.{Tally}
-use Rattle.schedule_replay.specs.Stacks.{Stack, Texts, Image, stack_of}
+use Rattle.schedule_replay.specs.Stacks.{ImageText, Stack, Texts, stack_of}
 use Rattle.schedule_replay.specs.Tallying.{tallied}
 use Rattle.schedule_replay.specs.Replaying.{is_input, is_output, is_reply_by, why_of, stop, taken, trace_of, trace_lines, image_lines, ended, replayed_script}
 use Rattle.schedule_replay.specs.Playing.{TraceWritten, TookStep, HaltsBy, Halted}
@@ -43,10 +40,10 @@ pub record Reads {I : Type 0} (f : List ℕ → Option I) (old now : ReaderView)
   pub says : script old.most f (old.number + 1) old.events (lines_of used) ≡ record { steps = steps; fault = None }
 
 -- steps were taken, what was let go of their trace was written, and the lines so far say them
-pub record Played {H S I O M T : Type 0} (m : Meaning S I O M) (follows : T → Meaning S I O M → List (Step I) → Type 0) (t : Texts I O) (v : RunView H S I O M T) (tally : Tally) (old now : ReaderView) (left left' out out' : Option (List ℕ)) : Type 0 where
+pub record Played {R S K I O M G : Type 0} (sys : System S K I O M G) (follows : R → List (Step I) → Type 0) (progress : R → Progress I O) (t : Texts I O) (v : R) (tally : Tally) (old now : ReaderView) (left left' out out' : Option (List ℕ)) : Type 0 where
   pub steps : List (ℕ × Step I)
   pub gone : List (Item I O)
-  pub ran : HasRun m follows (map (λ p. p.1) steps) gone v
+  pub ran : HasRun sys follows progress (map (λ p. p.1) steps) gone v
   pub written : TraceWritten t gone out out' tally
   pub events : now.events ≡ old.events + length steps
   pub most : now.most ≡ old.most
@@ -87,8 +84,8 @@ module _ {I O : Type 0} (t : Texts I O) where
         let replies : (0 + count_by (is_reply_by t.is_reply) gone) + count_by (is_reply_by t.is_reply) items ≡ 0 + count_by (is_reply_by t.is_reply) (gone ++ items) = omega (arith, count-append (is_reply_by t.is_reply) gone items) in
         rw (ins, outs, replies) refl
 
-module _ {H S I O M T : Type 0} (m : Meaning S I O M) (follows : T → Meaning S I O M → List (Step I) → Type 0) (t : Texts I O) where
-  pub played-start : (v : RunView H S I O M T) (tally : Tally) (r : ReaderView) (left out : Option (List ℕ)) → HasRun m follows [] [] v → tally ≡ record { inputs = 0; outputs = 0; replies = 0 } → Played m follows t v tally r r left left out out
+module _ {R S K I O M G : Type 0} (sys : System S K I O M G) (follows : R → List (Step I) → Type 0) (progress : R → Progress I O) (t : Texts I O) where
+  pub played-start : (v : R) (tally : Tally) (r : ReaderView) (left out : Option (List ℕ)) → HasRun sys follows progress [] [] v → tally ≡ record { inputs = 0; outputs = 0; replies = 0 } → Played sys follows progress t v tally r r left left out out
   played-start v tally r left out ran is = record {
     steps = [];
     gone = [];
@@ -99,14 +96,14 @@ module _ {H S I O M T : Type 0} (m : Meaning S I O M) (follows : T → Meaning S
     reads = λ rest has. record { used = []; uses = uses-none r left rest has; says = refl };
   }
 
-  pub played-written : (v u : RunView H S I O M T) (tally tally' : Tally) (old now : ReaderView) (left left' out mid out' : Option (List ℕ)) → Played m follows t v tally old now left left' out mid
-      → Gained mid out' (trace_text t.input_text t.output_text v.world.trace) → u ≡ record v { world = record v.world { trace = [] } } → tally' ≡ tallied t.is_reply tally v.world.trace
-      → Played m follows t u tally' old now left left' out out'
-  played-written v u tally tally' old now left left' out mid out' p more forgets is = record {
+  pub played-written : (v u : R) (tally tally' : Tally) (old now : ReaderView) (left left' out mid out' : Option (List ℕ)) → Played sys follows progress t v tally old now left left' out mid
+      → Gained mid out' (trace_text t.input_text t.output_text (progress v).trace) → progress u ≡ record (progress v) { trace = [] } → ((ss : List (Step I)) → follows v ss → follows u ss) → tally' ≡ tallied t.is_reply tally (progress v).trace
+      → Played sys follows progress t u tally' old now left left' out out'
+  played-written v u tally tally' old now left left' out mid out' p more forgets follow is = record {
     steps = p.steps;
-    gone = p.gone ++ v.world.trace;
-    ran = has_run-forget m follows (map (λ p. p.1) p.steps) p.gone v u forgets p.ran;
-    written = written-more t p.gone v.world.trace out mid out' tally tally' p.written more is;
+    gone = p.gone ++ (progress v).trace;
+    ran = has_run-forget sys follows progress (map (λ p. p.1) p.steps) p.gone v u forgets (follow (map (λ p. p.1) p.steps) p.ran.followed) p.ran;
+    written = written-more t p.gone (progress v).trace out mid out' tally tally' p.written more is;
     events = p.events;
     most = p.most;
     reads = p.reads;
@@ -166,14 +163,14 @@ nothing-left new left has = has.left_is ∙ ap Some (behind-nothing new.ahead ha
   behind-nothing [] ys e = e
   behind-nothing (x ∷ xs) ys e = cc
 
-module _ {H S I O M T : Type 0} (m : Meaning S I O M) (follows : T → Meaning S I O M → List (Step I) → Type 0) (t : Texts I O) where
-  pub played-more : (v u : RunView H S I O M T) (tally : Tally) (old now new : ReaderView) (left left' after out out' : Option (List ℕ)) (p : Played m follows t v tally old now left left' out out')
-      → TookStep m follows t.input_of u (map (λ p. p.1) p.steps) p.gone now new left' after None → new.events ≡ now.events + 1 → new.most ≡ now.most
-      → Played m follows t u tally old new left after out out'
+module _ {R S K I O M G : Type 0} (sys : System S K I O M G) (follows : R → List (Step I) → Type 0) (progress : R → Progress I O) (t : Texts I O) where
+  pub played-more : (v u : R) (tally : Tally) (old now new : ReaderView) (left left' after out out' : Option (List ℕ)) (p : Played sys follows progress t v tally old now left left' out out')
+      → TookStep sys follows progress t.input_of u (map (λ p. p.1) p.steps) p.gone now new left' after None → new.events ≡ now.events + 1 → new.most ≡ now.most
+      → Played sys follows progress t u tally old new left after out out'
   played-more v u tally old now new left left' after out out' p (s, ran, reads) counted most = record {
     steps = p.steps ++ (new.number, s) ∷ [];
     gone = p.gone;
-    ran = subst (λ (ss : List (Step I)). HasRun m follows ss p.gone u) (sym (map-append (λ (q : ℕ × Step I). q.1) p.steps ((new.number, s) ∷ []))) ran;
+    ran = subst (λ (ss : List (Step I)). HasRun sys follows progress ss p.gone u) (sym (map-append (λ (q : ℕ × Step I). q.1) p.steps ((new.number, s) ∷ []))) ran;
     written = p.written;
     events = omega (arith, counted, p.events, length-append p.steps ((new.number, s) ∷ []));
     most = most ∙ p.most;
@@ -182,61 +179,55 @@ module _ {H S I O M T : Type 0} (m : Meaning S I O M) (follows : T → Meaning S
         reads-more t.input_of old now left' rest p.steps p.events p.most r new after s (reads r.uses.rest' r.uses.left);
   }
 
-module _ {H S I O M T : Type 0} (m : Meaning S I O M) (follows : T → Meaning S I O M → List (Step I) → Type 0) (t : Texts I O) (i : Image I) where
+module _ {R S K I O M G : Type 0} (sys : System S K I O M G) (follows : R → List (Step I) → Type 0) (progress : R → Progress I O) (t : Texts I O) (i : ImageText G) where
   -- where the steps end
-  module _ (on : Net) (v u : RunView H S I O M T) (tally : Tally) (old now new : ReaderView) (left left' after out out' : Option (List ℕ)) (p : Played m follows t v tally old now left left' out out')
-      (net : u.world.net ≡ on) where
-    front : (ran : HasRun m follows (map (λ p. p.1) p.steps) p.gone u) → (rest : List ℕ) → HasRest old left rest
-        → (more : List (Step I)) × (taken (stack_of on m t i) (script old.most t.input_of (old.number + 1) old.events (lines_of rest)) ≡ map (λ p. p.1) p.steps ++ more)
+  module _ (v u : R) (tally : Tally) (old now new : ReaderView) (left left' after out out' : Option (List ℕ)) (p : Played sys follows progress t v tally old now left left' out out') where
+    front : (ran : HasRun sys follows progress (map (λ p. p.1) p.steps) p.gone u) → (rest : List ℕ) → HasRest old left rest
+        → (more : List (Step I)) × (taken (stack_of sys t i) (script old.most t.input_of (old.number + 1) old.events (lines_of rest)) ≡ map (λ p. p.1) p.steps ++ more)
     front ran rest has =
         let r = p.reads rest has in
-        let none = subst (λ (n : Net). first_refused n m (no_recovery {S = S}) (map (λ p. p.1) p.steps) ≡ None) net ran.allowed in
-        taken-front on m no_recovery (first_world m) p.steps none (script now.most t.input_of (now.number + 1) now.events (lines_of r.uses.rest'))
+        taken-front sys.net sys.meaning sys.recovery (first_world sys.meaning) p.steps ran.allowed (script now.most t.input_of (now.number + 1) now.events (lines_of r.uses.rest'))
         (script old.most t.input_of (old.number + 1) old.events (lines_of rest)) (script-rest t.input_of old now left' rest p.steps p.events p.most r)
 
-    halts-by : (x : Halt) → TookStep m follows t.input_of u (map (λ p. p.1) p.steps) p.gone now new left' after (Some x) → (ran : HasRun m follows (map (λ p. p.1) p.steps) p.gone u)
-        → (rest : List ℕ) → HasRest old left rest → HaltsBy (stack_of on m t i) (map (λ p. p.1) p.steps) old new after rest x
+    halts-by : (x : Halt) → TookStep sys follows progress t.input_of u (map (λ p. p.1) p.steps) p.gone now new left' after (Some x) → (ran : HasRun sys follows progress (map (λ p. p.1) p.steps) p.gone u)
+        → (rest : List ℕ) → HasRest old left rest → HaltsBy (stack_of sys t i) (map (λ p. p.1) p.steps) old new after rest x
     halts-by halt.End (same, reads) ran rest has =
         let r = p.reads rest has in
-        let none = subst (λ (n : Net). first_refused n m (no_recovery {S = S}) (map (λ p. p.1) p.steps) ≡ None) net ran.allowed in
         let read = reads r.uses.rest' r.uses.left in
         let sc = script old.most t.input_of (old.number + 1) old.events (lines_of rest) in
-        let both = all-taken on m no_recovery (first_world m) p.steps none None sc
+        let both = all-taken sys.net sys.meaning sys.recovery (first_world sys.meaning) p.steps ran.allowed None sc
         (script-rest t.input_of old now left' rest p.steps p.events p.most r ∙ (ap (prefixed p.steps) read.1 ∙ ap (λ (done : List (ℕ × Step I)). record { steps = done; fault = None }) (append-nil p.steps))) in
         (nothing-left new after read.0.left, both.0, both.1)
     halts-by halt.Read (same, reads, going) ran rest has =
         let r = p.reads rest has in
-        let none = subst (λ (n : Net). first_refused n m (no_recovery {S = S}) (map (λ p. p.1) p.steps) ≡ None) net ran.allowed in
         let read = reads r.uses.rest' r.uses.left in
         let part = r.used ++ read.0 in
-        let both = all-taken on m no_recovery (first_world m) p.steps none None (script old.most t.input_of (old.number + 1) old.events (whole_lines part))
+        let both = all-taken sys.net sys.meaning sys.recovery (first_world sys.meaning) p.steps ran.allowed None (script old.most t.input_of (old.number + 1) old.events (whole_lines part))
         (script-part t.input_of old now left' rest p.steps p.events p.most r read.0 going read.2) in
         (part, breaks-behind old now left' after rest r.used read.0 r.uses (r.uses.closed going) read.1, both)
     halts-by (halt.Refused number w) (same, reads) ran rest has =
         let r = p.reads rest has in
-        let none = subst (λ (n : Net). first_refused n m (no_recovery {S = S}) (map (λ p. p.1) p.steps) ≡ None) net ran.allowed in
         let sc = script old.most t.input_of (old.number + 1) old.events (lines_of rest) in
         elim (reads r.uses.rest' r.uses.left) [
           | inl read ↦
-              let both = all-taken on m no_recovery (first_world m) p.steps none (Some (number, w)) sc
+              let both = all-taken sys.net sys.meaning sys.recovery (first_world sys.meaning) p.steps ran.allowed (Some (number, w)) sc
               (script-rest t.input_of old now left' rest p.steps p.events p.most r ∙ (ap (prefixed p.steps) read.1 ∙ ap (λ (done : List (ℕ × Step I)). record { steps = done; fault = Some (number, w) }) (append-nil p.steps))) in
               (stands-behind old now new left' after rest r.used number r.uses read.0, both.0, both.1)
           | inr found ↦
               let s = found.0 in
               let read = found.2 in
               let ahead = step-ahead t.input_of old now left' rest p.steps p.events p.most r new after s read in
-              let refused = subst (λ (n : Net). refusal_of n m (run m (no_recovery {S = S}) (map (λ p. p.1) p.steps)) s ≡ Some found.1) net found.4 in
-              let both = refused-behind on m no_recovery (first_world m) p.steps none new.number s ahead.0 sc found.1 ahead.1 refused in
+              let both = refused-behind sys.net sys.meaning sys.recovery (first_world sys.meaning) p.steps ran.allowed new.number s ahead.0 sc found.1 ahead.1 found.4 in
               let stands = subst (λ (n : ℕ). StandsAt now new after r.uses.rest' n) (sym found.3) read.2 in
               (stands-behind old now new left' after rest r.used number r.uses stands, both.0 ∙ (ap (λ n. Some (n, why_of found.1)) (sym found.3) ∙ ap (λ x. Some (number, x)) (sym found.5)), both.1)
         ]
 
-    ran-at : (x : Halt) → TookStep m follows t.input_of u (map (λ p. p.1) p.steps) p.gone now new left' after (Some x) → HasRun m follows (map (λ p. p.1) p.steps) p.gone u
+    ran-at : (x : Halt) → TookStep sys follows progress t.input_of u (map (λ p. p.1) p.steps) p.gone now new left' after (Some x) → HasRun sys follows progress (map (λ p. p.1) p.steps) p.gone u
     ran-at halt.End took = took.0
     ran-at halt.Read took = took.0
     ran-at (halt.Refused number w) took = took.0
 
-    pub played-halts : (x : Halt) → u.world.trace ≡ [] → TookStep m follows t.input_of u (map (λ p. p.1) p.steps) p.gone now new left' after (Some x) → Halted (stack_of on m t i) follows t u tally old new left after out out' x
+    pub played-halts : (x : Halt) → (progress u).trace ≡ [] → TookStep sys follows progress t.input_of u (map (λ p. p.1) p.steps) p.gone now new left' after (Some x) → Halted sys follows progress t i u tally old new left after out out' x
     played-halts x empty took = record {
       empty = empty;
       steps = map (λ p. p.1) p.steps;
@@ -248,44 +239,43 @@ module _ {H S I O M T : Type 0} (m : Meaning S I O M) (follows : T → Meaning S
     }
 
   -- what was written is a front of what the whole rest makes
-  module _ (on : Net) (v : RunView H S I O M T) (steps : List (Step I)) (gone : List (Item I O)) (ran : HasRun m follows steps gone v) (whole : Bool) (sc : Script I)
-      (front : (more : List (Step I)) × (taken (stack_of on m t i) sc ≡ steps ++ more)) where
-    text-front : (more : List ℕ) × ((replayed_script (stack_of on m t i) whole sc).out ≡ trace_text t.input_text t.output_text gone ++ (trace_text t.input_text t.output_text v.world.trace ++ more))
+  module _ (v : R) (steps : List (Step I)) (gone : List (Item I O)) (ran : HasRun sys follows progress steps gone v) (whole : Bool) (sc : Script I)
+      (front : (more : List (Step I)) × (taken (stack_of sys t i) sc ≡ steps ++ more)) where
+    text-front : (more : List ℕ) × ((replayed_script (stack_of sys t i) whole sc).out ≡ trace_text t.input_text t.output_text gone ++ (trace_text t.input_text t.output_text (progress v).trace ++ more))
     text-front =
-        let st = stack_of on m t i in
+        let st = stack_of sys t i in
         let a = ended-front st whole (taken st sc) (stop st sc) in
         let b = trace-front st steps front.0 in
         let text = trace_text t.input_text t.output_text in
-        let lines : trace_lines st steps ≡ text gone ++ text v.world.trace = ap text (sym ran.traced) ∙ lines-append t gone v.world.trace in (
+        let lines : trace_lines st steps ≡ text gone ++ text (progress v).trace = ap text (sym ran.traced) ∙ lines-append t gone (progress v).trace in (
           b.0 ++ a.0,
           a.1 ∙ (ap (λ ss. trace_lines st ss ++ a.0) front.1 ∙ (ap (λ xs. xs ++ a.0) b.1 ∙ (append_assoc (trace_lines st steps) b.0 a.0
-              ∙ (ap (λ xs. xs ++ (b.0 ++ a.0)) lines ∙ append_assoc (text gone) (text v.world.trace) (b.0 ++ a.0))))),
+              ∙ (ap (λ xs. xs ++ (b.0 ++ a.0)) lines ∙ append_assoc (text gone) (text (progress v).trace) (b.0 ++ a.0))))),
         )
 
-    pub written-front : (out out' : Option (List ℕ)) (tally : Tally) → TraceWritten t gone out out' tally → GainedFront out out' (replayed_script (stack_of on m t i) whole sc).out
-    written-front out out' tally before = gained-front out out' (trace_text t.input_text t.output_text gone) (trace_text t.input_text t.output_text v.world.trace ++ text-front.0) _ text-front.1 before.written
+    pub written-front : (out out' : Option (List ℕ)) (tally : Tally) → TraceWritten t gone out out' tally → GainedFront out out' (replayed_script (stack_of sys t i) whole sc).out
+    written-front out out' tally before = gained-front out out' (trace_text t.input_text t.output_text gone) (trace_text t.input_text t.output_text (progress v).trace ++ text-front.0) _ text-front.1 before.written
 
-    pub writing-front : (out mid out' : Option (List ℕ)) (tally : Tally) → TraceWritten t gone out mid tally → GainedFront mid out' (trace_text t.input_text t.output_text v.world.trace)
-        → GainedFront out out' (replayed_script (stack_of on m t i) whole sc).out
+    pub writing-front : (out mid out' : Option (List ℕ)) (tally : Tally) → TraceWritten t gone out mid tally → GainedFront mid out' (trace_text t.input_text t.output_text (progress v).trace)
+        → GainedFront out out' (replayed_script (stack_of sys t i) whole sc).out
     writing-front out mid out' tally before more =
-        gained-some out mid out' (trace_text t.input_text t.output_text gone) (trace_text t.input_text t.output_text v.world.trace) _ text-front.0 text-front.1 before.written more
+        gained-some out mid out' (trace_text t.input_text t.output_text gone) (trace_text t.input_text t.output_text (progress v).trace) _ text-front.0 text-front.1 before.written more
 
 -- what was written while steps are played is a front of what the whole rest makes
-module _ {H S I O M T : Type 0} (m : Meaning S I O M) (follows : T → Meaning S I O M → List (Step I) → Type 0) (t : Texts I O) (i : Image I) (on : Net) (v : RunView H S I O M T) (tally : Tally) (old now : ReaderView) (left left' out out' : Option (List ℕ)) where
-  ahead : (p : Played m follows t v tally old now left left' out out') → v.world.net ≡ on → (rest : List ℕ) → HasRest old left rest
-      → (more : List (Step I)) × (taken (stack_of on m t i) (script old.most t.input_of (old.number + 1) old.events (lines_of rest)) ≡ map (λ p. p.1) p.steps ++ more)
-  ahead p net rest has =
+module _ {R S K I O M G : Type 0} (sys : System S K I O M G) (follows : R → List (Step I) → Type 0) (progress : R → Progress I O) (t : Texts I O) (i : ImageText G) (v : R) (tally : Tally) (old now : ReaderView) (left left' out out' : Option (List ℕ)) where
+  ahead : (p : Played sys follows progress t v tally old now left left' out out') → (rest : List ℕ) → HasRest old left rest
+      → (more : List (Step I)) × (taken (stack_of sys t i) (script old.most t.input_of (old.number + 1) old.events (lines_of rest)) ≡ map (λ p. p.1) p.steps ++ more)
+  ahead p rest has =
       let r = p.reads rest has in
-      let none = subst (λ (n : Net). first_refused n m (no_recovery {S = S}) (map (λ p. p.1) p.steps) ≡ None) net p.ran.allowed in
-      taken-front on m no_recovery (first_world m) p.steps none (script now.most t.input_of (now.number + 1) now.events (lines_of r.uses.rest'))
+      taken-front sys.net sys.meaning sys.recovery (first_world sys.meaning) p.steps p.ran.allowed (script now.most t.input_of (now.number + 1) now.events (lines_of r.uses.rest'))
       (script old.most t.input_of (old.number + 1) old.events (lines_of rest)) (script-rest t.input_of old now left' rest p.steps p.events p.most r)
 
-  pub played-front : (p : Played m follows t v tally old now left left' out out') → v.world.net ≡ on → (rest : List ℕ) → HasRest old left rest
-      → GainedFront out out' (replayed_script (stack_of on m t i) true (script old.most t.input_of (old.number + 1) old.events (lines_of rest))).out
-  played-front p net rest has = written-front m follows t i on v (map (λ p. p.1) p.steps) p.gone p.ran true (script old.most t.input_of (old.number + 1) old.events (lines_of rest)) (ahead p net rest has) out out' tally p.written
+  pub played-front : (p : Played sys follows progress t v tally old now left left' out out') → (rest : List ℕ) → HasRest old left rest
+      → GainedFront out out' (replayed_script (stack_of sys t i) true (script old.most t.input_of (old.number + 1) old.events (lines_of rest))).out
+  played-front p rest has = written-front sys follows progress t i v (map (λ p. p.1) p.steps) p.gone p.ran true (script old.most t.input_of (old.number + 1) old.events (lines_of rest)) (ahead p rest has) out out' tally p.written
 
-pub playing-front : {H S I O M T : Type 0} (m : Meaning S I O M) (follows : T → Meaning S I O M → List (Step I) → Type 0) (t : Texts I O) (i : Image I) (on : Net) (v : RunView H S I O M T) (tally : Tally) (old now : ReaderView) (left left' out mid out' : Option (List ℕ))
-    → (p : Played m follows t v tally old now left left' out mid) → v.world.net ≡ on → (rest : List ℕ) → HasRest old left rest → GainedFront mid out' (trace_text t.input_text t.output_text v.world.trace)
-    → GainedFront out out' (replayed_script (stack_of on m t i) true (script old.most t.input_of (old.number + 1) old.events (lines_of rest))).out
-playing-front m follows t i on v tally old now left left' out mid out' p net rest has more =
-    writing-front m follows t i on v (map (λ p. p.1) p.steps) p.gone p.ran true (script old.most t.input_of (old.number + 1) old.events (lines_of rest)) (ahead m follows t i on v tally old now left left' out mid p net rest has) out mid out' tally p.written more
+pub playing-front : {R S K I O M G : Type 0} (sys : System S K I O M G) (follows : R → List (Step I) → Type 0) (progress : R → Progress I O) (t : Texts I O) (i : ImageText G) (v : R) (tally : Tally) (old now : ReaderView) (left left' out mid out' : Option (List ℕ))
+    → (p : Played sys follows progress t v tally old now left left' out mid) → (rest : List ℕ) → HasRest old left rest → GainedFront mid out' (trace_text t.input_text t.output_text (progress v).trace)
+    → GainedFront out out' (replayed_script (stack_of sys t i) true (script old.most t.input_of (old.number + 1) old.events (lines_of rest))).out
+playing-front sys follows progress t i v tally old now left left' out mid out' p rest has more =
+    writing-front sys follows progress t i v (map (λ p. p.1) p.steps) p.gone p.ran true (script old.most t.input_of (old.number + 1) old.events (lines_of rest)) (ahead sys follows progress t i v tally old now left left' out mid p rest has) out mid out' tally p.written more

@@ -1,6 +1,7 @@
 pub mod Stacks
 pub mod Replaying
 pub mod Replays
+pub mod Explained
 pub mod Tallying
 pub mod Playing
 pub mod Finishing

@@ -6,6 +6,7 @@ use Rattle.vst_base.specs.declared.lock.LockMsg.{LockMsg}
 use Rattle.vst_base.specs.declared.stack.StackId.{StackId}
 use Rattle.vst_base.specs.declared.stack.StackId.TheVariants as stack
 use Rattle.lock_server.specs.declared.state.LockState.{LockState}
+use Rattle.vst_base.specs.declared.net.Net.{Net}
 use Rattle.vst_base.specs.declared.net.Net.TheVariants as net
 use Rattle.vst_base.specs.declared.seq.SeqMsg.{SeqMsg}
 use Rattle.net_semantics.specs.BelowPb.{below_pb}
@@ -18,6 +19,13 @@ use Rattle.vst_base.specs.declared.pb_out.PbOut.{PbOut}
 use Rattle.kv_machine.specs.declared.cmd.KvCmd.{KvCmd}
 use Rattle.kv_machine.specs.declared.out.KvOut.{KvOut}
 use Rattle.kv_machine.specs.Kv.{Store, kv}
+use Rattle.raft_types.specs.Keeping.{KeptView}
+use Rattle.raft_types.specs.declared.client.RaftInput.{RaftInput}
+use Rattle.raft_types.specs.declared.client.RaftOut.{RaftOut}
+use Rattle.raft_types.specs.declared.msg.RaftMsg.{RaftMsg}
+use Rattle.raft_xform.specs.Nodes.{RaftView}
+use Rattle.xform_stack.specs.Clusters.{cluster_of}
+use Rattle.xform_stack.specs.Running.{system_of}
 use Rattle.primary_backup.specs.Backed.{Backed}
 use Rattle.primary_backup.specs.Backup.{primary_backup}
 use Rattle.seqnum_xform.specs.Numbered.{Numbered}
@@ -27,12 +35,13 @@ use Rattle.single_node.specs.SingleNode.{single_node}
 use Rattle.app_text.specs.LockTexts.{input_of, input_text, output_text}
 use Rattle.app_text.specs.KvTexts as kv
 use Rattle.app_text.specs.PbTexts.{pb_output_text, pb_replies}
+use Rattle.raft_text.specs.RaftTexts.{order_text, raft_input_of, raft_input_text, raft_output_text, raft_replies}
 use Rattle.schedule_text.specs.declared.header.Header.{Header}
 use Rattle.line_reader.specs.declared.why.Why.TheVariants as why
 use Rattle.line_reader.specs.Lines.{lines_of, whole_lines}
 use Rattle.line_reader.specs.Readers.{ReaderView}
 use Rattle.schedule_text.specs.Schedules.{Opening, Opened, RefusedAt, EndedAt, opening, script}
-use Rattle.schedule_replay.specs.Stacks.{Stack, Texts, Image, stack_of}
+use Rattle.schedule_replay.specs.Stacks.{Stack, Texts, schedule_image, stack_of}
 use Rattle.schedule_replay.specs.Replaying.{Replayed, refused_at, no_counts, replayed_script}
 
 abbrev pub kv_texts : Texts KvCmd KvOut
@@ -40,6 +49,14 @@ kv_texts = record { input_of = kv.input_of; input_text = kv.input_text; output_t
 
 abbrev pub kv_pb_texts : Texts KvCmd (PbOut KvOut)
 kv_pb_texts = record { input_of = kv.input_of; input_text = kv.input_text; output_text = pb_output_text kv.output_text; is_reply = pb_replies }
+
+abbrev pub kv_raft_texts : Texts (RaftInput KvCmd) (RaftOut KvOut)
+kv_raft_texts = record {
+  input_of = raft_input_of kv.input_of;
+  input_text = raft_input_text kv.input_text;
+  output_text = raft_output_text kv.output_text;
+  is_reply = raft_replies;
+}
 
 abbrev pub lock_texts : Texts LockInput LockOutput
 lock_texts = record { input_of = input_of; input_text = input_text; output_text = output_text; is_reply = λ _. true }
@@ -50,12 +67,12 @@ lock_header h = record { net = net.Bag; stack = stack.Lock; nodes = h.nodes }
 
 -- the lock server on a bag: its image is the schedule itself
 abbrev pub lock_stack : Header → Stack LockState LockState LockInput LockOutput LockMsg
-lock_stack h = stack_of net.Bag (lock_server h.nodes) lock_texts (record { header = h; steps = λ ss. ss })
+lock_stack h = stack_of (system_of net.Bag (lock_server h.nodes) (λ ss. ss)) lock_texts (schedule_image h input_text)
 
 -- the lock server with numbered packets on a network that copies them: its image is a schedule of the lock server on a bag,
 -- without the repeats
 abbrev pub lock_seq_stack : Header → Stack (Numbered LockState) (Numbered LockState) LockInput LockOutput (SeqMsg LockMsg)
-lock_seq_stack h = stack_of net.Dup (sequence_numbered (lock_server h.nodes)) lock_texts (record { header = lock_header h; steps = once })
+lock_seq_stack h = stack_of (system_of net.Dup (sequence_numbered (lock_server h.nodes)) once) lock_texts (schedule_image (lock_header h) input_text)
 
 -- the header of the key-value machine alone
 abbrev pub kv_header : Header
@@ -63,18 +80,22 @@ kv_header = record { net = net.One; stack = stack.Kv; nodes = 1 }
 
 -- the key-value machine alone, at its node: its image is the schedule itself
 abbrev pub kv_stack : Stack Store Store KvCmd KvOut (Unit {0})
-kv_stack = stack_of net.One (single_node kv) kv_texts (record { header = kv_header; steps = λ ss. ss })
+kv_stack = stack_of (system_of net.One (single_node kv) (λ ss. ss)) kv_texts (schedule_image kv_header kv.input_text)
 
 -- what is below primary-backup: the key-value machine alone, over the commands that were replied to
-abbrev pub kv_image : {S M : Type 0} → Meaning S KvCmd (PbOut KvOut) M → Image KvCmd
-kv_image {S = S} m = record { header = kv_header; steps = λ ss. alone (below_pb (trace m (no_recovery {S = S}) ss)) }
+abbrev pub backed_up : {S M : Type 0} → Net → Meaning S KvCmd (PbOut KvOut) M → Stack S S KvCmd (PbOut KvOut) M
+backed_up {S = S} net m = stack_of (system_of net m (λ ss. alone (below_pb (trace m (no_recovery {S = S}) ss)))) kv_pb_texts (schedule_image kv_header kv.input_text)
 
 -- the key-value machine under primary-backup, on a bag and, with numbered packets, on a network that copies them
 abbrev pub kv_pb_stack : Stack (Backed Store KvCmd) (Backed Store KvCmd) KvCmd (PbOut KvOut) (PbMsg KvCmd)
-kv_pb_stack = stack_of net.Bag (primary_backup kv) kv_pb_texts (kv_image (primary_backup kv))
+kv_pb_stack = backed_up net.Bag (primary_backup kv)
 
 abbrev pub kv_pb_seq_stack : Stack (Numbered (Backed Store KvCmd)) (Numbered (Backed Store KvCmd)) KvCmd (PbOut KvOut) (SeqMsg (PbMsg KvCmd))
-kv_pb_seq_stack = stack_of net.Dup (sequence_numbered (primary_backup kv)) kv_pb_texts (kv_image (sequence_numbered (primary_backup kv)))
+kv_pb_seq_stack = backed_up net.Dup (sequence_numbered (primary_backup kv))
+
+-- the key-value machine on a cluster that fails: its image is the order in which one machine takes the requests
+abbrev pub kv_raft_stack : Header → Stack (RaftView Store KvCmd KvOut) (KeptView KvCmd) (RaftInput KvCmd) (RaftOut KvOut) (RaftMsg KvCmd)
+kv_raft_stack h = stack_of (cluster_of kv h.nodes) kv_raft_texts (record { header = None; line = order_text kv.input_text })
 
 -- the greatest number of a line
 abbrev pub most_lines : ℕ
@@ -91,7 +112,7 @@ replayed_stack whole h stack.Lock most number events ls = replayed_by (lock_stac
 replayed_stack whole h stack.LockSeq most number events ls = replayed_by (lock_seq_stack h) whole most number events ls
 replayed_stack whole h stack.KvPb most number events ls = replayed_by kv_pb_stack whole most number events ls
 replayed_stack whole h stack.KvPbSeq most number events ls = replayed_by kv_pb_seq_stack whole most number events ls
-replayed_stack whole h stack.KvRaft most number events ls = refused_at (number - 1) why.Header
+replayed_stack whole h stack.KvRaft most number events ls = replayed_by (kv_raft_stack h) whole most number events ls
 replayed_stack whole h stack.TablePbSeq most number events ls = refused_at (number - 1) why.Header
 replayed_stack whole h stack.TableRaft most number events ls = refused_at (number - 1) why.Header
 replayed_stack whole h stack.Kv most number events ls = replayed_by kv_stack whole most number events ls

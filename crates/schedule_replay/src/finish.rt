@@ -7,44 +7,45 @@ use crate::Done;
 use crate::tally::Tally;
 use app_text::AppText;
 use outside::Sink;
-use schedule_text::{Header, LineFault, NEWLINE, print_steps, print_text};
+use schedule_text::{Header, LineFault, NEWLINE, Printed, print_lines, print_text};
 use std::alloc::{AllocError, Global};
-use vst_base::Step;
 
-// The line between a trace and its image, and the image's header.
-fn image_head(alloc: Global, header: &Header) -> Result<Vec<u8>, AllocError>
-    ensures { IfOk result (λ head. head.items ≡ image_head header.now) }
+// The line between a trace and its image, and the image's header, if it has one.
+fn image_head(alloc: Global, header: Option<Header>) -> Result<Vec<u8>, AllocError>
+    ensures { IfOk result (λ head. head.items ≡ image_head header) }
 {
     let mut head = Vec::new(alloc);
     head.extend_from_slice(b"below\n")?;
-    header.push_text(&mut head)?;
-    head.push(NEWLINE)?;
+    if let Some(header) = header {
+        header.push_text(&mut head)?;
+        head.push(NEWLINE)?;
+    }
     Ok(head)
 }
 
 // Writes an image, and tells the counts of a run of so many events.
-pub(crate) fn finish<A: AppText, K: Sink>(
+pub(crate) fn finish<A: AppText, L: Printed<A>, K: Sink>(
     alloc: Global,
-    header: &Header,
-    steps: &[Step<A::Input>],
+    header: Option<Header>,
+    image: &[L],
     events: u32,
     tally: &Tally,
     sink: &mut K,
 ) -> Result<Done, LineFault>
-    ensures ok { OnOk result (Gained (K.written sink.old) (K.written sink.new) (image_text A.input_text header.now steps.now)) }
-    ensures err { OnErr result (GainedFront (K.written sink.old) (K.written sink.new) (image_text A.input_text header.now steps.now)) }
-    ensures done { IfOk result (λ done. done ≡ counted_done tally.now events steps.now) }
+    ensures ok { OnOk result (Gained (K.written sink.old) (K.written sink.new) (image_text (record { header = header; line = L.text }) image.now)) }
+    ensures err { OnErr result (GainedFront (K.written sink.old) (K.written sink.new) (image_text (record { header = header; line = L.text }) image.now)) }
+    ensures done { IfOk result (λ done. done ≡ counted_done tally.now events image.now) }
     ensures fault { IfErr result (HasWriteCause (K.faults sink.old) (K.faults sink.new)) }
     ensures counts { K.faults sink.old ≤ K.faults sink.new }
 {
     let head = image_head(alloc, header)?;
     print_text(sink, &head)?;
-    print_steps::<A, K>(alloc, sink, steps)?;
+    print_lines::<A, L, K>(alloc, sink, image)?;
     Ok(Done {
         events: u64::from(events),
         inputs: tally.inputs,
         outputs: tally.outputs,
         replies: tally.replies,
-        image: steps.len() as u64,
+        image: image.len() as u64,
     })
 }

@@ -1,11 +1,16 @@
-ghost use Rattle.std.specs.Prelude.{◌≡◌, List};
+ghost use Rattle.std.specs.Prelude.{◌≡◌, ℕ, List, None};
 ghost use Rattle.kv_machine.specs.Kv.{kv};
 ghost use Rattle.kv_machine.specs.declared.cmd.KvCmd.{KvCmd};
+ghost use Rattle.linearizability.specs.Linearizable.{IsLinearizable};
 ghost use Rattle.net_semantics.specs.BelowPb.{IsExplainedBy};
 ghost use Rattle.net_semantics.specs.Once.{once};
 ghost use Rattle.net_semantics.specs.Runs.{IsAllowed, machine_trace};
+ghost use Rattle.raft_safety.specs.Applied.{executed_by};
+ghost use Rattle.raft_types.specs.Ranges.{IsClusterSize};
+ghost use Rattle.raft_types.specs.declared.client.RaftInput.{RaftInput};
+ghost use Rattle.schedule_replay.specs.Explained.{IsExplained};
 ghost use Rattle.schedule_replay.specs.Replaying.{trace_of};
-ghost use Rattle.schedule_replay.specs.Replays.{kv_pb_seq_stack, kv_pb_stack, kv_stack, lock_header, lock_seq_stack, lock_stack};
+ghost use Rattle.schedule_replay.specs.Replays.{kv_pb_seq_stack, kv_pb_stack, kv_raft_stack, kv_stack, lock_header, lock_seq_stack, lock_stack, replayed};
 ghost use Rattle.schedule_text.specs.declared.header.Header.{Header};
 ghost use Rattle.trace_maps.specs.Replying.{alone};
 ghost use Rattle.vst_base.specs.declared.step.Step.{Step};
@@ -13,6 +18,8 @@ ghost use Rattle.vst_base.specs.declared.step.Step.{Step};
 use kv_machine::KvMachine;
 use lock_server::LockServer;
 use primary_backup::{PrimaryBackup, one_machine_explains};
+use raft_safety::clients_see_one_machine;
+use raft_text::headers_give_cluster_sizes;
 use seqnum_xform::repeats_do_nothing;
 use single_node::is_the_machine;
 use vst_base::LockInput;
@@ -36,6 +43,26 @@ pub fn machine_explains_images()
 {
     one_machine_explains::<KvMachine>();
     repeats_do_nothing::<PrimaryBackup<KvMachine>>();
+}
+
+/// What clients see of the key-value machine on a cluster is linearizable by the order that stands below their trace
+/// (Herlihy and Wing 1990): one machine that takes its requests in this order explains it.
+pub fn machine_explains_clusters()
+    ensures { (h : Header) (ss : List (Step (RaftInput KvCmd))) → IsClusterSize h.nodes → IsAllowed (kv_raft_stack h).net (kv_raft_stack h).meaning (kv_raft_stack h).recovery ss
+        → IsLinearizable kv (executed_by kv h.nodes ss) (trace_of (kv_raft_stack h) ss) }
+{
+    clients_see_one_machine::<KvMachine>();
+}
+
+/// The trace of every text of which no line is refused is explained by what its image stands for.
+pub fn traces_are_explained()
+    ensures { (bytes : List ℕ) → (replayed bytes).refused ≡ None → IsExplained bytes }
+{
+    same_under_images();
+    machine_explains_images();
+    machine_explains_clusters();
+    is_the_machine::<KvMachine>();
+    headers_give_cluster_sizes();
 }
 
 /// What is below primary-backup can itself be replayed: the key-value machine alone takes any commands, and its trace is each

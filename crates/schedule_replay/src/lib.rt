@@ -20,7 +20,10 @@ mod writing;
 pub use done::Done;
 pub use examples::worked;
 pub use fault::ReplayFault;
-pub use laws::{machine_explains_images, machine_takes_images, same_under_images};
+pub use laws::{
+    machine_explains_clusters, machine_explains_images, machine_takes_images, same_under_images,
+    traces_are_explained,
+};
 pub use stream::replay;
 
 #[cfg(test)]

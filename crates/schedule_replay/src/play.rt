@@ -1,7 +1,6 @@
 ghost use Rattle.std.specs.Prelude.{◌≡◌, ◌+◌, ◌≤◌, ℕ, true, false, List, [], Ok, IfErr, IfOk, OnOk};
 ghost use Rattle.line_reader.specs.Lines.{lines_of};
 ghost use Rattle.line_reader.specs.Readers.{HasRest};
-ghost use Rattle.net_semantics.specs.Shown.{IsSound};
 ghost use Rattle.outside.specs.Counting.{Rose};
 ghost use Rattle.outside.specs.Wholes.{GainedFront};
 ghost use Rattle.schedule_text.specs.Schedules.{script};
@@ -9,54 +8,45 @@ ghost use Rattle.schedule_text.specs.Sending.{HasWriteCause};
 ghost use Rattle.xform_stack.specs.Running.{HasRun};
 ghost use Rattle.schedule_replay.specs.Playing.{Halted};
 ghost use Rattle.schedule_replay.specs.Replaying.{replayed_script};
-ghost use Rattle.schedule_replay.specs.Stacks.{Image, stack_of, texts_of};
+ghost use Rattle.schedule_replay.specs.Stacks.{ImageText, stack_of, texts_of};
 
 use crate::halt::Halt;
 use crate::taking::take_step;
 use crate::tally::Tally;
 use crate::writing::write_trace;
 use app_text::AppText;
-use handler_trait::Handlers;
 use outside::{Sink, Source};
-use schedule_text::{Header, LineFault, Reader};
+use schedule_text::{LineFault, Reader};
 use std::alloc::Global;
-use xform_stack::{Running, TraceMap};
+use xform_stack::Runs;
 
 // Plays the steps of a schedule behind its header up to where they end. What clients saw of a step is written at once.
-pub(crate) fn play<
-    H: Handlers,
-    A: AppText<Input = H::Input, Output = H::Output>,
-    T: TraceMap<H>,
-    S: Source,
-    K: Sink,
->(
+pub(crate) fn play<R: Runs, A: AppText<Input = R::Input, Output = R::Output>, S: Source, K: Sink>(
     alloc: Global,
-    header: &Header,
-    running: &mut Running<H, T>,
+    running: &mut R,
     tally: &mut Tally,
     reader: &mut Reader,
     source: &mut S,
     sink: &mut K,
 ) -> Result<Halt, LineFault>
-    requires sound { IsSound (H.meaning running.old.world.handlers) (H.sound running.old.world.handlers) (H.spent running.old.world.handlers) running.old.world }
-    requires started { HasRun (H.meaning running.old.world.handlers) T.has_followed [] [] running.old }
-    requires net { running.old.world.net ≡ header.now.net }
+    requires sound { R.sound running.old }
+    requires started { HasRun (R.system running.old) R.follows R.progress [] [] running.old }
     requires tally { tally.old ≡ record { inputs = 0; outputs = 0; replies = 0 } }
-    ensures halted { IfOk result (λ halt. (i : Image H.Input) → Halted (stack_of header.now.net (H.meaning running.old.world.handlers) (texts_of A.input_of A.input_text A.output_text A.replies) i) T.has_followed (texts_of A.input_of A.input_text A.output_text A.replies)
+    ensures halted { IfOk result (λ halt. (i : ImageText R.Line) → Halted (R.system running.old) R.follows R.progress (texts_of A.input_of A.input_text A.output_text A.replies) i
         running.new tally.new reader.old reader.new (S.left source.old) (S.left source.new) (K.written sink.old) (K.written sink.new) halt) }
-    ensures front { IfErr result (λ _. (i : Image H.Input) (rest : List ℕ) → HasRest reader.old (S.left source.old) rest → GainedFront (K.written sink.old) (K.written sink.new)
-        (replayed_script (stack_of header.now.net (H.meaning running.old.world.handlers) (texts_of A.input_of A.input_text A.output_text A.replies) i) true (script reader.old.most A.input_of (reader.old.number + 1) reader.old.events (lines_of rest))).out) }
+    ensures front { IfErr result (λ _. (i : ImageText R.Line) (rest : List ℕ) → HasRest reader.old (S.left source.old) rest → GainedFront (K.written sink.old) (K.written sink.new)
+        (replayed_script (stack_of (R.system running.old) (texts_of A.input_of A.input_text A.output_text A.replies) i) true (script reader.old.most A.input_of (reader.old.number + 1) reader.old.events (lines_of rest))).out) }
     ensures fault { IfErr result (HasWriteCause (K.faults sink.old) (K.faults sink.new)) }
     ensures read { result ≡ Ok Halt.Read → Rose (S.faults source.old) (S.faults source.new) }
     ensures going { result ≡ Ok Halt.Read → reader.old.ended ≡ false }
     ensures reads { S.faults source.old ≤ S.faults source.new }
     ensures writes { K.faults sink.old ≤ K.faults sink.new }
-    ensures kept { OnOk result ((running.new.world.handlers ≡ running.old.world.handlers) × (running.new.world.net ≡ running.old.world.net)) }
+    ensures system { OnOk result (R.system running.new ≡ R.system running.old) }
 {
     loop {
-        if let Some(halt) = take_step::<H, A, T, S>(alloc, running, reader, source)? {
+        if let Some(halt) = take_step::<R, A, S>(alloc, running, reader, source)? {
             return Ok(halt);
         }
-        write_trace::<H, A, T, K>(alloc, running, tally, sink)?;
+        write_trace::<R, A, K>(alloc, running, tally, sink)?;
     }
 }

@@ -1,5 +1,4 @@
 ghost use Rattle.std.specs.Prelude.{◌≡◌, ◌+◌, ◌<◌, ◌≤◌, List, true, false, None, Some, Ok, IfOk, OnOk};
-ghost use Rattle.net_semantics.specs.Shown.{IsSound};
 ghost use Rattle.outside.specs.Counting.{Rose};
 ghost use Rattle.vst_base.specs.declared.step.Step.{Step};
 ghost use Rattle.vst_base.specs.declared.step.Item.{Item};
@@ -10,12 +9,11 @@ ghost use Rattle.schedule_replay.specs.Replaying.{why_of};
 
 use crate::halt::Halt;
 use app_text::AppText;
-use handler_trait::Handlers;
 use outside::Source;
 use schedule_text::{LineFault, Reader, Why, read_step};
 use std::alloc::{AllocError, Global};
 use vst_base::StepRefusal;
-use xform_stack::{RunFault, Running, TraceMap};
+use xform_stack::{RunFault, Runs};
 
 // A world's refusal as a line's. Want of memory is no refusal.
 fn why_of(refusal: StepRefusal) -> Why
@@ -32,25 +30,19 @@ fn why_of(refusal: StepRefusal) -> Why
 }
 
 // Reads the next step and takes it, or says where the steps come to their end, which changes nothing.
-pub(crate) fn take_step<
-    H: Handlers,
-    A: AppText<Input = H::Input, Output = H::Output>,
-    T: TraceMap<H>,
-    S: Source,
->(
+pub(crate) fn take_step<R: Runs, A: AppText<Input = R::Input, Output = R::Output>, S: Source>(
     alloc: Global,
-    running: &mut Running<H, T>,
+    running: &mut R,
     reader: &mut Reader,
     source: &mut S,
 ) -> Result<Option<Halt>, AllocError>
-    requires sound { IsSound (H.meaning running.old.world.handlers) (H.sound running.old.world.handlers) (H.spent running.old.world.handlers) running.old.world }
-    requires counted { running.old.world.taken ≤ reader.old.events }
-    ensures took { IfOk result (λ answer. (ss : List (Step H.Input)) (gone : List (Item H.Input H.Output)) → HasRun (H.meaning running.old.world.handlers) T.has_followed ss gone running.old
-        → TookStep (H.meaning running.old.world.handlers) T.has_followed A.input_of running.new ss gone reader.old reader.new (S.left source.old) (S.left source.new) answer) }
-    ensures handlers { running.new.world.handlers ≡ running.old.world.handlers }
-    ensures net { running.new.world.net ≡ running.old.world.net }
-    ensures taken { result ≡ Ok None → running.new.world.taken ≡ running.old.world.taken + 1 }
-    ensures sound { OnOk result (IsSound (H.meaning running.old.world.handlers) (H.sound running.old.world.handlers) (H.spent running.old.world.handlers) running.new.world) }
+    requires sound { R.sound running.old }
+    requires counted { (R.progress running.old).taken ≤ reader.old.events }
+    ensures took { IfOk result (λ answer. (ss : List (Step R.Input)) (gone : List (Item R.Input R.Output)) → HasRun (R.system running.old) R.follows R.progress ss gone running.old
+        → TookStep (R.system running.old) R.follows R.progress A.input_of running.new ss gone reader.old reader.new (S.left source.old) (S.left source.new) answer) }
+    ensures system { R.system running.new ≡ R.system running.old }
+    ensures taken { result ≡ Ok None → (R.progress running.new).taken ≡ (R.progress running.old).taken + 1 }
+    ensures sound { OnOk result (R.sound running.new) }
     ensures events { result ≡ Ok None → reader.new.events ≡ reader.old.events + 1 }
     ensures number { result ≡ Ok None → (reader.old.number < reader.new.number) × (reader.new.number ≤ reader.new.most) }
     ensures most { reader.new.most ≡ reader.old.most }

@@ -1,6 +1,7 @@
 -- These print numbers, whose digits have to be computed.
 use Rattle.std.proofs.Common.{◌≡◌, ◌∷◌, [], List, Option, None, Some, ℕ, codes, map, refl}
 use Rattle.std.specs.Cmp.Lexicographic.{nat_list_cmp_total}
+use Rattle.std.specs.Cmp.{nat_cmp_total}
 use Rattle.std.specs.FinMap.{get-empty, get-insert, get-remove}
 use Rattle.std.specs.Fmt.{digits}
 use Rattle.app_text.specs.KvTexts as kv
@@ -147,3 +148,21 @@ alone-trace = simp lookups
 pub returns-clause-at_once : goal.returns-clause-at_once
 unfolding digits
 returns-clause-at_once c = whole-out kv_stack alone_script refl alone-allowed alone_items alone-trace
+
+-- and of sessions, by the numbers of clients
+ruleset lookups_and_sessions = (get-empty, get-insert, get-remove, nat_list_cmp_total, nat_cmp_total)
+
+pub returns-clause-one_node_cluster : goal.returns-clause-one_node_cluster
+unfolding digits
+returns-clause-one_node_cluster c = simp lookups_and_sessions
+
+pub returns-clause-asked_again : goal.returns-clause-asked_again
+unfolding digits
+returns-clause-asked_again c = simp lookups_and_sessions
+
+pub returns-clause-a_vote_outlives_a_reboot : goal.returns-clause-a_vote_outlives_a_reboot
+unfolding digits
+returns-clause-a_vote_outlives_a_reboot c = refl
+
+pub returns-clause-one_node_cluster_counted : goal.returns-clause-one_node_cluster_counted
+returns-clause-one_node_cluster_counted c = simp lookups_and_sessions

@@ -1,7 +1,4 @@
-use Rattle.std.proofs.Common.{◌≡◌, Some, inl, inr, sym, subst}
-use Rattle.vst_base.specs.declared.net.Net.{Net}
-use Rattle.net_semantics.specs.Steps.{refusal_of}
-use Rattle.net_semantics.specs.Runs.{run, no_recovery}
+use Rattle.std.proofs.Common.{inl, inr, sym, subst}
 use Rattle.xform_stack.specs.Running.{HasRun}
 use Rattle.schedule_replay.proofs.taking.take_step.Goals as goal
 
@@ -21,16 +18,16 @@ returns-in-Ok-step-clause-took g c = λ ss gone ran. (c.in-Ok.step, c.in-Ok-step
 
 pub returns-in-Ok-clause-took : goal.returns-in-Ok-clause-took
 returns-in-Ok-clause-took g c = λ ss gone ran.
-    let m = g.H.Handlers.meaning c.args.running.now.world.handlers in
+    let r = g.R.Runs in
     let refused = rw c.in-Err-Step.field-0-is at c.in-Err-Step.ensures.refused ss gone ran in
     let same = (rw c.in-Err-Step.field-0-is at c.in-Err-Step.ensures.unchanged) (λ e. cc) in (
-      subst (HasRun m g.T.TraceMap.has_followed ss gone) (sym same) ran,
+      subst (HasRun (r.system c.args.running.now) r.follows r.progress ss gone) (sym same) ran,
       λ rest has. inr (
         c.in-Ok.step,
         c.in-Err-Step.why,
         c.in-Ok.ensures.told rest has,
         c.number.ensures,
-        subst (λ (n : Net). refusal_of n m (run m no_recovery ss) c.in-Ok.step ≡ Some c.in-Err-Step.why) (sym c.step.ensures.net) refused.0,
+        refused.0,
         c.why_of.ensures,
       ),
     )
