@@ -1,0 +1,4 @@
+pub mod LockHeaders
+pub mod StepLines
+pub mod Takings
+pub mod Readings

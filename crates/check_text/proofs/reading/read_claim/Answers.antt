@@ -1,0 +1,59 @@
+use Rattle.std.proofs.Common.{◌∙◌, refl, arith}
+use Rattle.check_text.specs.Forms.{form_of}
+use Rattle.check_text.proofs.Readings.{claim-ended, ends-cause, if-some, line-refused, line-taken, none-so-far}
+use Rattle.check_text.proofs.reading.read_claim.Goals as goal
+
+pub loop-fault-init : goal.loop-fault-init
+loop-fault-init g c =
+    let f = form_of c.args.nodes g.A.AppText.input_of g.A.AppText.output_of c.args.heading g.G.ImageText.says in
+    rw (c.in_ok-reader.ensures, c.new-draft.ensures) (record {
+      told = λ bytes has. none-so-far f (g.S.Source.left c.args.source.now) bytes has;
+      headed = λ e. cc;
+      counted = omega arith;
+      few = omega arith;
+      number = omega arith;
+      most = refl;
+      counts = omega arith;
+    })
+
+pub returns-in-Err-clause-told : goal.returns-in-Err-clause-told
+returns-in-Err-clause-told g c = if-some _ _ (λ bytes has.
+    let f = form_of c.args.nodes g.A.AppText.input_of g.A.AppText.output_of c.args.heading g.G.ImageText.says in
+    let inv = c.loop-fault.invariant in
+    let s = inv.told bytes has in
+    claim-ended f c.loop-fault.reader c.next_line.new.reader c.loop-fault.draft c.loop-fault.draft (g.S.Source.left c.loop-fault.source) (g.S.Source.left c.next_line.new.source) bytes s
+    (Unit {0}) c.in-Err.fault c.end_claim.result _ _ inv.most c.in-Err.ensures.fault (c.in-Err.ensures.told s.uses.rest' s.uses.left) c.in-Err.ensures.still (c.end_claim.ensures.ends c.args.nodes c.args.heading))
+
+pub returns-in-Err-clause-fault : goal.returns-in-Err-clause-fault
+returns-in-Err-clause-fault g c =
+    let f = form_of c.args.nodes g.A.AppText.input_of g.A.AppText.output_of c.args.heading g.G.ImageText.says in
+    ends-cause f c.loop-fault.draft c.next_line.new.reader.number c.loop-fault.reader _ _ _ c.in-Err.fault c.end_claim.result c.loop-fault.invariant.counts c.in-Err.ensures.fault (c.end_claim.ensures.ends c.args.nodes c.args.heading)
+
+pub returns-in-Some-clause-told : goal.returns-in-Some-clause-told
+returns-in-Some-clause-told g c = if-some _ _ (λ bytes has.
+    let f = form_of c.args.nodes g.A.AppText.input_of g.A.AppText.output_of c.args.heading g.G.ImageText.says in
+    let inv = c.loop-fault.invariant in
+    let s = inv.told bytes has in
+    let reads = c.in-Ok.ensures.told s.uses.rest' s.uses.left in
+    let takes = rw (c.in-Some.is, c.line.ensures) at c.in_ok-why.ensures.takes in
+    rw c.refuse.ensures (line-refused f c.loop-fault.reader c.next_line.new.reader c.loop-fault.draft c.take_line.new.draft (g.S.Source.left c.loop-fault.source) (g.S.Source.left c.next_line.new.source) bytes s
+    reads.0 reads.1 reads.3 reads.4 (c.next_line.ensures.kept.0 ∙ inv.most) c.in-Some.why takes))
+
+pub loop-fault-preserved : goal.loop-fault-preserved
+loop-fault-preserved g c =
+    let f = form_of c.args.nodes g.A.AppText.input_of g.A.AppText.output_of c.args.heading g.G.ImageText.says in
+    let inv = c.loop-fault.invariant in
+    let takes = rw (c.in_default.is, c.line.ensures) at c.in_ok-why.ensures.takes in
+    record {
+      told = λ bytes has.
+          let s = inv.told bytes has in
+          let reads = c.in-Ok.ensures.told s.uses.rest' s.uses.left in
+          line-taken f c.loop-fault.reader c.next_line.new.reader c.loop-fault.draft c.take_line.new.draft (g.S.Source.left c.loop-fault.source) (g.S.Source.left c.next_line.new.source) bytes s
+          reads.0 reads.1 reads.3 reads.4 (c.next_line.ensures.kept.0 ∙ inv.most) takes;
+      headed = c.in_ok-why.ensures.headed inv.headed;
+      counted = c.in_ok-why.ensures.counted inv.counted;
+      few = omega (arith, inv.few, c.in_ok-why.ensures.grows, c.in-Ok.ensures.number.0);
+      number = c.in-Ok.ensures.number.1;
+      most = c.next_line.ensures.kept.0 ∙ inv.most;
+      counts = omega (arith, inv.counts, c.next_line.ensures.counts);
+    }

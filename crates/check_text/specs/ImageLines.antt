@@ -1,0 +1,79 @@
+-- What a line of an image says, and why it may be refused.
+use Rattle.std.specs.Prelude.{ℕ, Bool, true, false, ◌≤◌, nat_le, List, [], ◌∷◌, Option, Some, None, is_none, option_and_then, if◌then◌else◌, codes}
+use Rattle.vst_base.specs.Firsts.{first_of}
+use Rattle.vst_base.specs.declared.stack.StackId.{StackId}
+use Rattle.vst_base.specs.declared.stack.StackId.TheVariants as stack
+use Rattle.vst_base.specs.declared.step.Step.{Step}
+use Rattle.line_reader.specs.declared.why.Why.{Why}
+use Rattle.line_reader.specs.declared.why.Why.TheVariants as why
+use Rattle.line_reader.specs.Limits.{line_refusals}
+use Rattle.schedule_text.specs.declared.header.Header.{Header}
+use Rattle.schedule_text.specs.Headers.{header_of}
+use Rattle.schedule_text.specs.Words.{cut, is_text}
+use Rattle.schedule_text.specs.Reading.{number_in, parts_of, step_of}
+use Rattle.check_text.specs.declared.heading.Heading.{Heading}
+use Rattle.check_text.specs.declared.heading.Heading.TheVariants as heading
+use Rattle.check_text.specs.declared.image_line.ImageLine.{ImageLine}
+use Rattle.check_text.specs.declared.image_line.ImageLine.TheVariants.{Says, Refused}
+use Rattle.check_text.specs.TraceLines.{most_lines}
+
+abbrev pub has_header : Heading → Bool
+has_header heading.Lock = true
+has_header heading.Kv = true
+has_header heading.Absent = false
+
+-- an image may have a header of a schedule of this stack
+abbrev pub heads : Heading → StackId → Bool
+heads heading.Lock stack.Lock = true
+heads heading.Kv stack.Kv = true
+heads _ _ = false
+
+abbrev pub header_if : Heading → Header → Option Header
+header_if kind h = if heads kind h.stack then Some h else None
+
+-- the header of an image that a line is, if it is one
+abbrev pub image_header : Heading → List ℕ → Option Header
+image_header kind line = option_and_then (header_if kind) (header_of line)
+
+-- where an image has a header of a schedule of the lock server, there is one, and it has as many nodes as a lock cluster
+abbrev pub IsHeaded : Heading → Option Header → Type 0
+IsHeaded heading.Lock None = ⊥
+IsHeaded heading.Lock (Some h) = (2 ≤ h.nodes) × (h.nodes ≤ 9)
+IsHeaded heading.Kv o = Unit {0}
+IsHeaded heading.Absent o = Unit {0}
+
+module _ {X : Type 0} where
+  abbrev pub said_or_refused : Option Why → Option X → ImageLine X
+  said_or_refused (Some w) x = Refused w
+  said_or_refused None (Some x) = Says x
+  said_or_refused None None = Refused why.Text
+
+-- a line of a schedule: its refusals in the order in which they are tried. Its numbers name what they like
+abbrev pub step_says : {I : Type 0} → (List ℕ → Option I) → List ℕ → ImageLine (Step I)
+step_says input_of line =
+    said_or_refused
+    (first_of ((why.UnknownWord, is_none (parts_of line)) ∷ (why.Number, is_none (number_in line)) ∷ (why.Text, is_none (step_of input_of line)) ∷ []))
+    (step_of input_of line)
+
+-- a line of an order: the word `order`, and a request
+abbrev pub behind_order : List ℕ → Option (List ℕ)
+behind_order line = option_and_then (λ p. if is_text p.0 (codes "order") then Some p.1 else None) (cut line)
+
+abbrev pub order_of : {I : Type 0} → (List ℕ → Option I) → List ℕ → Option I
+order_of input_of line = option_and_then input_of (behind_order line)
+
+abbrev pub order_says : {I : Type 0} → (List ℕ → Option I) → List ℕ → ImageLine I
+order_says input_of line =
+    said_or_refused (first_of ((why.UnknownWord, is_none (behind_order line)) ∷ (why.Text, is_none (order_of input_of line)) ∷ [])) (order_of input_of line)
+
+module _ {X : Type 0} where
+  abbrev pub image_unless : Option Why → ImageLine X → ImageLine X
+  image_unless (Some w) l = Refused w
+  image_unless None l = l
+
+  -- what a line of an image is behind so many others, where a line says this
+  abbrev pub counted_line : (List ℕ → ImageLine X) → ℕ → List ℕ → ImageLine X
+  counted_line says count line = image_unless (first_of ((why.TooManyEvents, nat_le 1000000 count) ∷ [])) (says line)
+
+  abbrev pub line_of_image : (List ℕ → ImageLine X) → ℕ → ℕ → List ℕ → ImageLine X
+  line_of_image says number count line = image_unless (first_of (line_refusals most_lines number line)) (counted_line says count line)

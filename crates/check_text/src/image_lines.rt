@@ -1,0 +1,106 @@
+ghost use Rattle.std.specs.Prelude.{◌≡◌, IfOk, IfSome, Some};
+ghost use Rattle.check_text.specs.ImageLines.{IsHeaded, behind_order, counted_line, heads, image_header, order_says, step_says};
+ghost use Rattle.line_reader.specs.Slices.{one};
+
+use crate::{Heading, ImageLine, ImageText};
+use app_text::{AppText, TextFault};
+use line_reader::cut_at;
+use schedule_text::{Header, Line, MAX_EVENTS, SPACE, Why, header_of, line_says};
+use std::alloc::{AllocError, Global};
+use std::marker::PhantomData;
+use vst_base::{StackId, Step};
+
+/// The lines of a schedule, by the texts of its inputs.
+pub struct Steps<A> {
+    texts: PhantomData<A>,
+}
+
+/// The lines of an order: the word `order` and the text of an input.
+pub struct Orders<A> {
+    texts: PhantomData<A>,
+}
+
+impl<A: AppText> ImageText for Steps<A> {
+    type Line = Step<A::Input>;
+
+    ghost says = { step_says A.input_of };
+
+    fn read_line(alloc: Global, line: &[u8]) -> Result<ImageLine<Step<A::Input>>, AllocError> {
+        match line_says::<A>(alloc, 0, line)? {
+            Line::IsStep(step) => Ok(ImageLine::Says(step)),
+            Line::Refused(why) => Ok(ImageLine::Refused(why)),
+            Line::Skipped => Ok(ImageLine::Refused(Why::UnknownWord)),
+        }
+    }
+}
+
+// What stands behind the word `order`.
+fn behind_order(line: &[u8]) -> Option<&[u8]>
+    ensures { one result ≡ behind_order line.now }
+{
+    match cut_at(line, SPACE) {
+        Some((word, rest)) => {
+            if word == b"order".as_slice() {
+                Some(rest)
+            } else {
+                None
+            }
+        }
+        None => None,
+    }
+}
+
+impl<A: AppText> ImageText for Orders<A> {
+    type Line = A::Input;
+
+    ghost says = { order_says A.input_of };
+
+    fn read_line(alloc: Global, line: &[u8]) -> Result<ImageLine<A::Input>, AllocError> {
+        let Some(text) = behind_order(line) else {
+            return Ok(ImageLine::Refused(Why::UnknownWord));
+        };
+        match A::read_input(alloc, text) {
+            Ok(input) => Ok(ImageLine::Says(input)),
+            Err(TextFault::NotText) => Ok(ImageLine::Refused(Why::Text)),
+            Err(TextFault::Memory) => Err(AllocError),
+        }
+    }
+}
+
+// Whether an image may have a header of a schedule of this stack.
+fn heads(heading: Heading, stack: StackId) -> bool
+    ensures { result ≡ heads heading stack }
+{
+    match heading {
+        Heading::Lock => matches!(stack, StackId::Lock),
+        Heading::Kv => matches!(stack, StackId::Kv),
+        Heading::Absent => false,
+    }
+}
+
+/// The header of an image that a line is. `None` comes exactly where it is none.
+pub(crate) fn image_header(heading: Heading, line: &[u8]) -> Option<Header>
+    ensures header { result ≡ image_header heading line.now }
+    ensures headed { IfSome result (λ header. IsHeaded heading (Some header)) }
+{
+    let header = header_of(line)?;
+    if heads(heading, header.stack) {
+        Some(header)
+    } else {
+        None
+    }
+}
+
+/// What a line of an image is behind so many others.
+pub(crate) fn counted_line<G: ImageText>(
+    alloc: Global,
+    count: usize,
+    line: &[u8],
+) -> Result<ImageLine<G::Line>, AllocError>
+    ensures { IfOk result (λ said. said ≡ counted_line G.says count line.now) }
+{
+    if count >= MAX_EVENTS as usize {
+        return Ok(ImageLine::Refused(Why::TooManyEvents));
+    }
+    G::read_line(alloc, line)
+}
