@@ -1,0 +1,13 @@
+pub mod Lookups
+pub mod Naming
+pub mod FirstInputs
+pub mod WrongPlaces
+pub mod Differences
+pub mod Neighbours
+pub mod ScheduleRuns
+pub mod NoneWrongs
+pub mod SameLines
+pub mod Linear
+pub mod Explained
+pub mod Apart
+pub mod ClusterVerdicts

@@ -1,0 +1,25 @@
+-- These print numbers, whose digits have to be computed, and look keys up.
+use Rattle.std.specs.Prelude.{refl}
+use Rattle.std.specs.Fmt.{digits}
+use Rattle.trace_check.proofs.Lookups.{lookups}
+use Rattle.trace_check.proofs.backup_rows.worked_backups.Goals as goal
+
+pub returns-clause-another_command : goal.returns-clause-another_command
+unfolding digits
+returns-clause-another_command c = refl
+
+pub returns-clause-acknowledged : goal.returns-clause-acknowledged
+unfolding digits
+returns-clause-acknowledged c = simp lookups
+
+pub returns-clause-redirected : goal.returns-clause-redirected
+unfolding digits
+returns-clause-redirected c = simp lookups
+
+pub returns-clause-another_output : goal.returns-clause-another_output
+unfolding digits
+returns-clause-another_output c = simp lookups
+
+pub returns-clause-answered_twice : goal.returns-clause-answered_twice
+unfolding digits
+returns-clause-answered_twice c = simp lookups

@@ -1,0 +1,21 @@
+-- These print numbers, whose digits have to be computed, and look keys up.
+use Rattle.std.specs.Prelude.{refl}
+use Rattle.std.specs.Fmt.{digits}
+use Rattle.trace_check.proofs.Lookups.{lookups}
+use Rattle.trace_check.proofs.schedule_rows.worked_schedules.Goals as goal
+
+pub returns-clause-another_node : goal.returns-clause-another_node
+unfolding digits
+returns-clause-another_node c = refl
+
+pub returns-clause-another_input : goal.returns-clause-another_input
+unfolding digits
+returns-clause-another_input c = refl
+
+pub returns-clause-machine_alone : goal.returns-clause-machine_alone
+unfolding digits
+returns-clause-machine_alone c = simp lookups
+
+pub returns-clause-another_output : goal.returns-clause-another_output
+unfolding digits
+returns-clause-another_output c = refl
