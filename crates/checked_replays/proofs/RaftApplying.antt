@@ -1,0 +1,85 @@
+-- What nodes of a cluster make of entries that have texts has texts: the machine's state stays sound, and each output that is kept
+-- for a client has a text.
+use Rattle.std.specs.Prelude.{ℕ, ◌==◌, List, [], ◌∷◌, nat_lt, Option, Some, None}
+use Rattle.std.proofs.Common.{subst, sym}
+use Rattle.std.specs.Cmp.{nat_cmp_total}
+use Rattle.std.specs.FinMap.{get, get-empty, get-insert}
+use Rattle.std.specs.FinMap as map
+use Rattle.std.specs.Ordering.{eq_by_cmp, nat_cmp}
+use Rattle.linearizability.specs.Linearizable.{Each}
+use Rattle.raft_clients.specs.Sessions.{Applied, AppliedAll, Sessions, answer, applied, applied_all, applied_by, executes, kept_output}
+use Rattle.raft_clients.specs.declared.session.Session.{Session}
+use Rattle.raft_text.specs.RaftTexts.{IsNumber, IsRaftOutput}
+use Rattle.raft_types.specs.declared.client.RaftOut.TheVariants as told
+use Rattle.raft_xform.specs.Applying.{replies, reply}
+use Rattle.vst_base.specs.Machines.{MachineMeaning}
+use Rattle.vst_base.specs.declared.entry.Entry.{Entry}
+use Rattle.checked_replays.proofs.Eaches.{IfThere, each-both, either}
+use Rattle.checked_replays.proofs.KvRuns.{MachineKeeps}
+
+module _ {S C O : Type 0} (m : MachineMeaning S C O) (HasIn : C → Type 0) (HasOut : O → Type 0) (Sound : S → Type 0) (keeps : MachineKeeps m HasIn HasOut Sound) where
+  abbrev pub IsTextEntry : Entry C → Type 0
+  IsTextEntry e = IsNumber e.client × IsNumber e.request × HasIn e.cmd
+
+  abbrev IsTextSession : Session O → Type 0
+  IsTextSession s = HasOut s.output
+
+  abbrev pub AreTextSessions : Sessions O → Type 0
+  AreTextSessions sessions = (client : ℕ) → IfThere IsTextSession (get sessions client)
+
+  pub no-sessions : AreTextSessions map.empty
+  no-sessions client = subst (IfThere IsTextSession) (sym (get-empty nat_cmp client)) tt
+
+  record IsTextApplied (a : Applied S O) : Type 0 where
+    state : Sound a.state
+    sessions : AreTextSessions a.sessions
+    output : IfThere HasOut a.output
+
+  module _ (state : S) (sessions : Sessions O) (sound : Sound state) (kept : AreTextSessions sessions) (e : Entry C) (has : IsTextEntry e) where
+    executes-text : IsTextApplied (executes m state sessions e)
+    executes-text =
+        let output = keeps.output state e.cmd sound has.2 in
+        record {
+          state = keeps.state state e.cmd sound has.2;
+          sessions = λ client. subst (IfThere IsTextSession) (sym (get-insert nat_cmp_total sessions e.client (record { request = e.request; output = (m.apply state e.cmd).1 }) client))
+              (either (IfThere IsTextSession) (eq_by_cmp nat_cmp client e.client) (Some (record { request = e.request; output = (m.apply state e.cmd).1 })) (get sessions client) output (kept client));
+          output = output;
+        }
+
+    applied-by : (o : Option (Session O)) → IfThere IsTextSession o → IsTextApplied (applied_by m state sessions e o)
+    applied-by None text = executes-text
+    applied-by (Some session) text =
+        either IsTextApplied (nat_lt session.request e.request) (executes m state sessions e) (record { state = state; sessions = sessions; output = kept_output session e.request }) executes-text
+        (record { state = sound; sessions = kept; output = either (IfThere HasOut) (e.request == session.request) (Some session.output) None text tt })
+
+    applied-text : IsTextApplied (applied m state sessions e)
+    applied-text = applied-by (get sessions e.client) (kept e.client)
+
+  abbrev IsTextAnswer : Entry C × O → Type 0
+  IsTextAnswer a = IsTextEntry a.0 × HasOut a.1
+
+  pub record AreTextApplied (a : AppliedAll S C O) : Type 0 where
+    pub state : Sound a.state
+    pub sessions : AreTextSessions a.sessions
+    pub answers : Each IsTextAnswer a.answers
+
+  answer-text : (e : Entry C) (o : Option O) → IsTextEntry e → IfThere HasOut o → Each IsTextAnswer (answer e o)
+  answer-text e None has text = tt
+  answer-text e (Some output) has text = ((has, text), tt)
+
+  pub all-text : (state : S) (sessions : Sessions O) (es : List (Entry C)) → Sound state → AreTextSessions sessions → Each IsTextEntry es → AreTextApplied (applied_all m state sessions es)
+  all-text state sessions [] sound kept has = record { state = sound; sessions = kept; answers = tt }
+  all-text state sessions (e ∷ es) sound kept has =
+      let first = applied-text state sessions sound kept e has.0 in
+      let rest = all-text (applied m state sessions e).state (applied m state sessions e).sessions es first.state first.sessions has.1 in
+      record {
+        state = rest.state;
+        sessions = rest.sessions;
+        answers = each-both IsTextAnswer (answer e (applied m state sessions e).output) (applied_all m (applied m state sessions e).state (applied m state sessions e).sessions es).answers (answer-text e (applied m state sessions e).output has.0 first.output) rest.answers;
+      }
+
+  -- what a node tells its clients
+  pub replies-text : (me : ℕ) (answers : List (Entry C × O)) → Each IsTextAnswer answers → Each (IsRaftOutput HasOut) (replies me answers)
+  replies-text me [] has = tt
+  replies-text me (a ∷ rest) has =
+      each-both (IsRaftOutput HasOut) (reply me a.0 a.1) (replies me rest) (either (Each (IsRaftOutput HasOut)) (a.0.origin == me) (told.Reply a.0.client a.0.request a.1 ∷ []) [] ((has.0.0.0, has.0.0.1, has.0.1), tt) tt) (replies-text me rest has.1)

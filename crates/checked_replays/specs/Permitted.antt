@@ -1,0 +1,21 @@
+-- Which stack a text is a schedule of, and how much of what its replay writes a check reads.
+use Rattle.std.specs.Prelude.{◌≡◌, ℕ, ◌≤◌, List, length, Option, None, Some}
+use Rattle.vst_base.specs.declared.stack.StackId.{StackId}
+use Rattle.vst_base.specs.declared.stack.StackId.TheVariants as stack
+use Rattle.line_reader.specs.Lines.{lines_of}
+use Rattle.schedule_text.specs.Schedules.{Opening, Opened, RefusedAt, EndedAt, opening}
+use Rattle.schedule_replay.specs.Replays.{most_lines}
+
+-- the stack of the header with which a text opens, if it opens with one
+abbrev pub stack_of_opening : Opening → Option StackId
+stack_of_opening (Opened h number ls) = Some h.stack
+stack_of_opening (RefusedAt number w) = None
+stack_of_opening (EndedAt number) = None
+
+abbrev pub stack_in : List ℕ → Option StackId
+stack_in bytes = stack_of_opening (opening most_lines 1 (lines_of bytes))
+
+-- on a cluster, where a node that starts again tells its clients once more what it told them, no more lines were written than a
+-- check reads. On the other stacks there are never so many
+abbrev pub IsWithinLimits : StackId → List ℕ → Type 0
+IsWithinLimits s out = s ≡ stack.KvRaft → length (lines_of out) ≤ 8000000
