@@ -1,0 +1,40 @@
+-- The steps of an image that was read have lines, and lines tell such steps apart.
+use Rattle.std.specs.Prelude.{◌≡◌, ℕ, List, [], ◌∷◌, map, Option, Some, is_none, refl}
+use Rattle.std.proofs.Common.{ap, ◌∙◌, sym}
+use Rattle.app_text.specs.Spelling.{IsSpelling}
+use Rattle.check_text.specs.ImageLines.{step_says}
+use Rattle.line_reader.specs.declared.why.Why.TheVariants as why
+use Rattle.linearizability.specs.Linearizable.{Each}
+use Rattle.schedule_text.specs.Printing.{step_text}
+use Rattle.schedule_text.specs.Reading.{number_in, parts_of, step_of}
+use Rattle.schedule_text.specs.Spellable.{IsSpellable}
+use Rattle.schedule_text.proofs.ReadBackLaws.{step-reads-back}
+use Rattle.vst_base.specs.Firsts.{first_of}
+use Rattle.vst_base.specs.declared.step.Step.{Step}
+use Rattle.checked_replays.proofs.Scripts.{step-spellable}
+use Rattle.permitted_claims.proofs.ReadClaims.{IfSays, said-there}
+
+-- lists of which each element has a text of its own are the same where their texts are
+pub same-by : {A : Type 0} (P : A → Type 0) (text : A → List ℕ) → ((a b : A) → P a → P b → text a ≡ text b → a ≡ b) → (xs ys : List A) → Each P xs → Each P ys → map text xs ≡ map text ys → xs ≡ ys
+same-by P text apart [] [] some others e = refl
+same-by P text apart [] (y ∷ ys) some others e = cc
+same-by P text apart (x ∷ xs) [] some others e = cc
+same-by P text apart (x ∷ xs) (y ∷ ys) some others e =
+    let heads : text x ≡ text y = cc in
+    let tails : map text xs ≡ map text ys = cc in
+    ap (λ a. a ∷ xs) (apart x y some.0 others.0 heads) ∙ ap (λ zs. y ∷ zs) (same-by P text apart xs ys some.1 others.1 tails)
+
+some-same : {A : Type 0} (a b : A) → Some a ≡ Some b → a ≡ b
+some-same a b e = cc
+
+module _ {I : Type 0} (f : List ℕ → Option I) (t : I → List ℕ) (HasIn : I → Type 0) (spelled : IsSpelling HasIn f t) where
+  pub step-text : (l : List ℕ) → IfSays (IsSpellable HasIn) (step_says f l)
+  step-text l =
+      said-there (IsSpellable HasIn) (first_of ((why.UnknownWord, is_none (parts_of l)) ∷ (why.Number, is_none (number_in l)) ∷ (why.Text, is_none (step_of f l)) ∷ []))
+      (step_of f l) (step-spellable f HasIn spelled.has_text l)
+
+  step-apart : (a b : Step I) → IsSpellable HasIn a → IsSpellable HasIn b → step_text t a ≡ step_text t b → a ≡ b
+  step-apart a b one two e = some-same a b (sym (step-reads-back f t HasIn spelled.reads_back a one) ∙ (ap (step_of f) e ∙ step-reads-back f t HasIn spelled.reads_back b two))
+
+  pub same-steps : (ss ts : List (Step I)) → Each (IsSpellable HasIn) ss → Each (IsSpellable HasIn) ts → map (step_text t) ss ≡ map (step_text t) ts → ss ≡ ts
+  same-steps = same-by (IsSpellable HasIn) (step_text t) step-apart

@@ -1,0 +1,9 @@
+//! What a check's yes means, from the bytes of a text on: the laws of verdicts at the machines that there are claims on, whose
+//! commands and outputs have texts wherever a claim was read. There is no code here but the law.
+#![tactic(auto)]
+
+mod examples;
+mod laws;
+
+pub use examples::worked;
+pub use laws::permitted_claims_are_explained;
