@@ -1,4 +1,6 @@
-pub mod Entering
+mod Entering
 mod Faultless
+mod Kept
 pub mod OnLiterals
 pub mod Reading
+mod Seen

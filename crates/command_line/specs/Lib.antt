@@ -1,1 +1,2 @@
 pub mod CommandSet
+pub mod Stacks

@@ -2,6 +2,7 @@ ghost use Rattle.std.specs.Prelude.{◌≡◌, [], ◌∷◌, None, Some, codes,
 ghost use Rattle.command_line.specs.CommandSet.{command_of, takes_words};
 
 use crate::Command;
+use vst_base::StackId;
 
 /// What words ask for, on examples.
 #[tactic(auto, unfolding(crate::proofs::OnLiterals::words_on_literals))]
@@ -19,7 +20,6 @@ pub fn worked()
 
     // No name of a command.
     ensures unknown { command_of (codes "vst" ∷ codes "frob" ∷ []) ≡ None }
-    ensures check { command_of (codes "vst" ∷ codes "check" ∷ []) ≡ None }
     ensures make { command_of (codes "vst" ∷ codes "make" ∷ []) ≡ None }
     ensures node { command_of (codes "vst" ∷ codes "node" ∷ []) ≡ None }
     ensures empty_word { command_of (codes "vst" ∷ codes "" ∷ []) ≡ None }
@@ -36,7 +36,51 @@ pub fn worked()
     ensures twice { command_of (codes "vst" ∷ codes "replay" ∷ codes "replay" ∷ []) ≡ None }
     ensures a_word_after_the_end_of_options { command_of (codes "vst" ∷ codes "replay" ∷ codes "--" ∷ codes "x" ∷ []) ≡ None }
 
+    // The words that ask for a check of a stack, in each spelling that clap takes.
+    ensures check_lock { command_of (codes "vst" ∷ codes "check" ∷ codes "--stack" ∷ codes "lock" ∷ []) ≡ Some (Command.Check StackId.Lock) }
+    ensures check_lock_seq { command_of (codes "vst" ∷ codes "check" ∷ codes "--stack" ∷ codes "lock/seq" ∷ []) ≡ Some (Command.Check StackId.LockSeq) }
+    ensures check_kv_pb { command_of (codes "vst" ∷ codes "check" ∷ codes "--stack" ∷ codes "kv/pb" ∷ []) ≡ Some (Command.Check StackId.KvPb) }
+    ensures check_kv_pb_seq { command_of (codes "vst" ∷ codes "check" ∷ codes "--stack" ∷ codes "kv/pb/seq" ∷ []) ≡ Some (Command.Check StackId.KvPbSeq) }
+    ensures check_kv_raft { command_of (codes "vst" ∷ codes "check" ∷ codes "--stack" ∷ codes "kv/raft" ∷ []) ≡ Some (Command.Check StackId.KvRaft) }
+    ensures check_kv { command_of (codes "vst" ∷ codes "check" ∷ codes "--stack" ∷ codes "kv" ∷ []) ≡ Some (Command.Check StackId.Kv) }
+    ensures attached { command_of (codes "vst" ∷ codes "check" ∷ codes "--stack=lock" ∷ []) ≡ Some (Command.Check StackId.Lock) }
+    ensures check_end_of_options { command_of (codes "vst" ∷ codes "check" ∷ codes "--stack" ∷ codes "lock" ∷ codes "--" ∷ []) ≡ Some (Command.Check StackId.Lock) }
+    ensures check_taken { takes_words (codes "vst" ∷ codes "check" ∷ codes "--stack" ∷ codes "lock" ∷ []) ≡ true }
+
+    // No stack, no value of one, or more than one.
+    ensures no_stack { command_of (codes "vst" ∷ codes "check" ∷ []) ≡ None }
+    ensures no_value { command_of (codes "vst" ∷ codes "check" ∷ codes "--stack" ∷ []) ≡ None }
+    ensures no_attached_value { command_of (codes "vst" ∷ codes "check" ∷ codes "--stack=" ∷ []) ≡ None }
+    ensures no_value_before_the_end { command_of (codes "vst" ∷ codes "check" ∷ codes "--stack" ∷ codes "--" ∷ codes "lock" ∷ []) ≡ None }
+    ensures second_value { command_of (codes "vst" ∷ codes "check" ∷ codes "--stack" ∷ codes "lock" ∷ codes "lock" ∷ []) ≡ None }
+    ensures second_stack { command_of (codes "vst" ∷ codes "check" ∷ codes "--stack" ∷ codes "lock" ∷ codes "--stack" ∷ codes "lock" ∷ []) ≡ None }
+    ensures bare_stack { command_of (codes "vst" ∷ codes "check" ∷ codes "lock" ∷ []) ≡ None }
+    ensures no_stack_not_taken { takes_words (codes "vst" ∷ codes "check" ∷ []) ≡ false }
+
+    // No stack of these words.
+    ensures unknown_stack { command_of (codes "vst" ∷ codes "check" ∷ codes "--stack" ∷ codes "frob" ∷ []) ≡ None }
+    ensures empty_stack { command_of (codes "vst" ∷ codes "check" ∷ codes "--stack" ∷ codes "" ∷ []) ≡ None }
+    ensures table { command_of (codes "vst" ∷ codes "check" ∷ codes "--stack" ∷ codes "table" ∷ []) ≡ None }
+    ensures table_pb_seq { command_of (codes "vst" ∷ codes "check" ∷ codes "--stack" ∷ codes "table/pb/seq" ∷ []) ≡ None }
+    ensures table_raft { command_of (codes "vst" ∷ codes "check" ∷ codes "--stack" ∷ codes "table/raft" ∷ []) ≡ None }
+    ensures stack_cut_short { command_of (codes "vst" ∷ codes "check" ∷ codes "--stack" ∷ codes "lock/" ∷ []) ≡ None }
+    ensures stack_too_long { command_of (codes "vst" ∷ codes "check" ∷ codes "--stack" ∷ codes "kv/" ∷ []) ≡ None }
+    ensures stack_upper_case { command_of (codes "vst" ∷ codes "check" ∷ codes "--stack" ∷ codes "Lock" ∷ []) ≡ None }
+    ensures unknown_stack_not_taken { takes_words (codes "vst" ∷ codes "check" ∷ codes "--stack" ∷ codes "frob" ∷ []) ≡ false }
+
+    // Options that there are not, and options in another place.
+    ensures one_hyphen { command_of (codes "vst" ∷ codes "check" ∷ codes "-stack" ∷ codes "lock" ∷ []) ≡ None }
+    ensures short_form { command_of (codes "vst" ∷ codes "check" ∷ codes "-s" ∷ codes "lock" ∷ []) ≡ None }
+    ensures option_upper_case { command_of (codes "vst" ∷ codes "check" ∷ codes "--Stack" ∷ codes "lock" ∷ []) ≡ None }
+    ensures option_cut_short { command_of (codes "vst" ∷ codes "check" ∷ codes "--stac" ∷ codes "lock" ∷ []) ≡ None }
+    ensures replay_with_stack { command_of (codes "vst" ∷ codes "replay" ∷ codes "--stack" ∷ codes "lock" ∷ []) ≡ None }
+    ensures stack_before_check { command_of (codes "vst" ∷ codes "--stack" ∷ codes "lock" ∷ codes "check" ∷ []) ≡ None }
+    ensures two_commands { command_of (codes "vst" ∷ codes "check" ∷ codes "--stack" ∷ codes "lock" ∷ codes "replay" ∷ []) ≡ None }
+
     // Calls for help or the version.
+    ensures check_help_option { command_of (codes "vst" ∷ codes "check" ∷ codes "--help" ∷ []) ≡ None }
+    ensures help_for_a_stack { command_of (codes "vst" ∷ codes "check" ∷ codes "--stack" ∷ codes "lock" ∷ codes "--help" ∷ []) ≡ None }
+    ensures stack_of_help { command_of (codes "vst" ∷ codes "check" ∷ codes "--stack" ∷ codes "--help" ∷ []) ≡ None }
     ensures help_option { command_of (codes "vst" ∷ codes "--help" ∷ []) ≡ None }
     ensures help_flag { command_of (codes "vst" ∷ codes "-h" ∷ []) ≡ None }
     ensures help { command_of (codes "vst" ∷ codes "help" ∷ []) ≡ None }

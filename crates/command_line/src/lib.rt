@@ -4,6 +4,7 @@
 mod command;
 mod command_set;
 mod examples;
+mod stacks;
 mod words;
 
 pub use command::Command;

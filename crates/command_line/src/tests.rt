@@ -1,6 +1,7 @@
 use super::*;
 use std::alloc::{AllocError, Global};
 use std::test::Fail;
+use vst_base::StackId;
 
 // The command that these words ask for.
 fn command_in(alloc: Global, line: &[&str]) -> Result<Option<Command>, AllocError> {
@@ -12,15 +13,14 @@ fn command_in(alloc: Global, line: &[&str]) -> Result<Option<Command>, AllocErro
 }
 
 #[test]
-fn only_a_lone_replay_is_taken(rt: HostRuntime) -> Result<(), Fail> {
-    let rows: [(&[&str], Option<Command>); 24] = [
+fn replay_and_check_of_a_stack_are_taken(rt: HostRuntime) -> Result<(), Fail> {
+    let rows: [(&[&str], Option<Command>); 45] = [
         (&[], None),
         (&["vst"], None),
         (&["vst", "replay"], Some(Command::Replay)),
         (&["vst", "replay", "--"], Some(Command::Replay)),
         (&["", "replay"], Some(Command::Replay)),
         (&["vst", "frob"], None),
-        (&["vst", "check"], None),
         (&["vst", "make"], None),
         (&["vst", "node"], None),
         (&["vst", ""], None),
@@ -38,6 +38,55 @@ fn only_a_lone_replay_is_taken(rt: HostRuntime) -> Result<(), Fail> {
         (&["vst", "replay", "--help"], None),
         (&["vst", "replay", "-h"], None),
         (&["vst", "--version"], None),
+        (
+            &["vst", "check", "--stack", "lock"],
+            Some(Command::Check(StackId::Lock)),
+        ),
+        (
+            &["vst", "check", "--stack", "lock/seq"],
+            Some(Command::Check(StackId::LockSeq)),
+        ),
+        (
+            &["vst", "check", "--stack", "kv/pb"],
+            Some(Command::Check(StackId::KvPb)),
+        ),
+        (
+            &["vst", "check", "--stack", "kv/pb/seq"],
+            Some(Command::Check(StackId::KvPbSeq)),
+        ),
+        (
+            &["vst", "check", "--stack", "kv/raft"],
+            Some(Command::Check(StackId::KvRaft)),
+        ),
+        (
+            &["vst", "check", "--stack", "kv"],
+            Some(Command::Check(StackId::Kv)),
+        ),
+        (
+            &["vst", "check", "--stack=lock"],
+            Some(Command::Check(StackId::Lock)),
+        ),
+        (
+            &["vst", "check", "--stack", "lock", "--"],
+            Some(Command::Check(StackId::Lock)),
+        ),
+        (&["vst", "check"], None),
+        (&["vst", "check", "--stack"], None),
+        (&["vst", "check", "--stack="], None),
+        (&["vst", "check", "lock"], None),
+        (&["vst", "check", "--stack", "lock", "lock"], None),
+        (
+            &["vst", "check", "--stack", "lock", "--stack", "lock"],
+            None,
+        ),
+        (&["vst", "check", "--stack", "frob"], None),
+        (&["vst", "check", "--stack", "table"], None),
+        (&["vst", "check", "--stack", "Lock"], None),
+        (&["vst", "check", "-stack", "lock"], None),
+        (&["vst", "check", "--Stack", "lock"], None),
+        (&["vst", "replay", "--stack", "lock"], None),
+        (&["vst", "check", "--stack", "lock", "replay"], None),
+        (&["vst", "check", "--stack", "--help"], None),
     ];
     for (line, want) in rows {
         assert_eq!(rt; command_in(rt.alloc(), line)?, want, "at {line:?}");
