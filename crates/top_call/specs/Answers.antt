@@ -1,12 +1,16 @@
 -- What a run of the program without faults does, from its words and its input.
-use Rattle.std.specs.Prelude.{ℕ, List, [], Option, Some, None, codes}
+use Rattle.std.specs.Prelude.{ℕ, List, [], ◌∷◌, ◌++◌, Option, Some, None, Result, Ok, Err, codes}
 use Rattle.line_reader.specs.declared.why.Why.{Why}
-use Rattle.schedule_text.specs.Printing.{as_line, refusal_line}
+use Rattle.line_reader.specs.Lines.{whole_lines}
+use Rattle.schedule_text.specs.Printing.{as_line, numbered, refusal_line}
 use Rattle.command_line.specs.declared.command.Command.{Command}
 use Rattle.command_line.specs.declared.command.Command.TheVariants as command
 use Rattle.command_line.specs.CommandSet.{command_of}
 use Rattle.schedule_replay.specs.Replaying.{Replayed}
-use Rattle.schedule_replay.specs.Replays.{replayed}
+use Rattle.schedule_replay.specs.Replays.{replayed, replayed_so_far}
+use Rattle.trace_check.specs.Checks.{checked, refused_so_far}
+use Rattle.trace_check.specs.declared.verdict.Verdict.{Verdict}
+use Rattle.trace_check.specs.declared.verdict.Verdict.TheVariants as verdict
 
 -- the status, the text on the output, and the line on the error stream
 pub record Answer : Type 0 where
@@ -35,10 +39,36 @@ refusal_status (Some r) = 3
 abbrev pub answer_of : Replayed → Answer
 answer_of r = record { status = refusal_status r.refused; out = r.out; err = refusal_text r.refused }
 
+-- the line on the output where no condition of a claim is false, and that on the error stream where one is
+abbrev pub permitted_line : List ℕ
+permitted_line = as_line (codes "permitted")
+
+abbrev pub condition_line : ℕ → ℕ → List ℕ
+condition_line condition line = as_line (numbered (codes "condition") condition ++ 32 ∷ numbered (codes "line") line)
+
+abbrev pub answer_to_claim : Result Verdict (ℕ × Why) → Answer
+answer_to_claim (Ok verdict.Yes) = record { status = 0; out = permitted_line; err = [] }
+answer_to_claim (Ok (verdict.No condition line)) = record { status = 1; out = []; err = condition_line condition line }
+answer_to_claim (Err r) = record { status = 3; out = []; err = refusal_line r.0 r.1 }
+
 -- what a command does with its input, and where the words name none
 abbrev pub answer_by : Option Command → List ℕ → Answer
 answer_by None input = record { status = 2; out = []; err = usage_line }
 answer_by (Some command.Replay) input = answer_of (replayed input)
+answer_by (Some (command.Check s)) input = answer_to_claim (checked s input)
+
+-- of an input that broke off: what a command has written for its whole lines, and the line of them that is refused, if one is
+pub record SoFar : Type 0 where
+  pub out : List ℕ
+  pub refused : Option (ℕ × Why)
+
+abbrev pub so_far_of : Replayed → SoFar
+so_far_of r = record { out = r.out; refused = r.refused }
+
+abbrev pub so_far_by : Option Command → List ℕ → SoFar
+so_far_by None given = record { out = []; refused = None }
+so_far_by (Some command.Replay) given = so_far_of (replayed_so_far given)
+so_far_by (Some (command.Check s)) given = record { out = []; refused = refused_so_far s (whole_lines given) }
 
 abbrev pub answered : List (List ℕ) → List ℕ → Answer
 answered words = answer_by (command_of words)

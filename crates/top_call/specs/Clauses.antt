@@ -6,12 +6,14 @@ use Rattle.line_reader.specs.declared.why.Why.{Why}
 use Rattle.line_reader.specs.Lines.{decided, split_lines}
 use Rattle.schedule_text.specs.Printing.{refusal_line}
 use Rattle.command_line.specs.CommandSet.{takes_words}
-use Rattle.schedule_replay.specs.Replays.{replayed_so_far}
-use Rattle.top_call.specs.Answers.{Answer, usage_line, read_failed_line, memory_line}
+use Rattle.command_line.specs.declared.command.Command.{Command}
+use Rattle.command_line.specs.declared.command.Command.TheVariants as command
+use Rattle.schedule_replay.specs.Explained.{IsExplained}
+use Rattle.top_call.specs.Answers.{Answer, answer_by, condition_line, so_far_by, usage_line, read_failed_line, memory_line}
 
 -- a status of the program
 abbrev pub IsStatus : ℕ → Type 0
-IsStatus n = (n ≡ 0) ⊎ (n ≡ 2) ⊎ (n ≡ 3) ⊎ (n ≡ 4) ⊎ (n ≡ 5) ⊎ (n ≡ 8)
+IsStatus n = (n ≡ 0) ⊎ (n ≡ 1) ⊎ (n ≡ 2) ⊎ (n ≡ 3) ⊎ (n ≡ 4) ⊎ (n ≡ 5) ⊎ (n ≡ 8)
 
 -- contents before and after of the input, the output and the error stream
 pub record Streams : Type 0 where
@@ -29,6 +31,23 @@ pub record IsDone (answer : List ℕ → Answer) (s : Streams) : Type 0 where
   pub out : IfSome s.left (λ bytes. Gained s.out s.out' (answer bytes).out)
   pub err : Gained s.err s.err' []
 
+-- 0 of a command with this input: the trace of a schedule that was replayed is explained by what its image stands for
+abbrev pub IsExplainedInput : Option Command → List ℕ → Type 0
+IsExplainedInput None bytes = Unit {0}
+IsExplainedInput (Some command.Replay) bytes = IsExplained bytes
+IsExplainedInput (Some (command.Check s)) bytes = Unit {0}
+
+-- 1: a condition of a claim is false. The input was read to its end, nothing was written on the output, and on the error stream
+-- the condition and its line
+pub record IsDenied (answer : List ℕ → Answer) (s : Streams) : Type 0 where
+  pub condition : ℕ
+  pub line : ℕ
+  pub ended : IfSome s.left (λ bytes. s.left' ≡ Some [])
+  pub status : IfSome s.left (λ bytes. (answer bytes).status ≡ 1)
+  pub out : s.out' ≡ s.out
+  pub err : Gained s.err s.err' (condition_line condition line)
+  pub named : IfSome s.left (λ bytes. (answer bytes).err ≡ condition_line condition line)
+
 -- 2: the words are refused, and nothing was read or written but this
 pub record AreWordsRefused (words : List (List ℕ)) (s : Streams) : Type 0 where
   pub words_refused : takes_words words ≡ false
@@ -42,22 +61,27 @@ pub record IsIdle (s : Streams) (answered : ℕ) : Type 0 where
   pub left : s.left' ≡ s.left
   pub out : s.out' ≡ s.out
 
--- 3: a line is refused, the output gained the trace before it, and the error stream its line. At most 4,096 bytes were given
--- past the byte that decided it
-pub record IsLineRefused (answer : List ℕ → Answer) (s : Streams) : Type 0 where
+-- of the input of a replay at most 4,096 bytes were given past the byte that decided this line
+abbrev pub LooksAhead : Option Command → ℕ → Streams → List ℕ → Type 0
+LooksAhead None line s bytes = Unit {0}
+LooksAhead (Some command.Replay) line s bytes = (given : List ℕ) × Gave s.left s.left' given × (length given ≤ decided line bytes + 4096)
+LooksAhead (Some (command.Check stack)) line s bytes = Unit {0}
+
+-- 3: a line is refused, the output gained what the command writes before it, and the error stream its line
+pub record IsLineRefused (command : Option Command) (s : Streams) : Type 0 where
   pub line : ℕ
   pub why : Why
-  pub status : IfSome s.left (λ bytes. (answer bytes).status ≡ 3)
-  pub out : IfSome s.left (λ bytes. Gained s.out s.out' (answer bytes).out)
+  pub status : IfSome s.left (λ bytes. (answer_by command bytes).status ≡ 3)
+  pub out : IfSome s.left (λ bytes. Gained s.out s.out' (answer_by command bytes).out)
   pub err : Gained s.err s.err' (refusal_line line why)
-  pub named : IfSome s.left (λ bytes. (answer bytes).err ≡ refusal_line line why)
-  pub ahead : IfSome s.left (λ bytes. (given : List ℕ) × Gave s.left s.left' given × (length given ≤ decided line bytes + 4096))
+  pub named : IfSome s.left (λ bytes. (answer_by command bytes).err ≡ refusal_line line why)
+  pub ahead : IfSome s.left (LooksAhead command line s)
 
 -- 4: a read failed, no whole line that was given is refused, what stands behind the last is not too long yet, and the output
--- gained exactly their trace
-pub record HasReadFailed (read read' : ℕ) (s : Streams) : Type 0 where
+-- gained exactly what the command writes for them
+pub record HasReadFailed (command : Option Command) (read read' : ℕ) (s : Streams) : Type 0 where
   pub rose : Rose read read'
-  pub given : IfSome s.left (λ bytes. (given : List ℕ) × Gave s.left s.left' given × (length (split_lines given).1 ≤ 4096) × ((replayed_so_far given).refused ≡ None) × Gained s.out s.out' (replayed_so_far given).out)
+  pub given : IfSome s.left (λ bytes. (given : List ℕ) × Gave s.left s.left' given × (length (split_lines given).1 ≤ 4096) × ((so_far_by command given).refused ≡ None) × Gained s.out s.out' (so_far_by command given).out)
   pub err : Gained s.err s.err' read_failed_line
 
 -- 5: a write failed, and the output gained a front of what it gains otherwise
@@ -66,11 +90,12 @@ pub record HasWriteFailed (answer : List ℕ → Answer) (write write' complain 
   pub out : IfSome s.left (λ bytes. GainedFront s.out s.out' (answer bytes).out)
 
 -- a line that was being written on the error stream when it answered want of memory itself: that of want of memory, that of
--- words that are refused, that of a read that failed, or that of a refused line
+-- words that are refused, that of a read that failed, that of a refused line, or that of a false condition
 abbrev pub WasWriting : (List ℕ → Answer) → Type 0 → Type 0 → Streams → Type 0
 WasWriting answer unknown unread s =
     GainedFront s.err s.err' memory_line ⊎ (unknown × GainedFront s.err s.err' usage_line) ⊎ (unread × GainedFront s.err s.err' read_failed_line)
     ⊎ ((line : ℕ) × (why : Why) × GainedFront s.err s.err' (refusal_line line why) × IfSome s.left (λ bytes. (answer bytes).err ≡ refusal_line line why))
+    ⊎ ((condition line : ℕ) × GainedFront s.err s.err' (condition_line condition line) × IfSome s.left (λ bytes. (answer bytes).err ≡ condition_line condition line))
 
 -- 8: want of memory; the error stream gained its line, or, where it answered want of memory itself, a front of that or of
 -- the line that was being written

@@ -1,9 +1,10 @@
-ghost use Rattle.std.specs.Prelude.{◌≡◌, ◌≤◌, ℕ, map, false, string_bytes};
+ghost use Rattle.std.specs.Prelude.{◌≡◌, ◌≤◌, ℕ, map, false, string_bytes, IfSome};
 ghost use Rattle.outside.specs.Counting.{Rose};
-ghost use Rattle.command_line.specs.CommandSet.{takes_words};
+ghost use Rattle.command_line.specs.CommandSet.{command_of, takes_words};
 ghost use Rattle.top_call.specs.Answers.{answered};
-ghost use Rattle.top_call.specs.Clauses.{AreWordsRefused, HasReadFailed, HasWriteFailed, IsComplete, IsDone, IsIdle, IsLineRefused, IsOutOfMemory, IsStatus};
+ghost use Rattle.top_call.specs.Clauses.{AreWordsRefused, HasReadFailed, HasWriteFailed, IsComplete, IsDenied, IsDone, IsExplainedInput, IsIdle, IsLineRefused, IsOutOfMemory, IsStatus};
 
+use crate::checking::run_check;
 use crate::replaying::run_replay;
 use crate::say::say;
 use crate::status::{OUT_OF_MEMORY, WORDS_REFUSED};
@@ -12,8 +13,8 @@ use outside::{Device, Sink, Source};
 use std::alloc::{AllocError, Global};
 
 /// Runs the program: its words, its input, its output, its error stream and the device of a node, which no command
-/// uses yet. Answers the status: 0 done, 2 the words are refused, 3 a line is refused, 4 the input could not be read,
-/// 5 a write failed, 8 want of memory.
+/// uses yet. Answers the status: 0 done, 1 a condition of a claim is false, 2 the words are refused, 3 a line is refused, 4 the
+/// input could not be read, 5 a write failed, 8 want of memory.
 pub fn run<S: Source, O: Sink, E: Sink, D: Device>(
     alloc: Global,
     words: &[String],
@@ -26,6 +27,15 @@ pub fn run<S: Source, O: Sink, E: Sink, D: Device>(
     ensures complete { IsComplete (answered (map string_bytes words.now)) (S.left input.old) (Rose (S.faults input.old) (S.faults input.new))
         (Rose (O.faults out.old) (O.faults out.new)) (Rose (E.faults err.old) (E.faults err.new)) result }
     ensures done { result ≡ 0 → IsDone (answered (map string_bytes words.now)) (record {
+      left = S.left input.old;
+      left' = S.left input.new;
+      out = O.written out.old;
+      out' = O.written out.new;
+      err = E.written err.old;
+      err' = E.written err.new;
+    }) }
+    ensures explained { result ≡ 0 → IfSome (S.left input.old) (λ bytes. IsExplainedInput (command_of (map string_bytes words.now)) bytes) }
+    ensures denied { result ≡ 1 → IsDenied (answered (map string_bytes words.now)) (record {
       left = S.left input.old;
       left' = S.left input.new;
       out = O.written out.old;
@@ -49,7 +59,7 @@ pub fn run<S: Source, O: Sink, E: Sink, D: Device>(
       err = E.written err.old;
       err' = E.written err.new;
     }) result }
-    ensures refused { result ≡ 3 → IsLineRefused (answered (map string_bytes words.now)) (record {
+    ensures refused { result ≡ 3 → IsLineRefused (command_of (map string_bytes words.now)) (record {
       left = S.left input.old;
       left' = S.left input.new;
       out = O.written out.old;
@@ -57,7 +67,7 @@ pub fn run<S: Source, O: Sink, E: Sink, D: Device>(
       err = E.written err.old;
       err' = E.written err.new;
     }) }
-    ensures read { result ≡ 4 → HasReadFailed (S.faults input.old) (S.faults input.new) (record {
+    ensures read { result ≡ 4 → HasReadFailed (command_of (map string_bytes words.now)) (S.faults input.old) (S.faults input.new) (record {
       left = S.left input.old;
       left' = S.left input.new;
       out = O.written out.old;
@@ -88,6 +98,7 @@ pub fn run<S: Source, O: Sink, E: Sink, D: Device>(
 {
     match read_words(alloc, words) {
         Ok(Some(Command::Replay)) => run_replay(alloc, input, out, err),
+        Ok(Some(Command::Check(stack))) => run_check(alloc, stack, input, out, err),
         Ok(None) => say(err, b"usage\n", WORDS_REFUSED),
         Err(AllocError) => say(err, b"memory\n", OUT_OF_MEMORY),
     }

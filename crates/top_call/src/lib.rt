@@ -2,6 +2,8 @@
 #![tactic(auto)]
 
 mod answers;
+mod checking;
+mod deny;
 mod examples;
 mod refuse;
 mod replaying;
@@ -11,5 +13,7 @@ mod status;
 pub use answers::run;
 pub use examples::worked;
 
+#[cfg(test)]
+mod check_tests;
 #[cfg(test)]
 mod tests;

@@ -1,5 +1,7 @@
-ghost use Rattle.std.specs.Prelude.{◌≡◌, ◌≢◌, ◌≤◌, ℕ};
+ghost use Rattle.std.specs.Prelude.{◌≡◌, ◌≢◌, ◌≤◌, ℕ, IfSome, Some};
+ghost use Rattle.command_line.specs.declared.command.Command.TheVariants as command;
 ghost use Rattle.outside.specs.Counting.{Rose};
+ghost use Rattle.schedule_replay.specs.Explained.{IsExplained};
 ghost use Rattle.schedule_replay.specs.Replays.{replayed};
 ghost use Rattle.top_call.specs.Answers.{answer_of};
 ghost use Rattle.top_call.specs.Clauses.{HasReadFailed, HasWriteFailed, IsComplete, IsDone, IsLineRefused, IsOutOfMemory, IsStatus};
@@ -8,7 +10,7 @@ use crate::refuse::refuse;
 use crate::say::say;
 use crate::status::{DONE, OUT_OF_MEMORY, READ_FAILED, WRITE_FAILED};
 use outside::{Sink, Source};
-use schedule_replay::{ReplayFault, replay};
+use schedule_replay::{ReplayFault, replay, traces_are_explained};
 use std::alloc::Global;
 
 // The command replay: a schedule on the input, its trace and its image on the output.
@@ -29,8 +31,10 @@ pub(crate) fn run_replay<S: Source, O: Sink, E: Sink>(
       err = E.written err.old;
       err' = E.written err.new;
     }) }
+    ensures explained { result ≡ 0 → IfSome (S.left input.old) (λ bytes. IsExplained bytes) }
+    ensures denied { result ≢ 1 }
     ensures words { result ≢ 2 }
-    ensures refused { result ≡ 3 → IsLineRefused (λ bytes. answer_of (replayed bytes)) (record {
+    ensures refused { result ≡ 3 → IsLineRefused (Some command.Replay) (record {
       left = S.left input.old;
       left' = S.left input.new;
       out = O.written out.old;
@@ -38,7 +42,7 @@ pub(crate) fn run_replay<S: Source, O: Sink, E: Sink>(
       err = E.written err.old;
       err' = E.written err.new;
     }) }
-    ensures read { result ≡ 4 → HasReadFailed (S.faults input.old) (S.faults input.new) (record {
+    ensures read { result ≡ 4 → HasReadFailed (Some command.Replay) (S.faults input.old) (S.faults input.new) (record {
       left = S.left input.old;
       left' = S.left input.new;
       out = O.written out.old;
@@ -66,6 +70,7 @@ pub(crate) fn run_replay<S: Source, O: Sink, E: Sink>(
     ensures writes { O.faults out.old ≤ O.faults out.new }
     ensures complains { E.faults err.old ≤ E.faults err.new }
 {
+    traces_are_explained();
     match replay(alloc, input, out) {
         Ok(_) => DONE,
         Err(ReplayFault::Read) => say(err, b"read\n", READ_FAILED),

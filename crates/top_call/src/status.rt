@@ -1,6 +1,9 @@
 /// The status of a command that came to its end.
 pub const DONE: u8 = 0;
 
+/// A condition of a claim is false.
+pub const CONDITION_FALSE: u8 = 1;
+
 /// The words are refused.
 pub const WORDS_REFUSED: u8 = 2;
 

@@ -11,15 +11,15 @@ const HANDED_OVER_ANSWER: &[u8] =
 
 // What a run came to.
 #[derive(Drop)]
-struct Ran {
-    status: u8,
-    source: MemorySource,
-    out: MemorySink,
-    err: MemorySink,
+pub(super) struct Ran {
+    pub(super) status: u8,
+    pub(super) source: MemorySource,
+    pub(super) out: MemorySink,
+    pub(super) err: MemorySink,
 }
 
 // Runs the program with these words, a space between them, over these objects.
-fn run_over(
+pub(super) fn run_over(
     alloc: Global,
     words: &[&str],
     mut source: MemorySource,
@@ -41,7 +41,7 @@ fn run_over(
 }
 
 // A source of a text that gives at most so many bytes a read, and fails at these reads.
-fn source(
+pub(super) fn source(
     alloc: Global,
     text: &[u8],
     most: usize,
@@ -52,7 +52,7 @@ fn source(
 }
 
 // A sink that takes at most so many bytes a write, and fails at these writes.
-fn sink(alloc: Global, most: usize, failing: Vec<u64>) -> MemorySink {
+pub(super) fn sink(alloc: Global, most: usize, failing: Vec<u64>) -> MemorySink {
     MemorySink::new(alloc, most.max(1), failing, Vec::new(alloc))
 }
 
@@ -211,6 +211,120 @@ fn a_machine_alone_answers_at_once(rt: HostRuntime) -> Result<(), Fail> {
 }
 
 #[test]
+fn a_cluster_of_one_node_answers_and_orders_its_requests(rt: HostRuntime) -> Result<(), Fail> {
+    expect(
+        &rt,
+        b"schedule 1 fail kv/raft 1\ntick 0\nin 0 7 1 put a x\n",
+        0,
+        b"in 0 7 1 put a x\nout 0 reply 7 1 a =x -\nbelow\norder 7 1 put a x\n",
+        b"",
+    )?;
+    // A repeated number keeps its answer, also after the node has stopped, and a lower one has none.
+    expect(
+        &rt,
+        b"schedule 1 fail kv/raft 1\ntick 0\nin 0 7 1 put a x\ncrash 0\nreboot 0\ntick 0\nin 0 7 1 put a y\n",
+        0,
+        b"in 0 7 1 put a x\nout 0 reply 7 1 a =x -\nin 0 7 1 put a y\nout 0 reply 7 1 a =x -\nout 0 reply 7 1 a =x -\nbelow\norder 7 1 put a x\n",
+        b"",
+    )?;
+    expect(
+        &rt,
+        b"schedule 1 fail kv/raft 1\ntick 0\nin 0 7 2 put a x\nin 0 7 1 put a y\n",
+        0,
+        b"in 0 7 2 put a x\nout 0 reply 7 2 a =x -\nin 0 7 1 put a y\nbelow\norder 7 2 put a x\n",
+        b"",
+    )?;
+    Ok(())
+}
+
+#[test]
+fn a_vote_outlives_the_node_that_stops(rt: HostRuntime) -> Result<(), Fail> {
+    expect(
+        &rt,
+        b"schedule 1 fail kv/raft 3\ntick 0\ndeliver 0\ncrash 1\nreboot 1\ntick 2\ndeliver 4\ndeliver 5\nin 2 7 1 put a x\n",
+        0,
+        b"in 2 7 1 put a x\nout 2 notleader 7 1\nbelow\n",
+        b"",
+    )?;
+    Ok(())
+}
+
+#[test]
+fn an_entry_of_an_earlier_term_waits_for_one_of_the_leaders_own(
+    rt: HostRuntime,
+) -> Result<(), Fail> {
+    expect(
+        &rt,
+        b"schedule 1 fail kv/raft 3\ntick 0\ndeliver 0\ndeliver 2\nin 0 7 1 put a x\ncrash 0\nreboot 0\ntick 0\ndeliver 7\ndeliver 9\ndeliver 10\ndeliver 12\ndeliver 13\ndeliver 14\n",
+        0,
+        b"in 0 7 1 put a x\nbelow\n",
+        b"",
+    )?;
+    expect(
+        &rt,
+        b"schedule 1 fail kv/raft 3\ntick 0\ndeliver 0\ndeliver 2\nin 0 7 1 put a x\ncrash 0\nreboot 0\ntick 0\ndeliver 7\ndeliver 9\ndeliver 10\ndeliver 12\ndeliver 13\ndeliver 14\nin 0 7 2 get a\ndeliver 15\ndeliver 17\n",
+        0,
+        b"in 0 7 1 put a x\nin 0 7 2 get a\nout 0 reply 7 1 a =x -\nout 0 reply 7 2 a =x =x\nbelow\norder 7 1 put a x\norder 7 2 get a\n",
+        b"",
+    )?;
+    Ok(())
+}
+
+#[test]
+fn a_request_that_is_put_in_again_at_another_leader_is_executed_once(
+    rt: HostRuntime,
+) -> Result<(), Fail> {
+    expect(
+        &rt,
+        b"schedule 1 fail kv/raft 3\ntick 0\ndeliver 0\ndeliver 2\nin 0 7 1 put a x\ndeliver 5\ndeliver 7\ntick 1\ndeliver 9\ndeliver 10\nin 1 7 1 put a x\ndeliver 13\ndeliver 15\n",
+        0,
+        b"in 0 7 1 put a x\nout 0 reply 7 1 a =x -\nin 1 7 1 put a x\nout 1 reply 7 1 a =x -\nbelow\norder 7 1 put a x\n",
+        b"",
+    )?;
+    Ok(())
+}
+
+#[test]
+fn steps_that_a_cluster_cannot_take_are_refused(rt: HostRuntime) -> Result<(), Fail> {
+    expect(
+        &rt,
+        b"schedule 1 fail kv/raft 1\ncrash 0\ncrash 0\n",
+        3,
+        b"",
+        b"line 3: node down\n",
+    )?;
+    expect(
+        &rt,
+        b"schedule 1 fail kv/raft 1\nreboot 0\n",
+        3,
+        b"",
+        b"line 2: node up\n",
+    )?;
+    expect(
+        &rt,
+        b"schedule 1 fail kv/raft 1\nlose 0\n",
+        3,
+        b"",
+        b"line 2: no copy\n",
+    )?;
+    expect(
+        &rt,
+        b"schedule 1 fail kv/raft 6\ntick 0\n",
+        3,
+        b"",
+        b"line 1: header\n",
+    )?;
+    expect(
+        &rt,
+        b"schedule 1 fail kv/raft 1\nin 0 7 put a x\n",
+        3,
+        b"",
+        b"line 2: text\n",
+    )?;
+    Ok(())
+}
+
+#[test]
 fn a_text_outside_the_grammar_is_refused(rt: HostRuntime) -> Result<(), Fail> {
     expect(&rt, b"", 3, b"", b"line 1: header\n")?;
     expect(
@@ -252,13 +366,15 @@ fn a_line_has_at_most_4096_bytes(rt: HostRuntime) -> Result<(), Fail> {
 #[test]
 fn words_are_taken_as_the_command_set_takes_them(rt: HostRuntime) -> Result<(), Fail> {
     let alloc = rt.alloc();
-    let rows: [(&[&str], u8); 12] = [
+    let rows: [(&[&str], u8); 14] = [
         (&[], 2),
         (&["vst"], 2),
         (&["vst", "replay"], 0),
         (&["vst", "replay", "--"], 0),
         (&["vst", "frob"], 2),
         (&["vst", "check"], 2),
+        (&["vst", "check", "--stack", "table"], 2),
+        (&["vst", "replay", "--stack", "lock"], 2),
         (&["vst", "replay", "x"], 2),
         (&["vst", "replay", "--x"], 2),
         (&["vst", "replay", "replay"], 2),

@@ -15,3 +15,11 @@ returns-clause-delivered_twice c = refl
 pub returns-clause-no_header : goal.returns-clause-no_header
 unfolding digits words_on_literals
 returns-clause-no_header c = refl
+
+pub returns-clause-denied : goal.returns-clause-denied
+unfolding digits words_on_literals
+returns-clause-denied c = refl
+
+pub returns-clause-no_claim : goal.returns-clause-no_claim
+unfolding digits words_on_literals
+returns-clause-no_claim c = refl

@@ -1,0 +1,155 @@
+use super::tests::{Ran, run_over, sink, source};
+use std::alloc::{AllocError, Global};
+use std::process::Abort;
+use std::test::Fail;
+
+// A cluster's trace in which a request was put in again at another leader, and its order.
+const PUT_IN_AGAIN: &[u8] =
+    b"in 0 7 1 put a x\nout 0 reply 7 1 a =x -\nin 1 7 1 put a x\nout 1 reply 7 1 a =x -\nbelow\norder 7 1 put a x\n";
+
+// Checks a text against a stack, where the text is read in pieces of at most so many bytes.
+fn check_in(alloc: Global, stack: &str, text: &[u8], read: usize) -> Result<Ran, AllocError> {
+    let source = source(alloc, text, read, Vec::new(alloc))?;
+    let out = sink(alloc, 1, Vec::new(alloc));
+    let err = sink(alloc, 1, Vec::new(alloc));
+    run_over(alloc, &["vst", "check", "--stack", stack], source, out, err)
+}
+
+// A row: a stack, a text, and the status and the lines on the output and the error stream that check comes to.
+fn expect(
+    rt: &(impl Abort + AllocGlobal),
+    stack: &str,
+    text: &[u8],
+    status: u8,
+    out: &[u8],
+    err: &[u8],
+) -> Result<(), AllocError> {
+    let ran = check_in(rt.alloc(), stack, text, 100)?;
+    assert_eq!(rt; ran.status, status, "{stack}");
+    assert!(rt; ran.out.written() == out);
+    assert!(rt; ran.err.written() == err);
+    Ok(())
+}
+
+#[test]
+fn a_claim_that_holds_is_permitted(rt: HostRuntime) -> Result<(), Fail> {
+    expect(&rt, "kv/raft", PUT_IN_AGAIN, 0, b"permitted\n", b"")?;
+    let handed_over =
+        b"in 1 lock\nout 1 locked\nbelow\nschedule 1 bag lock 2\nin 1 lock\ndeliver 0\ndeliver 1\n";
+    expect(&rt, "lock", handed_over, 0, b"permitted\n", b"")?;
+    expect(&rt, "lock/seq", handed_over, 0, b"permitted\n", b"")?;
+    let replied =
+        b"in 0 put a x\nin 0 get a\nout 0 a =x -\nin 1 get a\nout 1 redirect\nbelow\nschedule 1 one kv 1\nin 0 put a x\n";
+    expect(&rt, "kv/pb", replied, 0, b"permitted\n", b"")?;
+    expect(&rt, "kv/pb/seq", replied, 0, b"permitted\n", b"")?;
+    let alone = b"in 0 get a\nout 0 a - -\nbelow\nschedule 1 one kv 1\nin 0 get a\n";
+    expect(&rt, "kv", alone, 0, b"permitted\n", b"")?;
+    Ok(())
+}
+
+#[test]
+fn the_first_false_condition_is_named_with_its_line(rt: HostRuntime) -> Result<(), Fail> {
+    let rows: [(&str, &[u8], &[u8]); 8] = [
+        (
+            "lock",
+            b"in 1 lock\nbelow\nschedule 1 bag lock 2\ndeliver 0\n",
+            b"condition 4 line 4\n",
+        ),
+        (
+            "lock",
+            b"out 1 locked\nbelow\nschedule 1 bag lock 2\n",
+            b"condition 5 line 1\n",
+        ),
+        (
+            "kv/pb",
+            b"in 0 get a\nout 0 a - -\nbelow\nschedule 1 one kv 1\n",
+            b"condition 6 line 5\n",
+        ),
+        (
+            "kv/pb",
+            b"in 0 get a\nout 0 a =x -\nbelow\nschedule 1 one kv 1\nin 0 get a\n",
+            b"condition 7 line 2\n",
+        ),
+        (
+            "kv/pb",
+            b"in 1 get a\nbelow\nschedule 1 one kv 1\n",
+            b"condition 8 line 1\n",
+        ),
+        (
+            "kv/raft",
+            b"out 0 reply 7 1 a =x -\nin 0 7 1 put a x\nbelow\norder 7 1 put a x\n",
+            b"condition 3 line 4\n",
+        ),
+        (
+            "kv/raft",
+            b"in 0 7 1 put a x\nout 0 reply 7 1 a =x -\nin 0 8 1 get b\nout 0 reply 8 1 b - -\nbelow\norder 8 1 get b\norder 7 1 put a x\n",
+            b"condition 3 line 6\n",
+        ),
+        (
+            "kv/raft",
+            b"in 0 7 1 put a x\nout 0 reply 7 1 a =x -\nin 0 8 1 get a\nout 0 reply 8 1 a =x =x\nbelow\norder 8 1 get a\norder 7 1 put a x\n",
+            b"condition 2 line 4\n",
+        ),
+    ];
+    for (stack, text, line) in rows {
+        expect(&rt, stack, text, 1, b"", line)?;
+    }
+    Ok(())
+}
+
+#[test]
+fn a_refused_line_comes_before_any_condition(rt: HostRuntime) -> Result<(), Fail> {
+    let rows: [(&str, &[u8], &[u8]); 4] = [
+        ("lock", b"", b"line 1: header\n"),
+        (
+            "lock",
+            b"out 1 locked\nbelow\nschedule 1 bag lock 2\nticks 0\n",
+            b"line 4: unknown word\n",
+        ),
+        (
+            "kv/raft",
+            b"in 5 7 1 get a\nbelow\n",
+            b"line 1: no such node\n",
+        ),
+        (
+            "kv",
+            b"in 0 get a\nbelow\nschedule 1 bag lock 2\n",
+            b"line 3: header\n",
+        ),
+    ];
+    for (stack, text, line) in rows {
+        expect(&rt, stack, text, 3, b"", line)?;
+    }
+    Ok(())
+}
+
+#[test]
+fn how_a_text_is_cut_changes_no_verdict(rt: HostRuntime) -> Result<(), Fail> {
+    for read in [1, 3, 7] {
+        let ran = check_in(rt.alloc(), "kv/raft", PUT_IN_AGAIN, read)?;
+        assert_eq!(rt; ran.status, 0);
+        assert!(rt; ran.out.written() == b"permitted\n".as_slice());
+        assert_eq!(rt; ran.source.left().len(), 0);
+    }
+    Ok(())
+}
+
+#[test]
+fn a_check_that_cannot_read_or_write_says_so(rt: HostRuntime) -> Result<(), Fail> {
+    let alloc = rt.alloc();
+    let words = ["vst", "check", "--stack", "kv/raft"];
+    let failing = source(alloc, PUT_IN_AGAIN, 10, vec![in alloc; 3]?)?;
+    let out = sink(alloc, 100, Vec::new(alloc));
+    let err = sink(alloc, 100, Vec::new(alloc));
+    let ran = run_over(alloc, &words, failing, out, err)?;
+    assert_eq!(rt; ran.status, 4);
+    assert!(rt; ran.out.written().is_empty());
+    assert!(rt; ran.err.written() == b"read\n".as_slice());
+    let whole = source(alloc, PUT_IN_AGAIN, 10, Vec::new(alloc))?;
+    let out = sink(alloc, 4, vec![in alloc; 2]?);
+    let err = sink(alloc, 100, Vec::new(alloc));
+    let ran = run_over(alloc, &words, whole, out, err)?;
+    assert_eq!(rt; ran.status, 5);
+    assert!(rt; ran.out.written() == b"perm".as_slice());
+    Ok(())
+}
