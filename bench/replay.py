@@ -22,7 +22,16 @@ A round of `kv` is one command, of `kv/pb` three events and two packets:
 
 A round of `kv/pb/seq` has two events more, the copy of the acknowledgement and its delivery. The commands put and get
 under a thousand keys in turn.
+
+Before the rounds of `kv/raft`, on three nodes, node 0 is elected and tells so. A round is five events and four packets:
+
+    in 0 7 r put ..  packets k and k + 1 bring the entry to the nodes 1 and 2
+    deliver k        node 1 takes it: packet k + 2 goes back
+    deliver k + 1    node 2 takes it: packet k + 3 goes back
+    deliver k + 2    the leader commits the entry, applies it and replies
+    deliver k + 3    nothing more
 """
+import itertools
 import os
 import subprocess
 import sys
@@ -53,22 +62,27 @@ def copied_round(turn, packet):
 
 
 def command(turn):
-    """The input of a round of the key-value machine."""
+    """The command of a round of the key-value machine."""
     key = f"key-{turn // 2 % 1000}"
-    return f"in 0 get {key}" if turn % 2 else f"in 0 put {key} value-{turn}"
+    return f"get {key}" if turn % 2 else f"put {key} value-{turn}"
+
+
+def command_in(turn):
+    """It as an input."""
+    return f"in 0 {command(turn)}"
 
 
 def kv_round(turn, _packet):
     """A command, and its reply at once."""
-    return ((command(turn), 2, command(turn)),)
+    return ((command_in(turn), 2, command_in(turn)),)
 
 
 def backed_round(turn, packet):
     """A command, which stands in the image once it is replied to."""
     return (
-        (command(turn), 1, None),
+        (command_in(turn), 1, None),
         (f"deliver {packet}", 0, None),
-        (f"deliver {packet + 1}", 1, command(turn)),
+        (f"deliver {packet + 1}", 1, command_in(turn)),
     )
 
 
@@ -78,36 +92,52 @@ def copied_backed_round(turn, packet):
     return (asked, applied, (f"dup {packet + 1}", 0, None), replied, (f"deliver {packet + 1}", 0, None))
 
 
-# The header of the schedule, that of its image, a round, and its number of packets.
+# Node 0 asks for votes, both come, and its first heartbeats are answered.
+ELECTION = ("tick 0", *(f"deliver {packet}" for packet in range(8)))
+
+
+def cluster_round(turn, packet):
+    """A request, which stands in the order once the leader has committed it."""
+    request = f"7 {turn + 1} {command(turn)}"
+    return (
+        (f"in 0 {request}", 1, None),
+        (f"deliver {packet}", 0, None),
+        (f"deliver {packet + 1}", 0, None),
+        (f"deliver {packet + 2}", 1, f"order {request}"),
+        (f"deliver {packet + 3}", 0, None),
+    )
+
+
+# The header of the schedule, that of its image, if it has one, what comes before the rounds, a round, and its number of
+# packets.
 STACKS = {
-    "lock": ("schedule 1 bag lock 3", "schedule 1 bag lock 3", lock_round, 3),
-    "lock/seq": ("schedule 1 dup lock/seq 3", "schedule 1 bag lock 3", copied_round, 3),
-    "kv": ("schedule 1 one kv 1", "schedule 1 one kv 1", kv_round, 0),
-    "kv/pb": ("schedule 1 bag kv/pb 2", "schedule 1 one kv 1", backed_round, 2),
-    "kv/pb/seq": ("schedule 1 dup kv/pb/seq 2", "schedule 1 one kv 1", copied_backed_round, 2),
+    "lock": ("schedule 1 bag lock 3", "schedule 1 bag lock 3", (), lock_round, 3),
+    "lock/seq": ("schedule 1 dup lock/seq 3", "schedule 1 bag lock 3", (), copied_round, 3),
+    "kv": ("schedule 1 one kv 1", "schedule 1 one kv 1", (), kv_round, 0),
+    "kv/pb": ("schedule 1 bag kv/pb 2", "schedule 1 one kv 1", (), backed_round, 2),
+    "kv/pb/seq": ("schedule 1 dup kv/pb/seq 2", "schedule 1 one kv 1", (), copied_backed_round, 2),
+    "kv/raft": ("schedule 1 fail kv/raft 3", None, ELECTION, cluster_round, 4),
 }
 
 
-def events(one_round, packets, count):
-    """The first `count` event lines of rounds."""
-    made, turn = 0, 0
-    while made < count:
-        for event in one_round(turn, turn * packets):
-            if made == count:
-                return
-            yield event
-            made += 1
-        turn += 1
+def endless(opening, one_round, packets):
+    """The event lines, without an end: what comes first, of which each but the first delivers a packet, and rounds."""
+    for line in opening:
+        yield line, 0, None
+    first = max(len(opening) - 1, 0)
+    for turn in itertools.count():
+        yield from one_round(turn, first + turn * packets)
 
 
 def write_schedule(path, image, stack, count):
     """Writes the schedule and its image, and returns how many lines its trace has."""
-    header, below, one_round, packets = STACKS[stack]
+    header, below, opening, one_round, packets = STACKS[stack]
     trace = 0
     with open(path, "w", encoding="ascii", newline="\n") as out, open(image, "w", encoding="ascii", newline="\n") as kept:
         out.write(header + "\n")
-        kept.write(below + "\n")
-        for line, seen, stays in events(one_round, packets, count):
+        if below:
+            kept.write(below + "\n")
+        for line, seen, stays in itertools.islice(endless(opening, one_round, packets), count):
             out.write(line + "\n")
             trace += seen
             if stays:
@@ -115,11 +145,11 @@ def write_schedule(path, image, stack, count):
     return trace
 
 
-def run_once(program, schedule, answer):
-    """The status, the seconds and the peak memory in KiB of one run. The memory is at least that of this script."""
-    with open(schedule, "rb") as given, open(answer, "wb") as out:
+def run_once(program, text, answer, *words):
+    """The status, the seconds and the peak memory in KiB of one run on a text. The memory is at least that of this script."""
+    with open(text, "rb") as given, open(answer, "wb") as out:
         begin = time.perf_counter()
-        child = subprocess.Popen([program, "replay"], stdin=given, stdout=out)
+        child = subprocess.Popen([program, *words], stdin=given, stdout=out)
         _, ended, used = os.wait4(child.pid, 0)
         seconds = time.perf_counter() - begin
     child.returncode = os.waitstatus_to_exitcode(ended)
@@ -150,7 +180,7 @@ def measure(program, stack):
             trace = write_schedule(schedule, image, stack, count)
             seconds, memory = [], 0
             for _ in range(RUNS):
-                status, took, peak = run_once(program, schedule, answer)
+                status, took, peak = run_once(program, schedule, answer, "replay")
                 wrong = what_is_wrong(status, image, answer, trace)
                 if wrong:
                     print(f"{stack}, {count:,} events: {wrong}")
