@@ -38,27 +38,22 @@ def write_repeated(claim, requests):
 
 
 def measure(program, name, stack, sizes, write):
-    """Prints the times of claims of these sizes, and returns whether each was permitted."""
-    times = []
+    """Measures the check of claims of these sizes, each of which has to be permitted."""
     with tempfile.TemporaryDirectory() as room:
         claim, answer = (os.path.join(room, file) for file in ("claim", "answer"))
-        for size in sizes:
+
+        def prepare(size):
             write(room, size, claim)
             with open(claim, "rb") as lines:
-                count = sum(1 for _ in lines)
-            seconds, memory = [], 0
-            for _ in range(replay.RUNS):
-                status, took, peak = replay.run_once(program, claim, answer, "check", "--stack", stack)
-                with open(answer, "rb") as said:
-                    if status != 0 or said.read() != b"permitted\n":
-                        print(f"{name}, {count:,} lines: not permitted, status {status}")
-                        return False
-                seconds.append(took)
-                memory = max(memory, peak)
-            times.append(min(seconds))
-            print(f"{name}, {count:,} lines: {times[-1]:.3f} s (the least of {replay.RUNS} runs), {memory / 1024:.1f} MiB at most")
-    print(f"{sizes[1] // sizes[0]} times the lines take {times[1] / times[0]:.2f} times as long")
-    return True
+                return sum(1 for _ in lines)
+
+        def wrong(status):
+            with open(answer, "rb") as said:
+                return None if status == 0 and said.read() == b"permitted\n" else f"not permitted, status {status}"
+
+        return replay.measure_growth(
+            program, name, sizes, "lines", prepare, claim, answer, ["check", "--stack", stack], wrong
+        )
 
 
 def main(words):

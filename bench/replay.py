@@ -171,26 +171,44 @@ def what_is_wrong(status, image, answer, trace):
     return None
 
 
-def measure(program, stack):
-    """Prints the times of a stack, and returns whether each answer was right."""
+def measure_growth(program, name, sizes, unit, prepare, text, answer, words, wrong):
+    """Prints how the time and memory of a command grow over texts of these sizes, and returns whether each answer was right.
+
+    `prepare` writes the text of a size and returns how many units it has, and `wrong` says what is wrong with an answer of this
+    status, or None.
+    """
     times = []
+    for size in sizes:
+        count = prepare(size)
+        seconds, memory = [], 0
+        for _ in range(RUNS):
+            status, took, peak = run_once(program, text, answer, *words)
+            reason = wrong(status)
+            if reason:
+                print(f"{name}, {count:,} {unit}: {reason}")
+                return False
+            seconds.append(took)
+            memory = max(memory, peak)
+        times.append(min(seconds))
+        print(f"{name}, {count:,} {unit}: {times[-1]:.3f} s (the least of {RUNS} runs), {memory / 1024:.1f} MiB at most")
+    print(f"{sizes[1] // sizes[0]} times the {unit} take {times[1] / times[0]:.2f} times as long")
+    return True
+
+
+def measure(program, stack):
+    """Measures the replay of a stack."""
     with tempfile.TemporaryDirectory() as room:
         schedule, image, answer = (os.path.join(room, name) for name in ("schedule", "image", "answer"))
-        for count in SIZES:
+        trace = 0
+
+        def prepare(count):
+            nonlocal trace
             trace = write_schedule(schedule, image, stack, count)
-            seconds, memory = [], 0
-            for _ in range(RUNS):
-                status, took, peak = run_once(program, schedule, answer, "replay")
-                wrong = what_is_wrong(status, image, answer, trace)
-                if wrong:
-                    print(f"{stack}, {count:,} events: {wrong}")
-                    return False
-                seconds.append(took)
-                memory = max(memory, peak)
-            times.append(min(seconds))
-            print(f"{stack}, {count:,} events: {times[-1]:.3f} s (the least of {RUNS} runs), {memory / 1024:.1f} MiB at most")
-    print(f"{SIZES[1] // SIZES[0]} times the events take {times[1] / times[0]:.2f} times as long")
-    return True
+            return count
+
+        return measure_growth(
+            program, stack, SIZES, "events", prepare, schedule, answer, ["replay"], lambda status: what_is_wrong(status, image, answer, trace)
+        )
 
 
 def main(words):
