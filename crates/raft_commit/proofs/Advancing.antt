@@ -5,6 +5,7 @@ use Rattle.vst_base.specs.Committing.{advance, holders, may_commit}
 use Rattle.vst_base.specs.Elections.{is_majority}
 use Rattle.vst_base.specs.Logs.{term_at}
 use Rattle.vst_base.specs.declared.entry.Entry.{Entry}
+use Rattle.vst_base.proofs.LogTerms.{term_found}
 use Rattle.raft_commit.proofs.Holding.{held_below}
 
 step : {C : Type 0} (n me : ℕ) (m : ℕ → ℕ) (log : List (Entry C)) (term commit k : ℕ) → may_commit n me m log term commit (suc k) ≡ false
@@ -41,15 +42,10 @@ advance_at n me m log term commit zero h own held = absurd (omega arith)
 advance_at n me m log term commit (suc k) h own held =
     cond-true _ (suc k) (advance n me m log term commit k) (and_from _ _ (lt-ltb commit (suc k) h) (and_from _ _ (eq-eqb _ _ own) held))
 
-term_behind : {C : Type 0} (log : List (Entry C)) (k : ℕ) (e : Entry C) → k < length log → e ≡ get_or log k e → term_at log (suc k) ≡ e.term
-term_behind [] k e h q = absurd (omega arith)
-term_behind {C = C} (x ∷ xs) zero e h q = ap (λ (y : Entry C). y.term) (sym q)
-term_behind (x ∷ xs) (suc k) e h q = term_behind xs k e (omega arith) q
-
 -- the term of the entry at an index from 1 on
 term_of : {C : Type 0} (log : List (Entry C)) (index : ℕ) (e : Entry C) → 0 < index → index ≤ length log → e ≡ get_or log (index - 1) e
     → term_at log index ≡ e.term
-term_of log index e h l q = let same : index ≡ suc (index - 1) = omega arith in ap (term_at log) same ∙ term_behind log (index - 1) e (omega arith) q
+term_of log index e h l q = let same : index ≡ suc (index - 1) = omega arith in ap (term_at log) same ∙ term_found log (index - 1) e (omega arith) q
 
 -- none past the index may be committed, and most nodes have the log up to it
 pub record Falling {C : Type 0} (n me : ℕ) (m : ℕ → ℕ) (log : List (Entry C)) (term commit index : ℕ) : Type 0 where

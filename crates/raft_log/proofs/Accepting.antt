@@ -5,6 +5,7 @@ use Rattle.std.proofs.lemmas.Bool.{le-leb, lt-leb}
 use Rattle.std.proofs.lemmas.List.{take-append-drop}
 use Rattle.vst_base.specs.declared.entry.Entry.{Entry}
 use Rattle.vst_base.specs.Logs.{accepted, has_conflict, merged, term_at}
+use Rattle.vst_base.proofs.LogTerms.{rest_behind, term_behind}
 use Rattle.raft_log.specs.declared.accept.Accept.{Accept}
 use Rattle.raft_log.specs.declared.accept.Accept.TheVariants.{Taken, Below}
 use Rattle.raft_log.specs.Accepting.{agreed, answer, first_conflict, log_behind}
@@ -23,16 +24,6 @@ agreed_with_none [] (e ∷ es) h = refl
 agreed_with_none (o ∷ os) (e ∷ es) h = absurd (omega arith)
 
 -- what stands behind an index
-term_behind : {C : Type 0} (log : List (Entry C)) (prev : ℕ) (o : Entry C) (os : List (Entry C)) → drop prev log ≡ o ∷ os → term_at log (suc prev) ≡ o.term
-term_behind {C = C} [] prev o os d = absurd (omega (arith, ap length d, length-drop {A = Entry C} prev []))
-term_behind {C = C} (x ∷ xs) zero o os d = let q : x ≡ o = cc d in ap (λ (y : Entry C). y.term) q
-term_behind (x ∷ xs) (suc prev) o os d = term_behind xs prev o os d
-
-rest_behind : {C : Type 0} (log : List (Entry C)) (prev : ℕ) (o : Entry C) (os : List (Entry C)) → drop prev log ≡ o ∷ os → drop (suc prev) log ≡ os
-rest_behind {C = C} [] prev o os d = absurd (omega (arith, ap length d, length-drop {A = Entry C} prev []))
-rest_behind (x ∷ xs) zero o os d = cc d
-rest_behind (x ∷ xs) (suc prev) o os d = rest_behind xs prev o os d
-
 end_behind : {C : Type 0} (log : List (Entry C)) (prev : ℕ) → drop prev log ≡ [] → length log ≤ prev
 end_behind log prev d = omega (arith, ap length d, length-drop prev log)
 

@@ -1,19 +1,11 @@
 -- The term at an index, by the entry that is found there.
-use Rattle.std.proofs.Common.{◌≡◌, ℕ, zero, suc, ◌<◌, List, [], ◌∷◌, length, get_or, Some, None, nat_le, if◌then◌else◌, refl, sym, ap, arith}
+use Rattle.std.proofs.Common.{◌≡◌, ℕ, suc, ◌<◌, List, length, get_or, Some, None, nat_le, if◌then◌else◌, refl, arith}
 use Rattle.std.proofs.Math.Dec.{leb-zero}
 use Rattle.std.proofs.lemmas.Bool.{le-leb}
 use Rattle.std.specs.declared.option.Option.TheVariants.{the_data}
 use Rattle.vst_base.specs.declared.entry.Entry.{Entry}
 use Rattle.vst_base.specs.Logs.{term_at}
-
-pub term_at_zero : {C : Type 0} (log : List (Entry C)) → term_at log 0 ≡ 0
-term_at_zero [] = refl
-term_at_zero (e ∷ es) = refl
-
-term_found : {C : Type 0} (log : List (Entry C)) (k : ℕ) (e : Entry C) → k < length log → e ≡ get_or log k e → term_at log (suc k) ≡ e.term
-term_found [] k e h q = absurd (omega arith)
-term_found {C = C} (x ∷ xs) zero e h q = ap (λ (y : Entry C). y.term) (sym q)
-term_found (x ∷ xs) (suc k) e h q = term_found xs k e (omega arith) q
+use Rattle.vst_base.proofs.LogTerms.{term_at_zero, term_found}
 
 pub told_at_zero : {C : Type 0} (log : List (Entry C)) (n : ℕ) → n ≡ 0 →
     ◌≡◌ {A = the_data ℕ} (Some 0) (if nat_le n (length log) then Some (term_at log n) else None)

@@ -5,6 +5,7 @@ use Rattle.std.proofs.lemmas.Bool.{and_parts, ltb-true, false≢true, le-leb}
 use Rattle.vst_base.specs.declared.entry.Entry.{Entry}
 use Rattle.vst_base.specs.Committing.{advance, may_commit}
 use Rattle.vst_base.specs.Logs.{accepted, has_conflict, merged, term_at}
+use Rattle.vst_base.proofs.LogTerms.{rest_behind, term_behind}
 
 merged_no_shorter : {C : Type 0} (old es : List (Entry C)) → length es ≤ length (merged old es)
 merged_no_shorter old [] = omega arith
@@ -36,16 +37,6 @@ accepted_no_longer log prev es h = omega (arith, length_accepted log prev es h, 
 or_neither : (a b : Bool) → (a || b) ≡ false → (a ≡ false) × (b ≡ false)
 or_neither true b e = absurd (false≢true (sym e))
 or_neither false b e = (refl, e)
-
-term_behind : {C : Type 0} (log : List (Entry C)) (prev : ℕ) (o : Entry C) (os : List (Entry C)) → drop prev log ≡ o ∷ os → term_at log (suc prev) ≡ o.term
-term_behind {C = C} [] prev o os d = absurd (omega (arith, ap length d, length-drop {A = Entry C} prev []))
-term_behind {C = C} (x ∷ xs) zero o os d = let q : x ≡ o = cc d in ap (λ (y : Entry C). y.term) q
-term_behind (x ∷ xs) (suc prev) o os d = term_behind xs prev o os d
-
-rest_behind : {C : Type 0} (log : List (Entry C)) (prev : ℕ) (o : Entry C) (os : List (Entry C)) → drop prev log ≡ o ∷ os → drop (suc prev) log ≡ os
-rest_behind {C = C} [] prev o os d = absurd (omega (arith, ap length d, length-drop {A = Entry C} prev []))
-rest_behind (x ∷ xs) zero o os d = cc d
-rest_behind (x ∷ xs) (suc prev) o os d = rest_behind xs prev o os d
 
 -- where no entry conflicts with one up to commit, none up to it is cut
 kept_behind : {C : Type 0} (log : List (Entry C)) (commit prev : ℕ) (rest es : List (Entry C)) → commit ≤ length log → prev ≤ length log → drop prev log ≡ rest →

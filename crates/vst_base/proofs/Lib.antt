@@ -1,1 +1,2 @@
+pub mod LogTerms
 pub mod Majorities
