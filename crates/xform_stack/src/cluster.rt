@@ -3,6 +3,7 @@ ghost use Rattle.applied_order.specs.Orders.{IsSoundCluster};
 ghost use Rattle.raft_types.specs.Ranges.{IsClusterSize};
 ghost use Rattle.xform_stack.specs.Clusters.{HasFollowedCluster, cluster_of};
 
+use crate::refusing::fault_at;
 use crate::{Ran, RunFault, Runs};
 use applied_order::AppliedOrder;
 use net_semantics::{FailWorld, Trace};
@@ -11,7 +12,7 @@ use raft_xform::{Raft, RaftState};
 use std::alloc::{AllocError, Global};
 use std::marker::Model;
 use trace_maps::Image;
-use vst_base::{Machine, Step, StepRefusal};
+use vst_base::{Machine, Step};
 
 /// A schedule of a machine on a cluster, on a network that fails, that is run one step at a time: the world so far, and the
 /// order of the requests that were executed so far.
@@ -79,8 +80,7 @@ impl<M: Machine> Runs for RunningCluster<M> {
         let place = self.world.taken();
         match self.world.step(step) {
             Ok(()) => {}
-            Err(StepRefusal::Memory) => return Err(RunFault::Memory),
-            Err(why) => return Err(RunFault::Step(why, place)),
+            Err(why) => return Err(fault_at(why, place)),
         }
         let Ok(()) = self.order.follow(self.alloc, &self.world) else {
             return Err(RunFault::Memory);

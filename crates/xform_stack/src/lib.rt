@@ -8,6 +8,7 @@ mod cluster;
 mod failing;
 mod laws;
 mod ran;
+mod refusing;
 mod run;
 mod running;
 mod runs;

@@ -7,13 +7,14 @@ ghost use Rattle.net_semantics.specs.Worlds.{World as DefinedWorld, copies, ends
 ghost use Rattle.vst_base.specs.declared.step.Step.{Step};
 ghost use Rattle.xform_stack.specs.Running.{HasFollowed, system_of};
 
+use crate::refusing::fault_at;
 use crate::{Ran, RunFault, Runs};
 use handler_trait::Handlers;
 use net_semantics::{Trace, World};
 use std::alloc::{AllocError, Global};
 use std::marker::Model;
 use trace_maps::TraceMap;
-use vst_base::{Item, Net, Node, Step, StepRefusal};
+use vst_base::{Item, Net, Node, Step};
 
 /// A schedule that is run one step at a time on a network that stops no node: the world so far, and the map to the image of the
 /// steps so far.
@@ -124,8 +125,7 @@ impl<H: Handlers, T: TraceMap<H>> Runs for Running<H, T> {
         let before = self.world.trace().items().len();
         match self.world.step(step) {
             Ok(()) => {}
-            Err(StepRefusal::Memory) => return Err(RunFault::Memory),
-            Err(why) => return Err(RunFault::Step(why, place)),
+            Err(why) => return Err(fault_at(why, place)),
         }
         let items = self.world.trace().items();
         let followed = follow(
