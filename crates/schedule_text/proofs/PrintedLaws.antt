@@ -32,7 +32,7 @@ or-parts : (t u : Bool) → (t || u) ≡ false → (t ≡ false) × (u ≡ false
 or-parts true u e = cc
 or-parts false u e = (refl, e)
 
-plain-text : (bs : List ℕ) → list_any (λ b. b == 10) bs ≡ false → cut_at 10 bs ≡ None
+pub plain-text : (bs : List ℕ) → list_any (λ b. b == 10) bs ≡ false → cut_at 10 bs ≡ None
 plain-text [] e = refl
 plain-text (b ∷ bs) e =
     let parts = or-parts (b == 10) (list_any (λ b. b == 10) bs) e in
@@ -45,8 +45,11 @@ plain-digits (d ∷ ds) all =
     let first : (nat_le 48 d ≡ true) × (nat_le d 57 ≡ true) = and_parts (nat_le 48 d) (nat_le d 57) parts.0 in
     none-from 10 d ds (ne_eqb d 10 (λ e. omega (arith, leb-true 48 d first.0, e))) (plain-digits ds parts.1)
 
+pub plain-number : (n : ℕ) → n < 4294967296 → cut_at 10 (decimal n) ≡ None
+plain-number n fits = plain-digits (decimal n) (digits_decimal own n (omega (arith, fits)))
+
 plain-numbered : (k : StepKind) (n : ℕ) → n < 4294967296 → cut_at 10 (numbered (word_of k) n) ≡ None
-plain-numbered k n fits = none-append 10 (word_of k) (32 ∷ decimal n) (word k) (plain-digits-behind (decimal n) (digits_decimal own n (omega (arith, fits)))) where
+plain-numbered k n fits = none-append 10 (word_of k) (32 ∷ decimal n) (word k) (none-from 10 32 (decimal n) refl (plain-number n fits)) where
   word : (k : StepKind) → cut_at 10 (word_of k) ≡ None
   word kind.In = refl
   word kind.Deliver = refl
@@ -56,11 +59,8 @@ plain-numbered k n fits = none-append 10 (word_of k) (32 ∷ decimal n) (word k)
   word kind.Crash = refl
   word kind.Reboot = refl
 
-  plain-digits-behind : (ds : List ℕ) → list_all is_digit ds ≡ true → cut_at 10 (32 ∷ ds) ≡ None
-  plain-digits-behind ds all = none-from 10 32 ds refl (plain-digits ds all)
-
 module _ {I : Type 0} (f : List ℕ → Option I) (t : I → List ℕ) (HasText : I → Type 0) (reads : (i : I) → HasText i → f (t i) ≡ Some i) (plain : (i : I) → HasText i → list_any (λ b. b == 10) (t i) ≡ false) where
-  plain-step : (s : Step I) → IsSpellable HasText s → cut_at 10 (step_text t s) ≡ None
+  pub plain-step : (s : Step I) → IsSpellable HasText s → cut_at 10 (step_text t s) ≡ None
   plain-step (step.In n i) h = none-append 10 (numbered (word_of kind.In) n) (32 ∷ t i) (plain-numbered kind.In n h.0) (none-from 10 32 (t i) refl (plain-text (t i) (plain i h.1)))
   plain-step (step.Deliver k) h = plain-numbered kind.Deliver k h
   plain-step (step.Tick n) h = plain-numbered kind.Tick n h
@@ -85,7 +85,7 @@ module _ {I : Type 0} (f : List ℕ → Option I) (t : I → List ℕ) (HasText 
   not-skipped (step.Reboot n) = refl
 
   -- a line that spells a step has its parts and its number
-  parts-some : (o : Option Parts) (s : Step I) → option_and_then (λ p. option_and_then (λ n. step_with p.kind n (f p.text)) (number_of p.number)) o ≡ Some s
+  pub parts-some : (o : Option Parts) (s : Step I) → option_and_then (λ p. option_and_then (λ n. step_with p.kind n (f p.text)) (number_of p.number)) o ≡ Some s
       → (is_none o ≡ false) × (is_none (option_and_then (λ p. number_of p.number) o) ≡ false)
   parts-some None s e = cc
   parts-some (Some p) s e = (refl, number-some (number_of p.number) e) where
