@@ -1,4 +1,5 @@
-ghost use Rattle.std.specs.Prelude.{◌<◌, length};
+ghost use Rattle.std.specs.Prelude.{◌<◌, length, vec_len, IfOk};
+ghost use Rattle.raft_types.specs.Ranges.{IsClusterSize};
 
 use super::*;
 use kv_machine::{KvCmd, KvMachine};
@@ -10,8 +11,12 @@ use std::process::Abort;
 use std::test::Fail;
 use vst_base::{ClientId, Entry, Key, Machine, Node, ReqId, Step};
 
-// A request of a client, by its number, for the value of a key of one letter.
-fn asks(alloc: Global, client: u64, request: u64, letter: u8) -> Result<RaftInput<KvCmd>, Fail> {
+// A client, the number of its request, and the letter of the key whose value it asks for.
+type Row = (u64, u64, u8);
+
+// The request of a row.
+fn asks(alloc: Global, row: Row) -> Result<RaftInput<KvCmd>, Fail> {
+    let (client, request, letter) = row;
     let key = Key::new(alloc, &[letter])?.ok_or("a key")?;
     Ok(RaftInput {
         client: ClientId::new(client),
@@ -21,35 +26,97 @@ fn asks(alloc: Global, client: u64, request: u64, letter: u8) -> Result<RaftInpu
 }
 
 // An entry with that request.
-fn entry(alloc: Global, client: u64, request: u64, letter: u8) -> Result<Entry<KvCmd>, Fail> {
-    let asked = asks(alloc, client, request, letter)?;
+fn entry(alloc: Global, row: Row) -> Result<Entry<KvCmd>, Fail> {
     let origin = Node::new(0, 5).ok_or("a node")?;
+    let asked = asks(alloc, row)?;
     Ok(Entry::new(1, asked.client, asked.request, origin, asked.cmd))
+}
+
+// Whether this is the request of a row.
+fn is_of(alloc: Global, request: &RaftInput<KvCmd>, row: Row) -> Result<bool, Fail> {
+    Ok(*request == asks(alloc, row)?)
+}
+
+// Whether these are the requests of the first so many rows, in order.
+fn are_first(
+    alloc: Global,
+    requests: &[RaftInput<KvCmd>],
+    count: usize,
+    rows: &[Row],
+) -> Result<bool, Fail> {
+    if requests.len() != count || count > rows.len() {
+        return Ok(false);
+    }
+    for (request, row) in requests.iter().zip(rows) {
+        if !is_of(alloc, request, *row)? {
+            return Ok(false);
+        }
+    }
+    Ok(true)
 }
 
 #[test]
 fn a_request_over_all_of_its_client_is_executed(rt: HostRuntime) -> Result<(), Fail> {
     let alloc = rt.alloc();
     let mut order = AppliedOrder::new(alloc);
-    let mut executed = Vec::new(alloc);
-    for (client, request, letter, is_new) in [
-        (7, 0, b'a', true),
-        (7, 0, b'b', false),
-        (9, 5, b'c', true),
-        (7, 2, b'd', true),
-        (7, 1, b'e', false),
-        (9, 4, b'f', false),
-        (9, u64::MAX, b'g', true),
-        (9, 6, b'h', false),
-        (8, 6, b'i', true),
+    let executed = [
+        (7, 0, b'a'),
+        (9, 5, b'c'),
+        (7, 2, b'd'),
+        (9, u64::MAX, b'g'),
+        (8, 6, b'i'),
+    ];
+    for (row, count) in [
+        ((7, 0, b'a'), 1),
+        ((7, 0, b'b'), 1),
+        ((9, 5, b'c'), 2),
+        ((7, 2, b'd'), 3),
+        ((7, 1, b'e'), 3),
+        ((9, 4, b'f'), 3),
+        ((9, u64::MAX, b'g'), 4),
+        ((9, 6, b'h'), 4),
+        ((8, 6, b'i'), 5),
     ] {
-        order.add(alloc, &KvMachine, &entry(alloc, client, request, letter)?)?;
-        if is_new {
-            executed.push(asks(alloc, client, request, letter)?)?;
-        }
-        assert_eq!(rt; order.requests(), executed.as_slice(), "{client} {request}");
+        order.add(alloc, &KvMachine, &entry(alloc, row)?)?;
+        assert!(rt;
+            are_first(alloc, order.requests(), count, &executed)?,
+            "{count}"
+        );
     }
     Ok(())
+}
+
+// The step of a row that has no request, of the kinds that stand in the rows here.
+fn without_request<I>(row: &Step<Row>) -> Option<Step<I>> {
+    match row {
+        Step::Deliver(k) => Some(Step::Deliver(*k)),
+        Step::Tick(n) => Some(Step::Tick(*n)),
+        Step::Crash(n) => Some(Step::Crash(*n)),
+        Step::Reboot(n) => Some(Step::Reboot(*n)),
+        _ => None,
+    }
+}
+
+// The step of a row.
+fn step_of(alloc: Global, row: &Step<Row>) -> Result<Step<RaftInput<KvCmd>>, Fail> {
+    if let Step::In(n, asked) = row {
+        return Ok(Step::In(*n, asks(alloc, *asked)?));
+    }
+    Ok(without_request(row).ok_or("a step of these kinds")?)
+}
+
+// The steps of these rows.
+fn steps_of(alloc: Global, rows: &[Step<Row>]) -> Result<Vec<Step<RaftInput<KvCmd>>>, Fail>
+    ensures { IfOk result (λ steps. vec_len steps < 1000000) }
+{
+    let mut steps = Vec::new(alloc);
+    for row in rows {
+        steps.push(step_of(alloc, row)?)?;
+    }
+    if steps.len() >= 1_000_000 {
+        return Err(Fail::from("few steps"));
+    }
+    Ok(steps)
 }
 
 // What is applied after these steps, and how many requests were executed after each.
@@ -71,24 +138,43 @@ fn followed<M: Machine>(
     Ok((order, counts))
 }
 
+// Whether a cluster of so many nodes, on the steps of these rows, has executed so many requests after each, and
+// in the end those of these rows.
+fn executes(
+    alloc: Global,
+    nodes: u8,
+    rows: &[Step<Row>],
+    by_then: &[usize],
+    executed: &[Row],
+) -> Result<bool, Fail>
+    requires { IsClusterSize nodes }
+{
+    let steps = steps_of(alloc, rows)?;
+    let (order, counts) = followed(alloc, Raft::new(KvMachine, nodes), steps.as_slice())?;
+    if counts.as_slice() != by_then {
+        return Ok(false);
+    }
+    let requests = order.into_requests();
+    are_first(alloc, requests.as_slice(), executed.len(), executed)
+}
+
 // The leader of three commits two requests and stops. The next one is asked the second again, and a third.
 #[test]
 fn the_requests_of_two_leaders_stand_in_one_order(rt: HostRuntime) -> Result<(), Fail> {
-    let alloc = rt.alloc();
-    let steps = [
+    let rows = [
         Step::Tick(0),
         Step::Deliver(0),
         Step::Deliver(2),
-        Step::In(0, asks(alloc, 7, 1, b'a')?),
-        Step::In(0, asks(alloc, 9, 1, b'b')?),
+        Step::In(0, (7, 1, b'a')),
+        Step::In(0, (9, 1, b'b')),
         Step::Deliver(7),
         Step::Deliver(9),
         Step::Crash(0),
         Step::Tick(1),
         Step::Deliver(11),
         Step::Deliver(12),
-        Step::In(1, asks(alloc, 9, 1, b'b')?),
-        Step::In(1, asks(alloc, 7, 2, b'c')?),
+        Step::In(1, (9, 1, b'b')),
+        Step::In(1, (7, 2, b'c')),
         Step::Deliver(18),
         Step::Deliver(19),
         Step::Deliver(20),
@@ -96,41 +182,26 @@ fn the_requests_of_two_leaders_stand_in_one_order(rt: HostRuntime) -> Result<(),
         Step::Deliver(22),
         Step::Deliver(23),
     ];
-    let (order, counts) = followed(alloc, Raft::new(KvMachine, 3), &steps)?;
-    let executed_by_then = [0, 0, 0, 0, 0, 0, 2, 2, 2, 2, 2, 2, 2, 2, 2, 2, 2, 2, 3];
-    assert_eq!(rt; counts.as_slice(), executed_by_then.as_slice());
-    let executed = [
-        asks(alloc, 7, 1, b'a')?,
-        asks(alloc, 9, 1, b'b')?,
-        asks(alloc, 7, 2, b'c')?,
-    ];
-    assert_eq!(rt; order.into_requests().as_slice(), executed.as_slice());
+    let by_then = [0, 0, 0, 0, 0, 0, 2, 2, 2, 2, 2, 2, 2, 2, 2, 2, 2, 2, 3];
+    let executed = [(7, 1, b'a'), (9, 1, b'b'), (7, 2, b'c')];
+    assert!(rt; executes(rt.alloc(), 3, &rows, &by_then, &executed)?);
     Ok(())
 }
 
 // A node that starts again has applied nothing, and applies its log once more.
 #[test]
 fn what_was_applied_before_a_stop_still_counts(rt: HostRuntime) -> Result<(), Fail> {
-    let alloc = rt.alloc();
-    let steps = [
+    let rows = [
         Step::Tick(0),
-        Step::In(0, asks(alloc, 7, 0, b'a')?),
+        Step::In(0, (7, 0, b'a')),
         Step::Crash(0),
         Step::Reboot(0),
         Step::Tick(0),
-        Step::In(0, asks(alloc, 7, 0, b'b')?),
-        Step::In(0, asks(alloc, 7, 1, b'c')?),
+        Step::In(0, (7, 0, b'b')),
+        Step::In(0, (7, 1, b'c')),
     ];
-    let (order, counts) = followed(alloc, Raft::new(KvMachine, 1), &steps)?;
-    let executed_by_then = [0, 1, 1, 1, 1, 1, 2];
-    assert_eq!(rt; counts.as_slice(), executed_by_then.as_slice());
-    let executed = [asks(alloc, 7, 0, b'a')?, asks(alloc, 7, 1, b'c')?];
-    assert_eq!(rt; order.requests(), executed.as_slice());
+    let by_then = [0, 1, 1, 1, 1, 1, 2];
+    let executed = [(7, 0, b'a'), (7, 1, b'c')];
+    assert!(rt; executes(rt.alloc(), 1, &rows, &by_then, &executed)?);
     Ok(())
-}
-
-// What the definitions say of worked rows.
-#[test]
-fn the_definitions_are_computed() {
-    worked_orders();
 }

@@ -10,6 +10,3 @@ mod words;
 pub use command::Command;
 pub use examples::worked;
 pub use words::read_words;
-
-#[cfg(test)]
-mod tests;

@@ -7,26 +7,6 @@ use std::alloc::{AllocError, Global};
 use std::test::Fail;
 use vst_base::Node;
 
-#[test]
-fn outputs_and_sends_come_out_in_order(rt: HostRuntime) -> Result<(), Fail> {
-    let mut effects: Effects<u8, u16> = Effects::new(rt.alloc());
-    let to = Node::new(1, 3).ok_or("no such node")?;
-    effects.reserve(1, 8)?;
-    effects.send(to, 500);
-    effects.send(to, 600);
-    effects.output(7)?;
-    effects.output(9)?;
-    assert_eq!(rt; effects.outputs(), [7, 9].as_slice());
-    assert_eq!(rt; effects.sends().len(), 2);
-    assert_eq!(rt; effects.next_output(), Some(7));
-    assert_eq!(rt; effects.next_output(), Some(9));
-    assert_eq!(rt; effects.next_output(), None);
-    assert_eq!(rt; effects.next_send(), Some((to, 500)));
-    effects.clear();
-    assert_eq!(rt; effects.next_send(), None);
-    Ok(())
-}
-
 // Two nodes, of which the second takes input. A node keeps the greatest that it saw, passes an input
 // on to the first, tells what it hears, and knocks at its own door when its timer fires.
 #[derive(Drop)]
@@ -159,20 +139,19 @@ fn first_events<H: Handlers>(
     Ok((state, effects))
 }
 
+// Whether the first events of the node with this number leave this state, the output 5 and these packets to send.
+fn gathers(alloc: Global, number: u8, left: u8, sends: &[(Node, u8)]) -> Result<bool, Fail> {
+    let node = Node::new(number, Echo.nodes()).ok_or("no such node")?;
+    let (state, effects) = first_events(alloc, &Echo, node, &7, &5)?;
+    Ok(state == left && effects.outputs() == [5].as_slice() && effects.sends() == sends)
+}
+
 #[test]
 fn events_gather_their_effects(rt: HostRuntime) -> Result<(), Fail> {
-    let first = Node::new(0, Echo.nodes()).ok_or("no such node")?;
-    let second = Node::new(1, Echo.nodes()).ok_or("no such node")?;
-
-    let (state, effects) = first_events(rt.alloc(), &Echo, first, &7, &5)?;
-    assert_eq!(rt; state, 5);
-    assert_eq!(rt; effects.outputs(), [5].as_slice());
-    assert_eq!(rt; effects.sends(), [(first, 5)].as_slice());
-
-    let (state, effects) = first_events(rt.alloc(), &Echo, second, &7, &5)?;
-    assert_eq!(rt; state, 7);
-    assert_eq!(rt; effects.outputs(), [5].as_slice());
-    assert_eq!(rt; effects.sends(), [(first, 7), (second, 7)].as_slice());
+    let first = Node::new(0, 2).unwrap();
+    let second = Node::new(1, 2).unwrap();
+    assert!(rt; gathers(rt.alloc(), 0, 5, &[(first, 5)])?);
+    assert!(rt; gathers(rt.alloc(), 1, 7, &[(first, 7), (second, 7)])?);
     Ok(())
 }
 
@@ -196,8 +175,8 @@ fn restarted<H: Rebootable>(
 fn a_node_starts_again_from_what_was_kept(rt: HostRuntime) -> Result<(), Fail> {
     let first = Node::new(0, Echo.nodes()).ok_or("no such node")?;
     let second = Node::new(1, Echo.nodes()).ok_or("no such node")?;
-    assert_eq!(rt; restarted(rt.alloc(), &Echo, first, second)?, 1);
-    assert_eq!(rt; restarted(rt.alloc(), &Echo, second, first)?, 1);
-    assert_eq!(rt; restarted(rt.alloc(), &Echo, first, first)?, 0);
+    for (from, to, state) in [(first, second, 1), (second, first, 1), (first, first, 0)] {
+        assert!(rt; restarted(rt.alloc(), &Echo, from, to)? == state);
+    }
     Ok(())
 }

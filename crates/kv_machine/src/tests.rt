@@ -44,59 +44,51 @@ fn answer<M: Machine>(
     machine.copy_out(alloc, &out)
 }
 
-// The machine answers a copy of a command with these values of the key `a`.
+// The commands of a short run, by their place.
+fn command(alloc: Global, place: u8) -> Result<KvCmd, Fail> {
+    match place {
+        0 => cas(alloc, b"a", None, b"x"),
+        1 => put(alloc, b"b", b"y"),
+        2 => cas(alloc, b"a", Some(b"y"), b"z"),
+        3 => cad(alloc, b"a", b"x"),
+        4 => Ok(KvCmd::Del(key(alloc, b"a")?)),
+        _ => Ok(KvCmd::Get(key(alloc, b"b")?)),
+    }
+}
+
+// The machine answers a copy of a command with this key, and these values of it.
 fn tells(
     rt: &impl Abort,
     alloc: Global,
     state: &mut KvState,
-    cmd: &KvCmd,
+    place: u8,
+    key: &[u8],
     after: Option<&[u8]>,
     before: Option<&[u8]>,
 ) -> Result<(), Fail> {
-    let told = answer(alloc, &KvMachine, state, cmd)?;
-    assert_eq!(rt; told.key.as_bytes(), b"a".as_slice());
-    assert_eq!(rt; text(&told.after), after);
-    assert_eq!(rt; text(&told.before), before);
+    let cmd = command(alloc, place)?;
+    let told = answer(alloc, &KvMachine, state, &cmd)?;
+    assert!(rt; told.key.as_bytes() == key, "the key of command {place}");
+    assert!(rt; text(&told.after) == after, "after command {place}");
+    assert!(rt; text(&told.before) == before, "before command {place}");
     Ok(())
 }
 
 #[test]
 fn commands_are_answered_in_turn(rt: HostRuntime) -> Result<(), Fail> {
     let alloc = rt.alloc();
-    let x = Some(b"x".as_slice());
+    let [a, b] = [b"a".as_slice(), b"b".as_slice()];
+    let [x, y] = [Some(b"x".as_slice()), Some(b"y".as_slice())];
     let mut state = KvMachine.init(alloc)?;
-    let state = &mut state;
-    tells(&rt, alloc, state, &cas(alloc, b"a", None, b"x")?, x, None)?;
-    tells(
-        &rt,
-        alloc,
-        state,
-        &cas(alloc, b"a", Some(b"y"), b"z")?,
-        x,
-        x,
-    )?;
-    tells(&rt, alloc, state, &cad(alloc, b"a", b"x")?, None, x)?;
-    tells(
-        &rt,
-        alloc,
-        state,
-        &KvCmd::Del(key(alloc, b"a")?),
-        None,
-        None,
-    )
-}
-
-#[test]
-fn other_keys_outlive_a_removal(rt: HostRuntime) -> Result<(), Fail> {
-    let alloc = rt.alloc();
-    let mut state = KvMachine.init(alloc)?;
-    for text in [b"a".as_slice(), b"b".as_slice(), b"c".as_slice()] {
-        KvMachine.apply(alloc, &mut state, &put(alloc, text, text)?)?;
-    }
-    state.remove(&key(alloc, b"a")?);
-    for (text, is_there) in [(b"a", false), (b"b", true), (b"c", true)] {
-        let held = state.get(&key(alloc, text)?);
-        assert_eq!(rt; held.is_some(), is_there, "{text:?}");
+    for (place, key, after, before) in [
+        (0, a, x, None),
+        (1, b, y, None),
+        (2, a, x, x),
+        (3, a, None, x),
+        (4, a, None, None),
+        (5, b, y, y),
+    ] {
+        tells(&rt, alloc, &mut state, place, key, after, before)?;
     }
     Ok(())
 }

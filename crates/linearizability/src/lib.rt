@@ -5,6 +5,3 @@
 mod examples;
 
 pub use examples::{worked_orders, worked_parts};
-
-#[cfg(test)]
-mod tests;

@@ -1,39 +1,17 @@
 use super::*;
 use outside::{Address, Begun, Device, ReadOutcome, Sink, Source, WriteOutcome};
-use std::alloc::{AllocError, Global};
 use std::test::Fail;
 
-// What so many reads come to, with room for four bytes each, and the bytes that they gave.
-fn read_some<S: Source>(
-    alloc: Global,
-    source: &mut S,
-    reads: usize,
-) -> Result<(Vec<ReadOutcome>, Vec<u8>), AllocError> {
-    let mut outcomes = Vec::new(alloc);
-    let mut bytes = Vec::new(alloc);
-    let mut buf = [0; 4];
-    for _ in 0..reads {
-        let outcome = source.read(&mut buf);
-        if let ReadOutcome::Got(count) = outcome {
-            bytes.extend_from_slice(&buf[..count])?;
-        }
-        outcomes.push(outcome)?;
-    }
-    Ok((outcomes, bytes))
+// What a read with room for four bytes comes to, and the room behind it, which was filled with bars.
+fn read_four<S: Source>(source: &mut S) -> (ReadOutcome, [u8; 4]) {
+    let mut room = [b'|'; 4];
+    let outcome = source.read(&mut room);
+    (outcome, room)
 }
 
-// What so many writes of one piece come to.
-fn write_some<S: Sink>(
-    alloc: Global,
-    sink: &mut S,
-    piece: &[u8],
-    writes: usize,
-) -> Result<Vec<WriteOutcome>, AllocError> {
-    let mut outcomes = Vec::new(alloc);
-    for _ in 0..writes {
-        outcomes.push(sink.write(piece))?;
-    }
-    Ok(outcomes)
+// What the write of a piece comes to.
+fn write_piece<S: Sink>(sink: &mut S, piece: &[u8]) -> WriteOutcome {
+    sink.write(piece)
 }
 
 fn begin_at<D: Device>(device: &mut D) -> Begun {
@@ -47,35 +25,32 @@ fn begin_at<D: Device>(device: &mut D) -> Begun {
 #[test]
 fn a_source_cuts_its_reads_and_fails_at_its_calls(rt: HostRuntime) -> Result<(), Fail> {
     let alloc = rt.alloc();
-    let bytes = Vec::from_slice(alloc, b"abcdefg")?;
-    let mut source = MemorySource::new(bytes, 3, vec![in alloc; 2, 3]?);
-    let (outcomes, got) = read_some(alloc, &mut source, 4)?;
-    let wanted = [
-        ReadOutcome::Got(3),
-        ReadOutcome::Failed,
-        ReadOutcome::Failed,
-        ReadOutcome::Got(3),
-    ];
-    assert_eq!(rt; outcomes.as_slice(), wanted.as_slice());
-    assert_eq!(rt; got.as_slice(), b"abcdef".as_slice());
-    assert_eq!(rt; source.left(), b"g".as_slice());
-    assert_eq!(rt; (source.calls(), source.faults()), (4, 2));
+    let failing = vec![in alloc; 2, 3]?;
+    let mut source = MemorySource::new(Vec::from_slice(alloc, b"abcdefg")?, 3, failing);
+    for wanted in [
+        (ReadOutcome::Got(3), [b'a', b'b', b'c', b'|']),
+        (ReadOutcome::Failed, [b'|'; 4]),
+        (ReadOutcome::Failed, [b'|'; 4]),
+        (ReadOutcome::Got(3), [b'd', b'e', b'f', b'|']),
+    ] {
+        assert!(rt; read_four(&mut source) == wanted);
+    }
+    assert!(rt; source.left() == b"g".as_slice());
+    assert!(rt; (source.calls(), source.faults()) == (4, 2));
     Ok(())
 }
 
 #[test]
 fn a_steady_source_fills_the_buffer_until_its_end(rt: HostRuntime) -> Result<(), Fail> {
-    let alloc = rt.alloc();
-    let mut source = SteadySource::new(Vec::from_slice(alloc, b"abcdefg")?);
-    let (outcomes, got) = read_some(alloc, &mut source, 3)?;
-    let wanted = [
-        ReadOutcome::Got(4),
-        ReadOutcome::Got(3),
-        ReadOutcome::Got(0),
-    ];
-    assert_eq!(rt; outcomes.as_slice(), wanted.as_slice());
-    assert_eq!(rt; got.as_slice(), b"abcdefg".as_slice());
-    assert_eq!(rt; source.left().len(), 0);
+    let mut source = SteadySource::new(Vec::from_slice(rt.alloc(), b"abcdefg")?);
+    for wanted in [
+        (ReadOutcome::Got(4), [b'a', b'b', b'c', b'd']),
+        (ReadOutcome::Got(3), [b'e', b'f', b'g', b'|']),
+        (ReadOutcome::Got(0), [b'|'; 4]),
+    ] {
+        assert!(rt; read_four(&mut source) == wanted);
+    }
+    assert!(rt; source.left().is_empty());
     Ok(())
 }
 
@@ -83,37 +58,34 @@ fn a_steady_source_fills_the_buffer_until_its_end(rt: HostRuntime) -> Result<(),
 fn a_sink_cuts_its_writes_and_follows_its_script(rt: HostRuntime) -> Result<(), Fail> {
     let alloc = rt.alloc();
     let failing = vec![in alloc; 2]?;
-    let wanting = vec![in alloc; 2, 3]?;
-    let mut sink = MemorySink::new(alloc, 4, failing, wanting);
-    let outcomes = write_some(alloc, &mut sink, b"hello", 4)?;
-    let wanted = [
+    let mut sink = MemorySink::new(alloc, 4, failing, vec![in alloc; 2, 3]?);
+    for wanted in [
         WriteOutcome::Took(4),
         WriteOutcome::Failed,
         WriteOutcome::Memory,
         WriteOutcome::Took(4),
-    ];
-    assert_eq!(rt; outcomes.as_slice(), wanted.as_slice());
-    assert_eq!(rt; sink.written(), b"hellhell".as_slice());
-    assert_eq!(rt; (sink.calls(), sink.faults(), sink.wants()), (4, 1, 1));
+    ] {
+        assert!(rt; write_piece(&mut sink, b"hello") == wanted);
+    }
+    assert!(rt; sink.written() == b"hellhell".as_slice());
+    assert!(rt; (sink.calls(), sink.faults(), sink.wants()) == (4, 1, 1));
     Ok(())
 }
 
 #[test]
-fn a_steady_sink_takes_whole_pieces(rt: HostRuntime) -> Result<(), Fail> {
-    let alloc = rt.alloc();
-    let mut sink = SteadySink::new(alloc);
-    let outcomes = write_some(alloc, &mut sink, b"hello", 2)?;
-    let wanted = [WriteOutcome::Took(5), WriteOutcome::Took(5)];
-    assert_eq!(rt; outcomes.as_slice(), wanted.as_slice());
-    assert_eq!(rt; sink.written(), b"hellohello".as_slice());
-    assert_eq!(rt; sink.wants(), 0);
-    Ok(())
+fn a_steady_sink_takes_whole_pieces(rt: HostRuntime) {
+    let mut sink = SteadySink::new(rt.alloc());
+    for _ in 0..2 {
+        assert!(rt; write_piece(&mut sink, b"hello") == WriteOutcome::Took(5));
+    }
+    assert!(rt; sink.written() == b"hellohello".as_slice());
+    assert!(rt; sink.wants() == 0);
 }
 
 #[test]
 fn a_device_counts_each_failure_to_begin(rt: HostRuntime) {
     let mut device = MemoryDevice::new();
-    assert_eq!(rt; begin_at(&mut device), Begun::Failed);
-    assert_eq!(rt; begin_at(&mut device), Begun::Failed);
-    assert_eq!(rt; device.begin_faults(), 2);
+    assert!(rt; begin_at(&mut device) == Begun::Failed);
+    assert!(rt; begin_at(&mut device) == Begun::Failed);
+    assert!(rt; device.begin_faults() == 2);
 }

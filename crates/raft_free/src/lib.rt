@@ -8,6 +8,3 @@ mod stories;
 
 pub use safety::{commits_are_possible, entries_are_proposed, refusals_never_come, safety_of_raft};
 pub use stories::worked_runs;
-
-#[cfg(test)]
-mod tests;

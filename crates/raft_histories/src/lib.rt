@@ -6,6 +6,3 @@
 mod keeping;
 
 pub use keeping::{accepted_logs, committed_logs};
-
-#[cfg(test)]
-mod tests;

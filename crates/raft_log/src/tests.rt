@@ -97,9 +97,29 @@ fn is_of(rt: &impl Abort, log: &Log<u8>, terms: &[u64], kept: usize) {
     }
 }
 
+// What the log answers to entries of these terms behind the index `prev`.
+fn answer(
+    alloc: Global,
+    log: &mut Log<u8>,
+    prev: u32,
+    terms: &[u64],
+    commit: u32,
+) -> Result<Accept, Fail> {
+    let sent = entries(alloc, terms, 9)?;
+    accept(alloc, &Last, log, prev, &sent, commit)
+}
+
+// What a follower of these terms answers to all of the leader's entries behind the index `prev`, and its
+// log afterwards.
+fn follow(alloc: Global, terms: &[u64], prev: u32, commit: u32) -> Result<(Accept, Log<u8>), Fail> {
+    let sent = LEADER.get(prev as usize..).ok_or("an index")?;
+    let mut follower = log(alloc, terms, 0)?;
+    let told = answer(alloc, &mut follower, prev, sent, commit)?;
+    Ok((told, follower))
+}
+
 #[test]
 fn the_followers_of_figure_7_take_the_leaders_entries(rt: HostRuntime) -> Result<(), Fail> {
-    let alloc = rt.alloc();
     for (old, prev, kept, new) in [
         (A.as_slice(), 9, 9, LEADER.as_slice()),
         (B.as_slice(), 4, 4, LEADER.as_slice()),
@@ -110,10 +130,8 @@ fn the_followers_of_figure_7_take_the_leaders_entries(rt: HostRuntime) -> Result
         (E.as_slice(), 1, 5, LEADER.as_slice()),
         (F.as_slice(), 3, 3, LEADER.as_slice()),
     ] {
-        let mut follower = log(alloc, old, 0)?;
-        let sent = entries(alloc, &LEADER[prev as usize..], 9)?;
-        let answer = accept(alloc, &Last, &mut follower, prev, &sent, 0)?;
-        assert_eq!(rt; answer, Accept::Taken(10));
+        let (told, follower) = follow(rt.alloc(), old, prev, 0)?;
+        assert_eq!(rt; told, Accept::Taken(10));
         is_of(&rt, &follower, new, kept);
     }
     Ok(())
@@ -123,39 +141,27 @@ fn the_followers_of_figure_7_take_the_leaders_entries(rt: HostRuntime) -> Result
 fn an_old_or_an_empty_message_cuts_nothing(rt: HostRuntime) -> Result<(), Fail> {
     let alloc = rt.alloc();
     let mut follower = log(alloc, &C, 0)?;
-    let sent = entries(alloc, &LEADER[2..5], 9)?;
-    let answer = accept(alloc, &Last, &mut follower, 2, &sent, 11)?;
-    assert_eq!(rt; answer, Accept::Taken(5));
-    let answer = accept(alloc, &Last, &mut follower, 4, &[], 11)?;
-    assert_eq!(rt; answer, Accept::Taken(4));
+    for (prev, terms, index) in [(2, &LEADER[2..5], 5), (4, &LEADER[..0], 4)] {
+        let told = answer(alloc, &mut follower, prev, terms, 11)?;
+        assert_eq!(rt; told, Accept::Taken(index));
+    }
     is_of(&rt, &follower, &C, 11);
     Ok(())
 }
 
 #[test]
 fn a_conflict_up_to_commit_is_refused(rt: HostRuntime) -> Result<(), Fail> {
-    let alloc = rt.alloc();
-    for (old, prev, commit, answer) in [
-        (E.as_slice(), 5, 7, Accept::Below(6)),
-        (E.as_slice(), 5, 6, Accept::Below(6)),
-        (E.as_slice(), 0, 6, Accept::Below(6)),
-        (F.as_slice(), 3, 11, Accept::Below(4)),
+    for (old, prev, commit, answer, kept, new) in [
+        (E.as_slice(), 5, 7, Accept::Below(6), 7, E.as_slice()),
+        (E.as_slice(), 5, 6, Accept::Below(6), 7, E.as_slice()),
+        (E.as_slice(), 0, 6, Accept::Below(6), 7, E.as_slice()),
+        (F.as_slice(), 3, 11, Accept::Below(4), 11, F.as_slice()),
+        (E.as_slice(), 5, 5, Accept::Taken(10), 5, LEADER.as_slice()),
     ] {
-        let mut follower = log(alloc, old, 0)?;
-        let sent = entries(alloc, &LEADER[prev as usize..], 9)?;
-        assert_eq!(rt;
-            accept(alloc, &Last, &mut follower, prev, &sent, commit)?,
-            answer
-        );
-        is_of(&rt, &follower, old, old.len());
+        let (told, follower) = follow(rt.alloc(), old, prev, commit)?;
+        assert_eq!(rt; told, answer);
+        is_of(&rt, &follower, new, kept);
     }
-    let mut follower = log(alloc, &E, 0)?;
-    let sent = entries(alloc, &LEADER[5..], 9)?;
-    assert_eq!(rt;
-        accept(alloc, &Last, &mut follower, 5, &sent, 5)?,
-        Accept::Taken(10)
-    );
-    is_of(&rt, &follower, &LEADER, 5);
     Ok(())
 }
 
@@ -164,9 +170,8 @@ fn a_leader_adds_its_own_entry(rt: HostRuntime) -> Result<(), Fail> {
     let alloc = rt.alloc();
     let mut leader = log(alloc, &[], 0)?;
     for (prev, term) in [(0, 1), (1, 1), (2, 3)] {
-        let own = entries(alloc, &[term], 9)?;
-        let answer = accept(alloc, &Last, &mut leader, prev, &own, prev)?;
-        assert_eq!(rt; answer, Accept::Taken(prev + 1));
+        let told = answer(alloc, &mut leader, prev, &[term], prev)?;
+        assert_eq!(rt; told, Accept::Taken(prev + 1));
     }
     is_of(&rt, &leader, &[1, 1, 3], 0);
     assert_eq!(rt; leader.into_entries().len(), 3);
@@ -174,51 +179,11 @@ fn a_leader_adds_its_own_entry(rt: HostRuntime) -> Result<(), Fail> {
 }
 
 #[test]
-fn indexes_count_from_one(rt: HostRuntime) -> Result<(), Fail> {
-    let alloc = rt.alloc();
-    let f = log(alloc, &F, 0)?;
+fn a_log_is_asked_by_index_and_term(rt: HostRuntime) -> Result<(), Fail> {
+    let f = log(rt.alloc(), &F, 0)?;
     assert_eq!(rt; f.last(), (11, 3));
-    for (index, term) in [
-        (0, Some(0)),
-        (1, Some(1)),
-        (4, Some(2)),
-        (11, Some(3)),
-        (12, None),
-        (u32::MAX, None),
-    ] {
-        assert_eq!(rt; f.term_at(index), term);
-    }
-    for (prev, term, matches) in [
-        (0, 0, true),
-        (0, 1, false),
-        (6, 2, true),
-        (6, 3, false),
-        (12, 0, false),
-        (12, 3, false),
-    ] {
-        assert_eq!(rt; f.matches(prev, term), matches);
-    }
-    let empty = log(alloc, &[], 0)?;
-    assert_eq!(rt; empty.last(), (0, 0));
-    assert!(rt; empty.matches(0, 0));
-    assert_eq!(rt; empty.term_at(1), None);
-    Ok(())
-}
-
-#[test]
-fn figure_7s_leader_could_be_elected_by_a_b_e_and_f(rt: HostRuntime) -> Result<(), Fail> {
-    let alloc = rt.alloc();
-    for (voter, votes) in [
-        (A.as_slice(), true),
-        (B.as_slice(), true),
-        (C.as_slice(), false),
-        (D.as_slice(), false),
-        (E.as_slice(), true),
-        (F.as_slice(), true),
-        (LEADER.as_slice(), true),
-    ] {
-        let voter = log(alloc, voter, 0)?;
-        assert_eq!(rt; voter.up_to_date(10, 6), votes);
-    }
+    assert_eq!(rt; f.term_at(4), Some(2));
+    assert!(rt; f.matches(6, 2));
+    assert!(rt; f.up_to_date(10, 6));
     Ok(())
 }

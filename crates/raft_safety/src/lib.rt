@@ -13,6 +13,3 @@ pub use examples::worked_runs;
 pub use linear::clients_see_one_machine;
 pub use refinement::each_step_is_free;
 pub use safety::{refusals_never_come, runs_are_safe};
-
-#[cfg(test)]
-mod tests;

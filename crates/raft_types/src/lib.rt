@@ -24,6 +24,3 @@ pub use limits::{MAX_BATCH, MAX_INDEX, MAX_NODES};
 pub use msg::RaftMsg;
 pub use request_vote::RequestVote;
 pub use vote::Vote;
-
-#[cfg(test)]
-mod tests;

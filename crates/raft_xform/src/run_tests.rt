@@ -52,59 +52,6 @@ fn replied(n: u8, request: u64, output: u8) -> Seen
     )
 }
 
-#[test]
-fn one_node_replies_at_once(rt: HostRuntime) -> Result<(), Fail> {
-    let steps = [
-        Step::Tick(0),
-        Step::In(0, asks(1, 5)),
-        Step::In(0, asks(2, 6)),
-    ];
-    let trace = trace_of(rt.alloc(), Raft::new(Counter, 1), &steps)?;
-    let seen = [
-        asked(0, 1, 5),
-        replied(0, 1, 0),
-        asked(0, 2, 6),
-        replied(0, 2, 5),
-    ];
-    assert_eq!(rt; trace.items(), seen.as_slice());
-    Ok(())
-}
-
-// At three nodes, as in Figure 8 of the Raft paper: node 0 takes a request, stops, is elected again, and has its
-// old entry on a majority. With an entry of its new term on a majority, both are committed.
-#[test]
-fn an_old_entry_is_committed_with_a_new_one(rt: HostRuntime) -> Result<(), Fail> {
-    let steps = [
-        Step::Tick(0),
-        Step::Deliver(0),
-        Step::Deliver(2),
-        Step::In(0, asks(1, 5)),
-        Step::Crash(0),
-        Step::Reboot(0),
-        Step::Tick(0),
-        Step::Deliver(7),
-        Step::Deliver(9),
-        Step::Deliver(10),
-        Step::Deliver(12),
-        Step::Deliver(13),
-        Step::Deliver(14),
-        Step::In(0, asks(2, 6)),
-        Step::Deliver(15),
-        Step::Deliver(17),
-    ];
-    let seen = [
-        asked(0, 1, 5),
-        asked(0, 2, 6),
-        replied(0, 1, 0),
-        replied(0, 2, 5),
-    ];
-    let before = trace_of(rt.alloc(), Raft::new(Counter, 3), &steps[..13])?;
-    assert_eq!(rt; before.items(), &seen[..1]);
-    let after = trace_of(rt.alloc(), Raft::new(Counter, 3), &steps)?;
-    assert_eq!(rt; after.items(), seen.as_slice());
-    Ok(())
-}
-
 // A leader's timer sends again what was lost.
 #[test]
 fn a_leader_sends_again_what_was_lost(rt: HostRuntime) -> Result<(), Fail> {

@@ -1,6 +1,7 @@
 ghost use Rattle.std.specs.Prelude.{◌≡◌, ◌<◌, ◌≤◌, length, vec_len, IfOk, IsTrue};
 ghost use Rattle.handler_trait.specs.declared.handlers.TheConstants.{MAX_SENDS};
-ghost use Rattle.raft_types.specs.Ranges.{IsIndex};
+ghost use Rattle.raft_types.specs.Ranges.{IsIndex, IsTerm};
+ghost use Rattle.raft_xform.specs.Sound.{IsSoundNode};
 ghost use Rattle.vst_base.specs.Examples.{counter};
 
 use super::*;
@@ -154,12 +155,41 @@ fn a_vote_goes_to_a_log_that_is_up_to_date(rt: HostRuntime) -> Result<(), Fail> 
     Ok(())
 }
 
-// The terms of a node's log.
-fn has_log(rt: &impl Abort, state: &RaftState<u8, u8, u8>, terms: &[u64]) {
-    assert_eq!(rt; state.log.entries().len(), terms.len());
-    for (entry, term) in state.log.entries().iter().zip(terms) {
-        assert_eq!(rt; entry.term(), *term);
+// Whether a node's log has entries of these terms.
+fn has_log(state: &RaftState<u8, u8, u8>, terms: &[u64]) -> bool {
+    let entries = state.log.entries();
+    entries.len() == terms.len()
+        && entries
+            .iter()
+            .zip(terms)
+            .all(|(entry, term)| entry.term() == *term)
+}
+
+// A leader of a term sends entries of these terms from behind an index on, and has committed two.
+fn append(alloc: Global, term: u64, prev: (u32, u64), terms: &[u64]) -> Result<RaftMsg<u8>, Fail> {
+    if term == 0 || term > MAX_TERM || prev.0 > 9 || prev.1 > MAX_TERM {
+        return Err(Fail::from("numbers of a message"));
     }
+    let new = entries(alloc, terms)?;
+    Ok(RaftMsg::Append(Append::new(term, prev.0, prev.1, 2, new)))
+}
+
+// What node 0, in term 2 with a log of terms 1, 1 and 2, answers to node 1, how much it has applied, and whether its
+// log is then of these terms.
+fn follower_told(
+    alloc: Global,
+    message: &RaftMsg<u8>,
+    log: &[u64],
+) -> Result<((Node, Appended), u32, bool), Fail> {
+    let raft = Raft::new(Counter, 3);
+    let (me, leader) = (Node::new(0, 3).unwrap(), Node::new(1, 3).unwrap());
+    let kept = Kept::new(2, None, entries(alloc, &[1, 1, 2])?);
+    let (state, effects) = told(alloc, &raft, me, kept, leader, message)?;
+    Ok((
+        one_answer(&effects)?,
+        raft.applied(&state),
+        has_log(&state, log),
+    ))
 }
 
 // Node 1 leads a term, and sends entries of these terms from behind an index on to node 0, which is in term 2 and
@@ -173,23 +203,12 @@ fn sends_entries(
     answer: (u64, bool, u32),
     log: &[u64],
 ) -> Result<(), Fail> {
-    let raft = Raft::new(Counter, 3);
-    let (me, leader) = (Node::new(0, 3).unwrap(), Node::new(1, 3).unwrap());
-    let new = entries(alloc, terms)?;
-    if term == 0 || term > MAX_TERM || prev.0 > 9 || prev.1 > MAX_TERM {
-        return Err(Fail::from("numbers of a message"));
-    }
-    let message = RaftMsg::Append(Append::new(term, prev.0, prev.1, 2, new));
-    let kept = Kept::new(2, None, entries(alloc, &[1, 1, 2])?);
-    let (state, effects) = told(alloc, &raft, me, kept, leader, &message)?;
-    has_log(rt, &state, log);
-    let (to, appended) = one_answer(&effects)?;
-    assert_eq!(rt; to, leader);
-    assert_eq!(rt; (appended.term(), appended.ok(), appended.index()), answer);
-    assert_eq!(rt;
-        raft.applied(&state),
-        if answer.1 { answer.2.min(2) } else { 0 }
-    );
+    let message = append(alloc, term, prev, terms)?;
+    let ((to, appended), applied, has_log) = follower_told(alloc, &message, log)?;
+    let told = (appended.term(), appended.ok(), appended.index());
+    let may_apply = if answer.1 { answer.2.min(2) } else { 0 };
+    assert_eq!(rt; (to.index(), told, applied), (1, answer, may_apply));
+    assert!(rt; has_log);
     Ok(())
 }
 
@@ -231,25 +250,50 @@ fn full_log(alloc: Global) -> Result<Entries<u8>, Fail> {
     Ok(Entries::new(made))
 }
 
-// Node 0 of three starts from this and is elected, with node 2's vote in a term, and is asked.
+// Node n of three starts from this, and its timer fires.
+fn fires(
+    alloc: Global,
+    node: Node,
+    kept: Kept<u8>,
+) -> Result<(RaftState<u8, u8, u8>, Effects<RaftOut<u8>, RaftMsg<u8>>), Fail>
+    requires { node < 3 }
+    ensures { IfOk result (λ made. IsSoundNode 3 node made.0) }
+{
+    if kept.voted().is_some() {
+        return Err(Fail::from("a node that has not voted"));
+    }
+    let raft = Raft::new(Counter, 3);
+    let mut state = raft.reboot(alloc, node, kept)?;
+    let mut effects = room(alloc)?;
+    raft.timeout(alloc, node, &mut state, &mut effects)?;
+    Ok((state, effects))
+}
+
+// Node 0 of three starts from this and is elected, with node 2's vote in a term.
+fn elected(alloc: Global, kept: Kept<u8>, term: u64) -> Result<RaftState<u8, u8, u8>, Fail>
+    ensures { IfOk result (λ state. IsSoundNode 3 0 state) }
+{
+    let (me, voter) = (Node::new(0, 3).unwrap(), Node::new(2, 3).unwrap());
+    if term == 0 || term > MAX_TERM {
+        return Err(Fail::from("a term"));
+    }
+    let (mut state, _) = fires(alloc, me, kept)?;
+    let vote = RaftMsg::Vote(Vote::new(term, true));
+    let mut effects = room(alloc)?;
+    Raft::new(Counter, 3).message(alloc, me, &mut state, voter, &vote, &mut effects)?;
+    Ok(state)
+}
+
+// It is asked then.
 fn elected_and_asked(
     alloc: Global,
     kept: Kept<u8>,
     term: u64,
 ) -> Result<Effects<RaftOut<u8>, RaftMsg<u8>>, Fail> {
-    let raft = Raft::new(Counter, 3);
-    let (me, voter) = (Node::new(0, 3).unwrap(), Node::new(2, 3).unwrap());
-    if kept.voted().is_some() || term == 0 || term > MAX_TERM {
-        return Err(Fail::from("a node that has not voted, and a term"));
-    }
-    let mut state = raft.reboot(alloc, me, kept)?;
+    let me = Node::new(0, 3).unwrap();
+    let mut state = elected(alloc, kept, term)?;
     let mut effects = room(alloc)?;
-    raft.timeout(alloc, me, &mut state, &mut effects)?;
-    let vote = RaftMsg::Vote(Vote::new(term, true));
-    let mut effects = room(alloc)?;
-    raft.message(alloc, me, &mut state, voter, &vote, &mut effects)?;
-    let mut effects = room(alloc)?;
-    raft.input(alloc, me, &mut state, &asks(1, 5), &mut effects)?;
+    Raft::new(Counter, 3).input(alloc, me, &mut state, &asks(1, 5), &mut effects)?;
     Ok(effects)
 }
 
@@ -267,38 +311,53 @@ fn a_leader_whose_log_is_full_says_so(rt: HostRuntime) -> Result<(), Fail> {
     Ok(())
 }
 
+// Whether this is the request as the leader of term 2 sends it to node n, whose log it takes for its own.
+fn is_request(n: u8, sent: &(Node, RaftMsg<u8>)) -> bool {
+    let RaftMsg::Append(append) = &sent.1 else {
+        return false;
+    };
+    sent.0.index() == n
+        && (append.term(), append.commit()) == (2, 0)
+        && (append.prev_index(), append.prev_term()) == (1, 1)
+        && append.entries().len() == 1
+}
+
 #[test]
 fn a_leader_sends_a_request_to_the_others(rt: HostRuntime) -> Result<(), Fail> {
     let kept = Kept::new(1, None, entries(rt.alloc(), &[1])?);
     let mut effects = elected_and_asked(rt.alloc(), kept, 2)?;
-    assert_eq!(rt; effects.next_output(), None);
-    assert_eq!(rt; effects.sends().len(), 2);
-    for (place, (to, message)) in effects.sends().iter().enumerate() {
-        assert_eq!(rt; usize::from(to.index()), place + 1);
-        let RaftMsg::Append(append) = message else {
-            return Err(Fail::from("entries"));
-        };
-        assert_eq!(rt; (append.term(), append.commit()), (2, 0));
-        assert_eq!(rt; (append.prev_index(), append.prev_term()), (1, 1));
-        assert_eq!(rt; append.entries().len(), 1);
-    }
+    assert!(rt; effects.next_output().is_none());
+    let [first, second] = effects.sends() else {
+        return Err(Fail::from("two packets"));
+    };
+    assert!(rt; is_request(1, first) && is_request(2, second));
     Ok(())
+}
+
+// How many packets node 1 sends when its timer fires in a term, and the term and the vote that it keeps then. It does
+// not lead.
+fn campaigns(alloc: Global, term: u64) -> Result<(usize, u64, Option<Node>), Fail>
+    requires { IsTerm term }
+{
+    let kept = Kept::new(term, None, entries(alloc, &[])?);
+    let (state, effects) = fires(alloc, Node::new(1, 3).unwrap(), kept)?;
+    let raft = Raft::new(Counter, 3);
+    if raft.leads(&state) {
+        return Err(Fail::from("no leader"));
+    }
+    let kept = raft.keep(alloc, &state)?;
+    Ok((effects.sends().len(), kept.term(), kept.voted()))
 }
 
 #[test]
 fn no_election_follows_the_greatest_term(rt: HostRuntime) -> Result<(), Fail> {
-    let raft = Raft::new(Counter, 3);
-    let me = Node::new(1, 3).unwrap();
-    for (term, sends) in [(0, 2), (MAX_TERM - 1, 2), (MAX_TERM, 0)] {
-        let kept = Kept::new(term, None, entries(rt.alloc(), &[])?);
-        let mut state = raft.reboot(rt.alloc(), me, kept)?;
-        let mut effects = room(rt.alloc())?;
-        raft.timeout(rt.alloc(), me, &mut state, &mut effects)?;
-        assert_eq!(rt; effects.sends().len(), sends);
-        let kept = raft.keep(rt.alloc(), &state)?;
-        assert_eq!(rt; kept.term(), if sends == 0 { term } else { term + 1 });
-        assert_eq!(rt; kept.voted(), if sends == 0 { None } else { Some(me) });
-        assert!(rt; !raft.leads(&state));
+    let me = Node::new(1, 3);
+    for (term, then) in [
+        (0, (2, 1, me)),
+        (MAX_TERM - 1, (2, MAX_TERM, me)),
+        (MAX_TERM, (0, MAX_TERM, None)),
+    ] {
+        assert_eq!(rt; campaigns(rt.alloc(), term)?, then);
     }
     Ok(())
 }

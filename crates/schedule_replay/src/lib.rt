@@ -25,6 +25,3 @@ pub use laws::{
     traces_are_explained,
 };
 pub use stream::replay;
-
-#[cfg(test)]
-mod tests;

