@@ -10,11 +10,12 @@ use Rattle.schedule_text.specs.declared.header.Header.{Header}
 use Rattle.schedule_text.specs.Headers.{IsHeader, header_front, header_text}
 use Rattle.raft_text.proofs.Clusters.{cluster-header}
 use Rattle.schedule_text.proofs.HeaderTexts.{header_of-text}
+use Rattle.schedule_text.proofs.PrintedLaws.{plain-number}
 use Rattle.std.specs.Fmt.{decimal}
 use Rattle.check_text.specs.ImageLines.{header_if, image_header}
 use Rattle.check_text.specs.declared.heading.Heading.TheVariants as heading
 use Rattle.schedule_replay.specs.Replays.{kv_header, lock_header}
-use Rattle.checked_replays.proofs.PlainLines.{IsPlain, plain-number}
+use Rattle.checked_replays.proofs.PlainLines.{IsPlain}
 use Rattle.checked_replays.proofs.TraceReading.{IsShort}
 
 -- what holds of a header of the lock server

@@ -7,13 +7,14 @@ use Rattle.line_reader.proofs.Cutting.{none-append}
 use Rattle.linearizability.specs.Linearizable.{Each}
 use Rattle.raft_text.specs.RaftTexts.{IsRaftInput, order_text, raft_input_of, raft_input_text}
 use Rattle.raft_types.specs.declared.client.RaftInput.{RaftInput}
+use Rattle.schedule_text.proofs.PrintedLaws.{plain-text}
 use Rattle.check_text.specs.Claims.{only_image}
 use Rattle.check_text.specs.Forms.{Form, behind_below, image_from}
 use Rattle.check_text.specs.ImageLines.{order_of, order_says, said_or_refused}
 use Rattle.check_text.specs.Reading.{read_map}
 use Rattle.check_text.specs.declared.image_line.ImageLine.TheVariants as line
 use Rattle.checked_replays.proofs.ImageReading.{IsHeadedBy}
-use Rattle.checked_replays.proofs.PlainLines.{IsPlain, plain-text}
+use Rattle.checked_replays.proofs.PlainLines.{IsPlain}
 
 order-by : {X : Type 0} (x : Option X) (y : X) → x ≡ Some y → said_or_refused (cond (is_none x) (Some why.Text) None) x ≡ line.Says y
 order-by x y e = rw e refl

@@ -21,13 +21,14 @@ use Rattle.schedule_text.specs.Reading.{number_of}
 use Rattle.schedule_text.specs.Words.{cut, is_text}
 use Rattle.schedule_text.proofs.NumeralLaws.{number_of-decimal, own}
 use Rattle.schedule_text.proofs.ReadBackLaws.{cut-digits}
+use Rattle.schedule_text.proofs.PrintedLaws.{plain-number, plain-text}
 use Rattle.check_text.specs.Claims.{Claim}
 use Rattle.check_text.specs.Drafts.{behind_items}
 use Rattle.check_text.specs.Forms.{Form, behind_below, claim_from, claim_line}
 use Rattle.check_text.specs.Reading.{Whole, read_map}
 use Rattle.check_text.specs.TraceLines.{ItemParts, begins_as_input, count_item, counted_says, is_beyond, item_of, item_or_refusal, item_parts, most_lines, node_in, trace_line, trace_says, trace_unless}
 use Rattle.schedule_replay.specs.Replaying.{is_input}
-use Rattle.checked_replays.proofs.PlainLines.{IsPlain, plain-number, plain-text}
+use Rattle.checked_replays.proofs.PlainLines.{IsPlain}
 
 -- an item at a node below so many, whose input or output has a text
 abbrev pub IsTextItem : {I O : Type 0} → ℕ → (I → Type 0) → (O → Type 0) → Item I O → Type 0
