@@ -9,6 +9,7 @@ use Rattle.command_line.specs.CommandSet.{takes_words}
 use Rattle.command_line.specs.declared.command.Command.{Command}
 use Rattle.command_line.specs.declared.command.Command.TheVariants as command
 use Rattle.schedule_replay.specs.Explained.{IsExplained}
+use Rattle.permitted_claims.specs.Permitted.{IsPermitted}
 use Rattle.top_call.specs.Answers.{Answer, answer_by, condition_line, so_far_by, usage_line, read_failed_line, memory_line}
 
 -- a status of the program
@@ -31,11 +32,12 @@ pub record IsDone (answer : List ℕ → Answer) (s : Streams) : Type 0 where
   pub out : IfSome s.left (λ bytes. Gained s.out s.out' (answer bytes).out)
   pub err : Gained s.err s.err' []
 
--- 0 of a command with this input: the trace of a schedule that was replayed is explained by what its image stands for
+-- 0 of a command with this input: the trace of a schedule that was replayed is explained by what its image stands for, and so is
+-- a claim that was checked
 abbrev pub IsExplainedInput : Option Command → List ℕ → Type 0
 IsExplainedInput None bytes = Unit {0}
 IsExplainedInput (Some command.Replay) bytes = IsExplained bytes
-IsExplainedInput (Some (command.Check s)) bytes = Unit {0}
+IsExplainedInput (Some (command.Check s)) bytes = IsPermitted s bytes
 
 -- 1: a condition of a claim is false. The input was read to its end, nothing was written on the output, and on the error stream
 -- the condition and its line

@@ -1,6 +1,7 @@
-ghost use Rattle.std.specs.Prelude.{◌≡◌, ◌≢◌, ◌≤◌, ℕ, Some};
+ghost use Rattle.std.specs.Prelude.{◌≡◌, ◌≢◌, ◌≤◌, ℕ, IfSome, Some};
 ghost use Rattle.command_line.specs.declared.command.Command.TheVariants as command;
 ghost use Rattle.outside.specs.Counting.{Rose};
+ghost use Rattle.permitted_claims.specs.Permitted.{IsPermitted};
 ghost use Rattle.top_call.specs.Answers.{answer_by};
 ghost use Rattle.top_call.specs.Clauses.{HasReadFailed, HasWriteFailed, IsComplete, IsDenied, IsDone, IsLineRefused, IsOutOfMemory, IsStatus};
 
@@ -9,6 +10,7 @@ use crate::refuse::refuse;
 use crate::say::say;
 use crate::status::{DONE, OUT_OF_MEMORY, READ_FAILED, WRITE_FAILED};
 use outside::{Sink, Source, WriteFault, write_all};
+use permitted_claims::permitted_claims_are_explained;
 use std::alloc::Global;
 use trace_check::{CheckFault, Verdict, check};
 use vst_base::StackId;
@@ -32,6 +34,7 @@ pub(crate) fn run_check<S: Source, O: Sink, E: Sink>(
       err = E.written err.old;
       err' = E.written err.new;
     }) }
+    ensures explained { result ≡ 0 → IfSome (S.left input.old) (λ bytes. IsPermitted stack bytes) }
     ensures denied { result ≡ 1 → IsDenied (answer_by (Some (command.Check stack))) (record {
       left = S.left input.old;
       left' = S.left input.new;
@@ -77,6 +80,7 @@ pub(crate) fn run_check<S: Source, O: Sink, E: Sink>(
     ensures writes { O.faults out.old ≤ O.faults out.new }
     ensures complains { E.faults err.old ≤ E.faults err.new }
 {
+    permitted_claims_are_explained();
     match check(alloc, stack, input) {
         Ok(Verdict::Yes) => match write_all(out, b"permitted\n") {
             Ok(()) => DONE,

@@ -5,6 +5,7 @@ mod answers;
 mod checking;
 mod deny;
 mod examples;
+mod laws;
 mod refuse;
 mod replaying;
 mod say;
@@ -12,6 +13,7 @@ mod status;
 
 pub use answers::run;
 pub use examples::worked;
+pub use laws::stacks_have_one_word;
 
 #[cfg(test)]
 mod check_tests;

@@ -410,13 +410,18 @@ fn are_taken(alloc: Global, words: &[&str], status: u8) -> Result<bool, AllocErr
 
 #[test]
 fn words_are_taken_as_the_command_set_takes_them(rt: HostRuntime) -> Result<(), Fail> {
-    let rows: [(&[&str], u8); 14] = [
+    let rows: [(&[&str], u8); 20] = [
         (&[], 2),
         (&["vst"], 2),
+        (&["", "replay"], 0),
         (&["vst", "replay"], 0),
         (&["vst", "replay", "--"], 0),
         (&["vst", "frob"], 2),
         (&["vst", "check"], 2),
+        (&["vst", "check", "--stack="], 2),
+        (&["vst", "check", "--stack=lock"], 3),
+        (&["vst", "check", "--stack", "lock", "--"], 3),
+        (&["vst", "check", "--stack", "lock", "lock"], 2),
         (&["vst", "check", "--stack", "table"], 2),
         (&["vst", "replay", "--stack", "lock"], 2),
         (&["vst", "replay", "x"], 2),
@@ -425,6 +430,7 @@ fn words_are_taken_as_the_command_set_takes_them(rt: HostRuntime) -> Result<(), 
         (&["vst", "--help"], 2),
         (&["vst", "-h"], 2),
         (&["vst", "help"], 2),
+        (&["vst", "--version"], 2),
     ];
     for (words, status) in rows {
         assert!(rt; are_taken(rt.alloc(), words, status)?);
@@ -499,6 +505,23 @@ fn a_refused_line_comes_before_a_read_that_would_fail(rt: HostRuntime) -> Result
     let ran = replay_over(alloc, source, sink(alloc, 100, Vec::new(alloc)))?;
     assert!(rt; came_to(&ran, 3, b"", b"line 2: no copy\n"));
     assert!(rt; ran.source.calls() == 1);
+    Ok(())
+}
+
+// How many reads a replay makes before its first write, where each gives at most so many bytes: that write fails.
+fn reads_before_a_write(alloc: Global, text: &[u8], most: usize) -> Result<u64, AllocError> {
+    let source = source(alloc, text, most, Vec::new(alloc))?;
+    let out = sink(alloc, 100, vec![in alloc; 1]?);
+    let ran = replay_over(alloc, source, out)?;
+    Ok(ran.source.calls())
+}
+
+#[test]
+fn a_trace_is_written_as_its_lines_come(rt: HostRuntime) -> Result<(), Fail> {
+    let skipped = b"schedule 1 bag lock 2\nin 1 lock\n#\n\ndeliver 0\n".as_slice();
+    for (text, most, reads) in [(HANDED_OVER, 10, 4), (skipped, 35, 1), (skipped, 1, 32)] {
+        assert!(rt; reads_before_a_write(rt.alloc(), text, most)? == reads);
+    }
     Ok(())
 }
 

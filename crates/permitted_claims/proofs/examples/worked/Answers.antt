@@ -14,7 +14,7 @@ use Rattle.raft_types.specs.declared.client.RaftInput.{RaftInput}
 use Rattle.raft_types.specs.declared.client.RaftOut.TheVariants as told
 use Rattle.line_reader.specs.declared.why.Why.{Why}
 use Rattle.trace_check.proofs.Lookups.{lookups}
-use Rattle.trace_check.specs.Checks.{checked}
+use Rattle.trace_check.specs.Checks.{checked, nodes_of}
 use Rattle.trace_check.specs.Clusters.{ClusterClaim}
 use Rattle.trace_check.specs.Schedules.{ScheduleClaim}
 use Rattle.trace_check.specs.declared.verdict.Verdict.{Verdict}
@@ -71,16 +71,16 @@ returns-clause-locked c = record { claim = locks; read = refl; so = record { all
 pub returns-clause-locked_too_early : goal.returns-clause-locked_too_early
 returns-clause-locked_too_early c = λ p.
     let same : locks_too_early ≡ p.claim = cc in
-    let shown = (subst (IsWhatClientsSee net.Bag (lock_server 2)) (sym same) p.so).trace in
+    let shown = (subst (λ claim. IsWhatClientsSee net.Bag (lock_server (nodes_of claim.header)) claim) (sym same) p.so).trace in
     cc
 
 pub returns-clause-replied : goal.returns-clause-replied
 unfolding digits
-returns-clause-replied c = (c.permitted_claims_are_explained.ensures.backed (codes "in 0 put a x\nout 0 a =x -\nin 1 get a\nout 1 redirect\nbelow\nschedule 1 one kv 1\nin 0 put a x\n")).0 (simp lookups)
+returns-clause-replied c = (c.permitted_claims_are_explained.ensures.explained stack.KvPb (codes "in 0 put a x\nout 0 a =x -\nin 1 get a\nout 1 redirect\nbelow\nschedule 1 one kv 1\nin 0 put a x\n")).0 (simp lookups)
 
 -- the check says no
 pub returns-clause-another_reply : goal.returns-clause-another_reply
 unfolding digits
 returns-clause-another_reply c = λ p.
     let text = codes "in 0 put a x\nout 0 a =y -\nbelow\nschedule 1 one kv 1\nin 0 put a x\n" in
-    other-verdict (checked stack.KvPb text) ((c.permitted_claims_are_explained.ensures.backed text).1 p) refl
+    other-verdict (checked stack.KvPb text) ((c.permitted_claims_are_explained.ensures.explained stack.KvPb text).1 p) refl
