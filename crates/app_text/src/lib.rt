@@ -21,6 +21,3 @@ pub use kv_text::KvText;
 pub use lock_text::LockText;
 pub use pb_text::{KvPbText, MachineText, PbText};
 pub use text::{AppText, TextFault};
-
-#[cfg(test)]
-mod tests;

@@ -23,6 +23,3 @@ pub use image_line::ImageLine;
 pub use image_lines::{Orders, Steps};
 pub use image_text::ImageText;
 pub use reading::{MAX_LINES, read_claim};
-
-#[cfg(test)]
-mod tests;

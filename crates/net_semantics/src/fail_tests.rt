@@ -56,3 +56,13 @@ fn a_world_takes_steps_around_a_reboot(rt: HostRuntime) -> Result<(), Fail> {
     assert_eq!(rt; world.into_trace().items().len(), 0);
     Ok(())
 }
+
+#[test]
+fn a_stopped_node_cannot_stop_and_a_running_one_cannot_start(rt: HostRuntime) {
+    let twice: [Step<u8>; 2] = [Step::Crash(0), Step::Crash(0)];
+    let stopped = after(rt.alloc(), Keeper, &twice).err();
+    assert!(rt; stopped == Some(StepRefusal::NodeDown));
+    let at_once: [Step<u8>; 1] = [Step::Reboot(0)];
+    let started = after(rt.alloc(), Keeper, &at_once).err();
+    assert!(rt; started == Some(StepRefusal::NodeUp));
+}

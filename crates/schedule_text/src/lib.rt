@@ -31,6 +31,3 @@ pub use sinks::{print_lines, print_step, print_steps, print_text, print_trace};
 pub use skips::is_skipped;
 pub use streams::{read_header, read_step};
 pub use words::{MAX_NUMBER, number_of, number_up_to, word_of};
-
-#[cfg(test)]
-mod tests;

@@ -7,8 +7,6 @@ use Rattle.outside.specs.Wholes.{Gained, GainedFront}
 use Rattle.line_reader.specs.declared.why.Why.{Why}
 use Rattle.schedule_text.specs.Printing.{refusal_line}
 use Rattle.schedule_replay.specs.declared.fault.ReplayFault.TheVariants as fault
-use Rattle.schedule_replay.specs.declared.done.Done.{Done}
-use Rattle.schedule_replay.specs.Explained.{IsExplained}
 use Rattle.schedule_replay.specs.Outcomes.{ComesTo}
 use Rattle.schedule_replay.specs.Replays.{replayed, replayed_so_far}
 use Rattle.command_line.specs.declared.command.Command.{Command}
@@ -34,12 +32,6 @@ said-memory status line e e' f f' w w' r other is (inr (inr wants)) = (wants.1, 
 pub either-failed : (line : List ℕ) (e e' : Option (List ℕ)) (f f' w w' r : ℕ) → r ≡ 5 → Said 3 line e e' f f' w w' r ⊎ Said 8 memory_line e e' f f' w w' r → Rose f f'
 either-failed line e e' f f' w w' r is (inl said) = said-failed 3 line e e' f f' w w' r (λ x. cc) is said
 either-failed line e e' f f' w w' r is (inr said) = said-failed 8 memory_line e e' f f' w w' r (λ x. cc) is said
-
--- a schedule that was replayed to its end
-pub explained-of : (left left' out out' : Option (List ℕ)) (done : Done) → ((bytes : List ℕ) → (replayed bytes).refused ≡ None → IsExplained bytes)
-    → IfSome left (λ bytes. ComesTo replayed replayed_so_far 0 bytes left' out out' (Ok done)) → IfSome left (λ bytes. IsExplained bytes)
-explained-of None left' out out' done explains told = tt
-explained-of (Some bytes) left' out out' done explains told = explains bytes told.taken
 
 -- a refused line leaves the trace before it
 pub refused-front : (left left' out out' : Option (List ℕ)) (line : ℕ) (why : Why) → IfSome left (λ bytes. ComesTo replayed replayed_so_far 0 bytes left' out out' (Err (fault.Refused line why)))

@@ -1,4 +1,4 @@
-use super::tests::{Ran, came_to, run_over, sink, source};
+use super::tests::{Ran, came_to, repeated, run_over, sink, source};
 use outside_mem::MemorySink;
 use std::alloc::{AllocError, Global};
 use std::test::Fail;
@@ -51,11 +51,21 @@ fn a_claim_that_holds_is_permitted(rt: HostRuntime) -> Result<(), Fail> {
 
 #[test]
 fn the_first_false_condition_is_named_with_its_line(rt: HostRuntime) -> Result<(), Fail> {
-    let rows: [(&str, &[u8], &[u8]); 8] = [
+    let rows: [(&str, &[u8], &[u8]); 13] = [
         (
             "lock",
             b"in 1 lock\nbelow\nschedule 1 bag lock 2\ndeliver 0\n",
             b"condition 4 line 4\n",
+        ),
+        (
+            "lock/seq",
+            b"in 1 lock\nbelow\nschedule 1 bag lock 2\nin 1 lock\ndup 0\n",
+            b"condition 4 line 5\n",
+        ),
+        (
+            "lock/seq",
+            b"in 1 lock\nbelow\nschedule 1 bag lock 2\nin 1 lock\ndeliver 0\ndeliver 1\n",
+            b"condition 5 line 2\n",
         ),
         (
             "lock",
@@ -76,6 +86,21 @@ fn the_first_false_condition_is_named_with_its_line(rt: HostRuntime) -> Result<(
             "kv/pb",
             b"in 1 get a\nbelow\nschedule 1 one kv 1\n",
             b"condition 8 line 1\n",
+        ),
+        (
+            "kv/pb/seq",
+            b"in 1 get a\nout 1 redirect\nout 1 redirect\nbelow\nschedule 1 one kv 1\n",
+            b"condition 8 line 3\n",
+        ),
+        (
+            "kv/raft",
+            b"in 0 7 1 put a x\nbelow\norder 7 1 put a x\norder 7 1 put a x\n",
+            b"condition 1 line 4\n",
+        ),
+        (
+            "kv/raft",
+            b"in 0 7 1 put a x\nout 0 reply 7 1 a =x -\nbelow\n",
+            b"condition 2 line 2\n",
         ),
         (
             "kv/raft",
@@ -101,8 +126,10 @@ fn the_first_false_condition_is_named_with_its_line(rt: HostRuntime) -> Result<(
 
 #[test]
 fn a_refused_line_comes_before_any_condition(rt: HostRuntime) -> Result<(), Fail> {
-    let rows: [(&str, &[u8], &[u8]); 4] = [
+    let rows: [(&str, &[u8], &[u8]); 6] = [
         ("lock", b"", b"line 1: header\n"),
+        ("lock", b"out 1 locked\nbelow \n", b"line 2: unknown word\n"),
+        ("kv/raft", b"below\norder 7 01 get a\n", b"line 2: text\n"),
         (
             "lock",
             b"out 1 locked\nbelow\nschedule 1 bag lock 2\nticks 0\n",
@@ -122,6 +149,23 @@ fn a_refused_line_comes_before_any_condition(rt: HostRuntime) -> Result<(), Fail
     for (stack, text, line) in rows {
         assert!(rt; comes_to(rt.alloc(), stack, text, 3, b"", line)?);
     }
+    Ok(())
+}
+
+#[test]
+fn a_trace_has_a_million_inputs_at_most(rt: HostRuntime) -> Result<(), Fail> {
+    let text = repeated(rt.alloc(), b"", b"in 1 lock\n", 1_000_001)?;
+    let line = b"line 1000001: too many events\n".as_slice();
+    assert!(rt; comes_to(rt.alloc(), "lock", &text, 3, b"", line)?);
+    Ok(())
+}
+
+#[test]
+fn an_image_has_a_million_lines_at_most(rt: HostRuntime) -> Result<(), Fail> {
+    let front = b"below\nschedule 1 bag lock 2\n".as_slice();
+    let text = repeated(rt.alloc(), front, b"tick 0\n", 1_000_001)?;
+    let line = b"line 1000003: too many events\n".as_slice();
+    assert!(rt; comes_to(rt.alloc(), "lock", &text, 3, b"", line)?);
     Ok(())
 }
 

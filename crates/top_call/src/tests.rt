@@ -372,12 +372,23 @@ fn a_text_outside_the_grammar_is_refused(rt: HostRuntime) -> Result<(), Fail> {
     Ok(())
 }
 
+// A text of a line so many times behind a front.
+pub(super) fn repeated(
+    alloc: Global,
+    front: &[u8],
+    line: &[u8],
+    many: usize,
+) -> Result<Vec<u8>, AllocError> {
+    let mut text = Vec::from_slice(alloc, front)?;
+    for _ in 0..many {
+        text.extend_from_slice(line)?;
+    }
+    Ok(text)
+}
+
 // A text of the header, a comment of so many bytes, and no step.
 fn with_comment(alloc: Global, size: usize) -> Result<Vec<u8>, AllocError> {
-    let mut text = Vec::from_slice(alloc, b"schedule 1 bag lock 2\n")?;
-    for _ in 0..size {
-        text.push(b'#')?;
-    }
+    let mut text = repeated(alloc, b"schedule 1 bag lock 2\n", b"#", size)?;
     text.push(b'\n')?;
     Ok(text)
 }
@@ -393,6 +404,28 @@ fn a_line_has_at_most_4096_bytes(rt: HostRuntime) -> Result<(), Fail> {
     );
     let longer = with_comment(rt.alloc(), 4_097)?;
     assert!(rt; holds(rt.alloc(), (&longer, 3, b"", b"line 2: line too long\n"))?);
+    Ok(())
+}
+
+#[test]
+fn a_schedule_has_a_million_events_at_most(rt: HostRuntime) -> Result<(), Fail> {
+    let text = repeated(
+        rt.alloc(),
+        b"schedule 1 bag lock 2\n",
+        b"tick 0\n",
+        1_000_001,
+    )?;
+    let line = b"line 1000002: too many events\n".as_slice();
+    assert!(rt; holds(rt.alloc(), (&text, 3, b"", line))?);
+    Ok(())
+}
+
+#[test]
+fn lines_are_gathered_before_they_are_written(rt: HostRuntime) -> Result<(), Fail> {
+    let text = repeated(rt.alloc(), b"schedule 1 bag lock 2\n", b"tick 0\n", 1_000)?;
+    let ran = replay_in(rt.alloc(), &text, 100, 100_000)?;
+    assert!(rt; ran.status == 0);
+    assert!(rt; ran.out.calls() < 10);
     Ok(())
 }
 

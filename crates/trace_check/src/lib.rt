@@ -34,6 +34,3 @@ pub use laws::{yes_is_linearizable, yes_is_one_machine, yes_is_what_clients_see}
 pub use refusal_rows::worked_refusals;
 pub use schedule_rows::worked_schedules;
 pub use verdict::Verdict;
-
-#[cfg(test)]
-mod tests;
