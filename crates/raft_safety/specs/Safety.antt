@@ -79,9 +79,8 @@ module _ (S C O : Type 0) where
       take k (log_at v i) ≡ take k (log_at w j)
 
   -- what a node has committed, or knows to be, with all before it, is in the log of each leader of a term over the
-  -- node's: of one that leads later. Right after a leader commits by the rule (the Raft paper, section 5.4.2), its commit
-  -- is that index and its term the commit's: so this and the next cover what is committed in a term, whether the other
-  -- leader leads later or led before
+  -- node's: of one that leads later. A leader that commits by the rule (the Raft paper, section 5.4.2) knows it from then on,
+  -- and in the term in which it commits
   abbrev pub LeaderCompleteness : Type 0
   LeaderCompleteness =
       (m : MachineMeaning S C O) (nodes : ℕ) (v w : RaftWorld S C O) (i j k term : ℕ) → AreMoments m nodes v w →

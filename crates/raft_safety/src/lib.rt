@@ -2,14 +2,8 @@
 //! functions alone, and no code.
 #![tactic(auto)]
 
-mod applied;
 mod examples;
-mod linear;
-mod refinement;
 mod safety;
 
-pub use applied::the_applied_list_grows;
-pub use examples::worked_runs;
-pub use linear::clients_see_one_machine;
-pub use refinement::each_step_is_free;
-pub use safety::{refusals_never_come, runs_are_safe};
+pub use examples::{worked_mirrors, worked_runs};
+pub use safety::laws;

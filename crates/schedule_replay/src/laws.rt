@@ -18,7 +18,6 @@ ghost use Rattle.vst_base.specs.declared.step.Step.{Step};
 use kv_machine::KvMachine;
 use lock_server::LockServer;
 use primary_backup::{PrimaryBackup, one_machine_explains};
-use raft_safety::clients_see_one_machine;
 use raft_text::headers_give_cluster_sizes;
 use seqnum_xform::repeats_do_nothing;
 use single_node::is_the_machine;
@@ -51,7 +50,7 @@ pub fn machine_explains_clusters()
     ensures { (h : Header) (ss : List (Step (RaftInput KvCmd))) → IsClusterSize h.nodes → IsAllowed (kv_raft_stack h).net (kv_raft_stack h).meaning (kv_raft_stack h).recovery ss
         → IsLinearizable kv (executed_by kv h.nodes ss) (trace_of (kv_raft_stack h) ss) }
 {
-    clients_see_one_machine::<KvMachine>();
+    raft_safety::laws::<KvMachine>();
 }
 
 /// The trace of every text of which no line is refused is explained by what its image stands for.

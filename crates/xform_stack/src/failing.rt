@@ -9,7 +9,6 @@ ghost use Rattle.xform_stack.specs.Running.{IsRunRefusal};
 
 use crate::run::run_on;
 use crate::{Ran, RunFault, RunningCluster};
-use raft_safety::clients_see_one_machine;
 use raft_types::{RaftInput, RaftOut};
 use std::alloc::Global;
 use vst_base::{Machine, Net, Step};
@@ -32,7 +31,7 @@ pub fn run_fail<M: Machine>(
     ensures linearizable { IfOk result (λ ran. IsLinearizable (M.meaning machine) ran.image ran.trace) }
     ensures refused { IfErr result (λ why. IsRunRefusal why (first_refused Net.Fail (raft nodes (M.meaning machine)) (raft_recovery (M.meaning machine)) steps.now)) }
 {
-    clients_see_one_machine::<M>();
+    raft_safety::laws::<M>();
     let Ok(running) = RunningCluster::new(alloc, machine, nodes) else {
         return Err(RunFault::Memory);
     };

@@ -5,4 +5,4 @@ pub returns-clause-linearizable : goal.returns-clause-linearizable
 returns-clause-linearizable g c =
     let same = c.in-Ok.ensures.handlers in
     let ran = c.run_on.ensures in
-    if-linearizable (g.M.Machine.meaning c.args.machine) c.args.nodes c.args.steps.now c.run_on.result c.clients_see_one_machine.ensures c.requires.size (rw same at ran.allowed) (rw same at ran.trace) (rw same at ran.image)
+    if-linearizable (g.M.Machine.meaning c.args.machine) c.args.nodes c.args.steps.now c.run_on.result c.laws.ensures.linearizable c.requires.size (rw same at ran.allowed) (rw same at ran.trace) (rw same at ran.image)
