@@ -1,4 +1,4 @@
-ghost use Rattle.std.specs.Prelude.{◌≡◌, [], ◌++◌, codes, replicate};
+ghost use Rattle.std.specs.Prelude.{◌≡◌, [], ◌∷◌, ◌++◌, codes, replicate};
 ghost use Rattle.app_text.specs.LockTexts.{input_of, output_of};
 ghost use Rattle.check_text.specs.Forms.{claim_of, form_of, image_from, with_header};
 ghost use Rattle.check_text.specs.ImageLines.{line_of_image, order_says, step_says};
@@ -42,6 +42,7 @@ pub fn worked_image_lines()
     ensures number_before_text { line_of_image (step_says input_of) 1 0 (codes "in x grab") ≡ image.Refused Why.Number }
     ensures order { line_of_image (order_says input_of) 1 0 (codes "order lock") ≡ image.Says LockInput.Lock }
     ensures other_word { line_of_image (order_says input_of) 1 0 (codes "orders lock") ≡ image.Refused Why.UnknownWord }
+    ensures one_request_too_many { line_of_image (order_says input_of) 1 1000000 (codes "order lock") ≡ image.Refused Why.TooManyEvents }
     ensures order_alone { line_of_image (order_says input_of) 1 0 (codes "order") ≡ image.Refused Why.UnknownWord }
     ensures order_without_a_text { line_of_image (order_says input_of) 1 0 (codes "order ") ≡ image.Refused Why.Text }
 {}
@@ -50,5 +51,7 @@ pub fn worked_image_lines()
 pub fn worked_ends()
     ensures nothing { claim_of (form_of 9 input_of output_of Heading.Lock (step_says input_of)) [] ≡ EndedAt 1 }
     ensures no_header { with_header (form_of 9 input_of output_of Heading.Lock (step_says input_of)) Heading.Lock 8000001 [] ≡ EndedAt 8000001 }
+    ensures header_past_the_last_line { with_header (form_of 9 input_of output_of Heading.Lock (step_says input_of)) Heading.Lock 8000001 (codes "schedule 1 bag lock 2" ∷ []) ≡ RefusedAt 8000001 Why.TooManyEvents }
+    ensures header_too_long { claim_of (form_of 9 input_of output_of Heading.Lock (step_says input_of)) (codes "below" ∷ replicate 4097 97 ∷ []) ≡ RefusedAt 2 Why.LineTooLong }
     ensures no_line_of_an_image { image_from (step_says input_of) 8000001 0 [] ≡ Whole [] }
 {}

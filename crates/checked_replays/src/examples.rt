@@ -16,6 +16,7 @@ pub fn worked()
     ensures nothing { stack_in [] ≡ None }
     ensures few_lines { IsWithinLimits stack.KvRaft (codes "in 2 7 1 put a x\nout 2 notleader 7 1\nbelow\n") }
     ensures any_lines { (out : List ℕ) → IsWithinLimits stack.Lock out }
+    ensures most_lines { (out : List ℕ) → length (lines_of out) ≡ 8000000 → IsWithinLimits stack.KvRaft out }
     ensures too_many_lines { (out : List ℕ) → length (lines_of out) ≡ 8000001 → IsWithinLimits stack.KvRaft out → ⊥ }
     ensures lock { checked stack.Lock (replayed (codes "schedule 1 bag lock 2\nin 1 lock\ndeliver 0\ndeliver 1\n")).out ≡ Ok Yes }
     ensures copied { checked stack.LockSeq (replayed (codes "schedule 1 dup lock/seq 2\nin 1 lock\ndup 0\n")).out ≡ Ok Yes }

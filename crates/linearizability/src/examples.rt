@@ -9,6 +9,7 @@ pub fn worked_orders()
     ensures one { IsLinearizable counter (asks 7 1 5 ∷ []) (put (asks 7 1 5) ∷ tell 7 1 0 ∷ []) }
     ensures one_behind_another { IsLinearizable counter (asks 7 1 5 ∷ asks 9 1 3 ∷ []) (put (asks 7 1 5) ∷ tell 7 1 0 ∷ put (asks 9 1 3) ∷ tell 9 1 5 ∷ []) }
     ensures two { IsLinearizable counter (asks 9 1 3 ∷ asks 7 1 5 ∷ []) (put (asks 7 1 5) ∷ put (asks 9 1 3) ∷ tell 9 1 0 ∷ tell 7 1 3 ∷ []) }
+    ensures two_of_one_client { IsLinearizable counter (asks 7 1 5 ∷ asks 7 2 3 ∷ []) (put (asks 7 1 5) ∷ tell 7 1 0 ∷ put (asks 7 2 3) ∷ tell 7 2 5 ∷ []) }
     ensures told_in_another_order { IsLinearizable counter (asks 9 1 3 ∷ asks 7 1 5 ∷ []) (put (asks 7 1 5) ∷ put (asks 9 1 3) ∷ tell 7 1 3 ∷ tell 9 1 0 ∷ []) }
     ensures told_again { IsLinearizable counter (asks 7 1 5 ∷ []) (put (asks 7 1 5) ∷ put (asks 7 1 5) ∷ tell 7 1 0 ∷ tell 7 1 0 ∷ []) }
     ensures told_again_at_another_node { IsLinearizable counter (asks 7 1 5 ∷ []) (put (asks 7 1 5) ∷ put_at 1 (asks 7 1 5) ∷ tell 7 1 0 ∷ tell_at 1 7 1 0 ∷ []) }
@@ -20,6 +21,7 @@ pub fn worked_orders()
     ensures full { IsLinearizable counter [] (put (asks 7 1 5) ∷ say_full 7 1 ∷ []) }
 
     ensures wrong_order { IsLinearizable counter (asks 7 1 5 ∷ asks 9 1 3 ∷ []) (put (asks 7 1 5) ∷ put (asks 9 1 3) ∷ tell 9 1 0 ∷ tell 7 1 3 ∷ []) → ⊥ }
+    ensures another_output_of_one_client { IsLinearizable counter (asks 7 1 5 ∷ asks 7 2 3 ∷ []) (put (asks 7 1 5) ∷ tell 7 1 0 ∷ put (asks 7 2 3) ∷ tell 7 2 0 ∷ []) → ⊥ }
     ensures a_pair_twice { IsLinearizable counter (asks 7 1 5 ∷ asks 7 1 5 ∷ []) (put (asks 7 1 5) ∷ put (asks 7 1 5) ∷ []) → ⊥ }
     ensures a_pair_twice_with_two_commands { IsLinearizable counter (asks 7 1 5 ∷ asks 9 1 3 ∷ asks 7 1 6 ∷ []) (put (asks 7 1 5) ∷ put (asks 7 1 6) ∷ put (asks 9 1 3) ∷ []) → ⊥ }
     ensures not_put_in { IsLinearizable counter (asks 7 1 5 ∷ []) [] → ⊥ }

@@ -1,7 +1,7 @@
--- Runs of three nodes that the definitions are computed on.
+-- Runs that the definitions are computed on, of three nodes where no other number is said.
 use Rattle.std.specs.Prelude.{◌≡◌, ℕ, None, Some, false, true, List, [], ◌∷◌, ◌++◌}
 use Rattle.vst_base.specs.declared.entry.Entry.{Entry}
-use Rattle.raft_free.specs.Nodes.{Append, Candidate, Follower, FreeWorld, Leader, RequestVote, Vote, first_world}
+use Rattle.raft_free.specs.Nodes.{Append, Appended, Candidate, Follower, FreeWorld, Leader, RequestVote, Vote, first_world}
 use Rattle.raft_free.specs.Events.{Accept, Allowed, Apply, Ask, Comes, Commit, Count, Crash, Event, Grant, Lead, Learn, Match, Propose, Reboot, Refuse, Replicate, StepDown, Timeout, actor, effect}
 use Rattle.raft_free.specs.Runs.{Run}
 
@@ -152,3 +152,128 @@ OverreachIsRefused C =
     (c : C) → IsRefusedAfter C (committed c) (Commit 0 2) × IsRefusedAfter C (committed c) (Apply 0 2)
     × IsRefusedAfter C (committed c) (Propose 0 (entry 2 c)) × IsRefusedAfter C (committed c) (Match 0 1 2)
     × IsRefusedAfter C (committed c ++ Crash 1 ∷ []) (Reboot 1 2 0) × IsRefusedAfter C (committed c ++ Crash 1 ∷ []) (Timeout 1)
+
+-- the leader takes a command that nobody else has
+abbrev pub proposed : {C : Type 0} → C → List (Event C)
+proposed c = elected ++ Propose 0 (entry 1 c) ∷ []
+
+-- it may not apply it, tell that it is committed, or start again with a commit over it, as it is not committed; nor
+-- propose an entry of an earlier term
+abbrev pub UncommittedIsNotApplied : Type 0 → Type 0
+UncommittedIsNotApplied C =
+    (c : C) → Happens C (proposed c) × IsRefusedAfter C (proposed c) (Apply 0 1) × IsRefusedAfter C (proposed c) (Replicate 0 1 0 1 1)
+    × IsRefusedAfter C (proposed c ++ Crash 0 ∷ []) (Reboot 0 1 0) × IsRefusedAfter C (proposed c) (Propose 0 (entry 0 c))
+
+-- when node 1 has both entries, the first comes again
+abbrev pub late_append : {C : Type 0} → C → C → List (Event C)
+late_append c d = then_its_own c d ++ Accept 1 0 0 0 (entry 1 c ∷ []) 0 ∷ []
+
+-- it cuts nothing, and the node acknowledges what came and no more
+abbrev pub LateAppendCutsNothing : Type 0 → Type 0
+LateAppendCutsNothing C =
+    (c d : C) → Happens C (late_append c d) × (((after (late_append c d)).node 1).log ≡ entry 1 c ∷ entry 2 d ∷ [])
+    × ((after (late_append c d)).sent
+    ≡ record { source = 1; destination = 0; term = 2; message = Appended true 1 } ∷ (after (then_its_own c d)).sent)
+
+-- the leader has committed two entries with node 1, and sends node 2 the first of them
+abbrev pub one_of_two : {C : Type 0} → C → C → List (Event C)
+one_of_two c d =
+    elected
+    ++ Propose 0 (entry 1 c) ∷ Propose 0 (entry 1 d) ∷ Replicate 0 1 0 2 0 ∷ Accept 1 0 0 0 (entry 1 c ∷ entry 1 d ∷ []) 0
+    ∷ Match 0 1 2 ∷ Commit 0 2 ∷ Replicate 0 2 0 1 2
+    ∷ Learn 2 (record { source = 0; destination = 2; term = 1; message = Append 0 0 (entry 1 c ∷ []) 2 })
+    ∷ Accept 2 0 0 0 (entry 1 c ∷ []) 2 ∷ []
+
+-- which learns that this one is committed, and no more
+abbrev pub CommitOfWhatCame : Type 0 → Type 0
+CommitOfWhatCame C =
+    (c d : C) → Happens C (one_of_two c d) × (((after (one_of_two c d)).node 0).commit ≡ 2)
+    × (((after (one_of_two c d)).node 2).log ≡ entry 1 c ∷ []) × (((after (one_of_two c d)).node 2).commit ≡ 1)
+
+-- node 0 leads in term 1 and takes two commands that reach nobody, and crashes. Node 1 leads in term 2 and commits another with
+-- node 2. Node 0 starts again, and asks node 2 for its vote in term 3
+abbrev pub longer : {C : Type 0} → C → C → List (Event C)
+longer c d =
+    elected
+    ++ Propose 0 (entry 1 c) ∷ Propose 0 (entry 1 c) ∷ Crash 0
+    ∷ Timeout 1 ∷ Ask 1 2 ∷ Learn 2 (record { source = 1; destination = 2; term = 2; message = RequestVote 0 0 }) ∷ Grant 2 1 0 0
+    ∷ Count 1 2 ∷ Lead 1 ∷ Propose 1 (entry 2 d) ∷ Replicate 1 2 0 1 0 ∷ Accept 2 1 0 0 (entry 2 d ∷ []) 0 ∷ Match 1 2 1 ∷ Commit 1 1
+    ∷ Reboot 0 0 0 ∷ Timeout 0 ∷ Timeout 0 ∷ Ask 0 2
+    ∷ Learn 2 (record { source = 0; destination = 2; term = 3; message = RequestVote 2 1 }) ∷ []
+
+-- it gets none, though its log is longer
+abbrev pub LongerGetsNoVote : Type 0 → Type 0
+LongerGetsNoVote C =
+    (c d : C) → Happens C (longer c d) × (((after (longer c d)).node 2).voted ≡ None)
+    × Comes (after (longer c d)).sent ((after (longer c d)).node 2) 0 2 (RequestVote 2 1)
+    × IsRefusedAfter C (longer c d) (Grant 2 0 2 1)
+
+-- node 0 becomes a candidate of term 1, and node 1 votes for it
+abbrev pub voted_for : {C : Type 0} → List (Event C)
+voted_for =
+    Timeout 0 ∷ Ask 0 1 ∷ Learn 1 (record { source = 0; destination = 1; term = 1; message = RequestVote 0 0 }) ∷ Grant 1 0 0 0
+    ∷ Count 0 1 ∷ []
+
+-- of four nodes these two are half, and make no leader
+abbrev pub HalfElectsNobody : Type 0 → Type 0
+HalfElectsNobody C =
+    Run 4 (first_world C) voted_for (after voted_for)
+    × (Allowed {C = C} 4 (after voted_for).sent ((after voted_for).node 0) (Lead 0) → ⊥)
+
+-- a node that has voted does not learn its own term again
+abbrev pub NoTermIsLearnedTwice : Type 0 → Type 0
+NoTermIsLearnedTwice C =
+    IsRefusedAfter C two_candidates (Learn 1 (record { source = 2; destination = 1; term = 1; message = RequestVote 0 0 }))
+
+-- once a command is committed in term 1, node 2 becomes a candidate of term 2 and asks node 0 for its vote
+abbrev pub greater_term : {C : Type 0} → C → List (Event C)
+greater_term c =
+    committed c
+    ++ Timeout 2 ∷ Timeout 2 ∷ Ask 2 0 ∷ Learn 0 (record { source = 2; destination = 0; term = 2; message = RequestVote 0 0 }) ∷ []
+
+-- node 0 leads no longer; it leads again in term 3, by the vote of node 1
+abbrev pub leads_again : {C : Type 0} → C → List (Event C)
+leads_again c =
+    greater_term c
+    ++ Timeout 0 ∷ Ask 0 1 ∷ Learn 1 (record { source = 0; destination = 1; term = 3; message = RequestVote 1 1 }) ∷ Grant 1 0 1 1
+    ∷ Count 0 1 ∷ Lead 0 ∷ []
+
+-- it knows nothing of what the others have
+abbrev pub LeadersBeginAnew : Type 0 → Type 0
+LeadersBeginAnew C =
+    (c : C) → Happens C (greater_term c) × (((after (greater_term c)).node 0).role ≡ Follower)
+    × (((after (greater_term c)).node 0).matched 1 ≡ 1)
+    × Happens C (leads_again c) × (((after (leads_again c)).node 0).role ≡ Leader) × (((after (leads_again c)).node 0).matched 1 ≡ 0)
+
+-- as in `replaced`, but node 1 sends what stands behind its entry
+abbrev pub behind_another : {C : Type 0} → C → C → List (Event C)
+behind_another c d =
+    elected
+    ++ Propose 0 (entry 1 c) ∷ Crash 0
+    ∷ Timeout 1 ∷ Ask 1 2 ∷ Learn 2 (record { source = 1; destination = 2; term = 2; message = RequestVote 0 0 }) ∷ Grant 2 1 0 0
+    ∷ Count 1 2 ∷ Lead 1 ∷ Propose 1 (entry 2 d) ∷ Reboot 0 0 0 ∷ Replicate 1 0 1 0 0
+    ∷ Learn 0 (record { source = 1; destination = 0; term = 2; message = Append 1 2 [] 0 }) ∷ []
+
+-- node 0 has an entry of another term there, and does not accept it
+abbrev pub NothingBehindAnother : Type 0 → Type 0
+NothingBehindAnother C =
+    (c d : C) → Happens C (behind_another c d)
+    × Comes (after (behind_another c d)).sent ((after (behind_another c d)).node 0) 1 0 (Append 1 2 [] 0)
+    × IsRefusedAfter C (behind_another c d) (Accept 0 1 1 2 [] 0)
+
+-- a node that is down does nothing but start again, also what it might do if it were up
+abbrev pub DownDoesNothing : Type 0 → Type 0
+DownDoesNothing C =
+    (c : C) → IsRefusedAfter C (two_candidates ++ Crash 1 ∷ []) (Grant 1 0 0 0)
+    × IsRefusedAfter C (committed c ++ Crash 1 ∷ []) (Accept 1 0 1 1 [] 1) × IsRefusedAfter C (committed c ++ Crash 1 ∷ []) (StepDown 1 0 1 1 [] 1)
+    × IsRefusedAfter C (committed c ++ Crash 1 ∷ []) (Apply 1 1) × IsRefusedAfter C (committed c ++ Crash 1 ∷ []) (Refuse 1 0 (Vote false))
+    × IsRefusedAfter C (committed c ++ Crash 1 ∷ []) (Crash 1)
+    × IsRefusedAfter C (committed c ++ Timeout 2 ∷ Timeout 2 ∷ Ask 2 1 ∷ Crash 1 ∷ [])
+    (Learn 1 (record { source = 2; destination = 1; term = 2; message = RequestVote 0 0 }))
+
+-- nor is done what was done: a leader does not stand, an answer that has come raises nothing, what was applied stays so, and a node
+-- that is up does not start
+abbrev pub DoneIsNotDoneAgain : Type 0 → Type 0
+DoneIsNotDoneAgain C =
+    (c : C) → IsRefusedAfter C (committed c) (Timeout 0) × IsRefusedAfter C (committed c) (Match 0 1 1)
+    × IsRefusedAfter C (committed c) (Apply 0 0) × IsRefusedAfter C (committed c) (Reboot 1 0 0)

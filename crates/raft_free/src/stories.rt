@@ -1,6 +1,6 @@
-ghost use Rattle.raft_free.specs.Stories.{BehindGetsNoVote, CandidateStepsDown, LaterLeaderHasIt, OldTermWaits, OverreachIsRefused, SecondCandidateFails, TwoOfThreeCommit, UncommittedIsReplaced};
+ghost use Rattle.raft_free.specs.Stories.{BehindGetsNoVote, CandidateStepsDown, CommitOfWhatCame, DoneIsNotDoneAgain, DownDoesNothing, HalfElectsNobody, LateAppendCutsNothing, LaterLeaderHasIt, LeadersBeginAnew, LongerGetsNoVote, NoTermIsLearnedTwice, NothingBehindAnother, OldTermWaits, OverreachIsRefused, SecondCandidateFails, TwoOfThreeCommit, UncommittedIsNotApplied, UncommittedIsReplaced};
 
-/// Runs of three nodes, event by event. So there are runs in which entries are committed and applied, and
+/// Runs, event by event, of three nodes and one of four. So there are runs in which entries are committed and applied, and
 /// events that are not allowed.
 pub fn worked_runs<C>()
     ensures two_of_three_commit { TwoOfThreeCommit C }
@@ -11,4 +11,14 @@ pub fn worked_runs<C>()
     ensures candidate_steps_down { CandidateStepsDown C }
     ensures later_leader_has_it { LaterLeaderHasIt C }
     ensures overreach_is_refused { OverreachIsRefused C }
+    ensures down_does_nothing { DownDoesNothing C }
+    ensures done_is_not_done_again { DoneIsNotDoneAgain C }
+    ensures leaders_begin_anew { LeadersBeginAnew C }
+    ensures nothing_behind_another { NothingBehindAnother C }
+    ensures uncommitted_is_not_applied { UncommittedIsNotApplied C }
+    ensures late_append_cuts_nothing { LateAppendCutsNothing C }
+    ensures commit_of_what_came { CommitOfWhatCame C }
+    ensures longer_gets_no_vote { LongerGetsNoVote C }
+    ensures half_elects_nobody { HalfElectsNobody C }
+    ensures no_term_is_learned_twice { NoTermIsLearnedTwice C }
 {}

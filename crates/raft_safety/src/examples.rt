@@ -1,9 +1,12 @@
-ghost use Rattle.std.specs.Prelude.{◌≡◌, [], ◌∷◌, ◌++◌};
+ghost use Rattle.std.specs.Prelude.{◌≡◌, ℕ, [], ◌∷◌, ◌++◌, Some, false, true};
 ghost use Rattle.net_semantics.specs.Worlds.{copies};
 ghost use Rattle.vst_base.specs.Examples.{counter};
 ghost use Rattle.vst_base.specs.declared.step.Step.TheVariants as step;
-ghost use Rattle.raft_safety.specs.Applied.{applied_by, executed_by, longest};
-ghost use Rattle.raft_safety.specs.Runs.{IsRun, Leads, log_at, seen, world_after};
+ghost use Rattle.raft_safety.specs.Applied.{IsBeginning, applied_by, executed_by, longest};
+ghost use Rattle.raft_free.specs.Nodes as free;
+ghost use Rattle.raft_types.specs.declared.msg.RaftMsg.TheVariants as msg;
+ghost use Rattle.raft_safety.specs.Mirrors.{Mirrors, free_node, free_packet};
+ghost use Rattle.raft_safety.specs.Runs.{AreMoments, IsReached, IsRun, Leads, log_at, seen, world_after};
 ghost use Rattle.raft_safety.specs.Safety.{ComesInItsTerm};
 ghost use Rattle.linearizability.specs.Examples.{asks, put, tell};
 ghost use Rattle.raft_safety.specs.Examples.{asked_again, asked_once, copied, elected, five, late_copy, sent_first, started_again, two_clients, two_leaders};
@@ -49,4 +52,31 @@ pub fn worked_runs()
     ensures another_leads_in_the_next { Leads (world_after counter 3 two_leaders) 1 2 }
     ensures committed_in_the_lesser { ((world_after counter 3 two_leaders).state 0).commit ≡ 1 }
     ensures told_by_the_lesser { seen counter 3 two_leaders ≡ put (asks 7 1 5) ∷ tell 7 1 0 ∷ [] }
+
+    ensures no_nodes { IsRun counter 0 [] → ⊥ }
+    ensures five_nodes { IsRun counter 5 [] }
+    ensures six_nodes { IsRun counter 6 [] → ⊥ }
+    ensures a_candidate_does_not_lead { Leads (world_after counter 3 (step.Tick 0 ∷ [])) 0 1 → ⊥ }
+    ensures it_led { Leads (world_after counter 3 elected) 0 1 }
+    ensures it_leads_no_more { Leads (world_after counter 3 (elected ++ step.Crash 0 ∷ [])) 0 1 → ⊥ }
+    ensures an_end_is_no_beginning { IsBeginning (five 1 0 ∷ []) (five 2 1 ∷ five 1 0 ∷ []) → ⊥ }
+    ensures other_moments { AreMoments counter 3 (world_after counter 3 asked_once) (world_after counter 3 started_again) }
+    ensures reached { IsReached counter 3 (world_after counter 3 started_again) }
+{}
+
+/// What of a cluster's world a world with free choices mirrors: each node's fields, where one that is down follows, and each packet
+/// that was sent.
+pub fn worked_mirrors()
+    ensures a_leader { (free_node true ((world_after counter 3 elected).state 0)).role ≡ free.Leader }
+    ensures a_follower { (free_node true ((world_after counter 3 elected).state 1)).role ≡ free.Follower }
+    ensures a_candidate { (free_node true ((world_after counter 3 (step.Tick 0 ∷ [])).state 0)).role ≡ free.Candidate }
+    ensures down { (free_node false ((world_after counter 3 elected).state 0)).role ≡ free.Follower }
+    ensures term { (free_node true ((world_after counter 3 elected).state 1)).term ≡ 1 }
+    ensures voted { (free_node true ((world_after counter 3 elected).state 1)).voted ≡ Some 0 }
+    ensures log { (free_node false ((world_after counter 3 asked_once).state 0)).log ≡ five 1 0 ∷ [] }
+    ensures commit { (free_node false ((world_after counter 3 asked_once).state 0)).commit ≡ 1 }
+    ensures applied { (free_node true ((world_after counter 3 asked_once).state 1)).applied ≡ 0 }
+    ensures entries { free_packet 0 1 (msg.Append sent_first) ≡ record { source = 0; destination = 1; term = 1; message = free.Append 0 0 (five 1 0 ∷ []) 0 } }
+    ensures not_the_first_world { Mirrors (world_after counter 3 elected) (free.first_world ℕ) → ⊥ }
+    ensures not_without_packets { Mirrors (world_after counter 3 elected) (record { node = λ i. free_node ((world_after counter 3 elected).is_up i) ((world_after counter 3 elected).state i); sent = [] }) → ⊥ }
 {}

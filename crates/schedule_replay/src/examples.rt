@@ -1,6 +1,19 @@
-ghost use Rattle.std.specs.Prelude.{◌≡◌, [], ◌++◌, Some, None, codes};
+ghost use Rattle.std.specs.Prelude.{◌≡◌, ◌↔◌, [], ◌∷◌, ◌++◌, Some, None, codes};
+ghost use Rattle.kv_machine.specs.Kv.{kv};
+ghost use Rattle.kv_machine.specs.declared.cmd.KvCmd.TheVariants as cmd;
+ghost use Rattle.linearizability.specs.Linearizable.{IsLinearizable};
+ghost use Rattle.net_semantics.specs.BelowPb.{IsExplainedBy};
+ghost use Rattle.app_text.specs.KvTexts.{kv_out};
+ghost use Rattle.raft_text.specs.RaftTexts.{asked};
+ghost use Rattle.raft_types.specs.declared.client.RaftOut.TheVariants as told;
+ghost use Rattle.schedule_replay.specs.Explained.{IsExplained, IsRunOf};
+ghost use Rattle.vst_base.specs.declared.pb_out.PbOut.TheVariants as pb;
+ghost use Rattle.vst_base.specs.declared.step.Item.TheVariants as item;
+ghost use Rattle.vst_base.specs.declared.step.Step.TheVariants as step;
 ghost use Rattle.line_reader.specs.declared.why.Why.TheVariants.{Header, NoCopy, NodeDown, NodeUp, NoInputHere, NoSuchNode, Number, Text, UnknownWord, NotThisNet};
-ghost use Rattle.schedule_replay.specs.Replays.{replayed, replayed_so_far};
+ghost use Rattle.schedule_replay.specs.Replays.{lock_stack, replayed, replayed_so_far};
+
+use vst_base::{LockInput, LockOutput, Net, StackId};
 
 /// Worked schedules of each stack: what is written, and which line is refused.
 pub fn worked()
@@ -79,4 +92,26 @@ pub fn worked()
     // A text that broke off: its whole lines alone.
     ensures broken_off { (replayed_so_far (codes "schedule 1 bag lock 2\nin 1 lock\nin 1 lo")).out ≡ codes "in 1 lock\n" }
     ensures broken_off_in_order { (replayed_so_far (codes "schedule 1 bag lock 2\nin 1 lock\nin 1 lo")).refused ≡ None }
+    ensures broken_off_behind_a_refused_line { (replayed_so_far (codes "schedule 1 bag lock 2\nin 1 lock\ndeliver 7\nin 1 lo")).refused ≡ Some (3, NoCopy) }
+    ensures the_trace_before_that_line { (replayed_so_far (codes "schedule 1 bag lock 2\nin 1 lock\ndeliver 7\nin 1 lo")).out ≡ codes "in 1 lock\n" }
+    ensures broken_off_in_a_refused_line { (replayed_so_far (codes "schedule 1 bag lock 2\ndeliver 7")).refused ≡ None }
+    ensures broken_off_before_the_header { (replayed_so_far (codes "# nothing\nsched")).refused ≡ None }
+    ensures broken_off_behind_no_header { (replayed_so_far (codes "schedule 1\nin 1 lo")).refused ≡ Some (1, Header) }
+{}
+
+/// What it is that the trace of a text is explained: on the lock server that its own run, of the steps that the image has, shows
+/// clients these items; with one machine below, that it explains them. Without a header nothing is explained.
+pub fn worked_explanations()
+    ensures handed_over { IsExplained (codes "schedule 1 bag lock 2\nin 1 lock\ndeliver 0\ndeliver 1\n")
+        ↔ IsRunOf (lock_stack (record { net = Net.Bag; stack = StackId.Lock; nodes = 2 })) (step.In 1 LockInput.Lock ∷ step.Deliver 0 ∷ step.Deliver 1 ∷ []) (item.Input 1 LockInput.Lock ∷ item.Output 1 LockOutput.Locked ∷ []) }
+    ensures copied { IsExplained (codes "schedule 1 dup lock/seq 2\nin 1 lock\ndup 0\ndeliver 0\ndeliver 1\ndeliver 0\n")
+        ↔ IsRunOf (lock_stack (record { net = Net.Bag; stack = StackId.Lock; nodes = 2 })) (step.In 1 LockInput.Lock ∷ step.Deliver 0 ∷ step.Deliver 1 ∷ []) (item.Input 1 LockInput.Lock ∷ item.Output 1 LockOutput.Locked ∷ []) }
+    ensures up_to_the_refused_line { IsExplained (codes "schedule 1 bag lock 2\nin 1 lock\ndeliver 7\ndeliver 0\n")
+        ↔ IsRunOf (lock_stack (record { net = Net.Bag; stack = StackId.Lock; nodes = 2 })) (step.In 1 LockInput.Lock ∷ []) (item.Input 1 LockInput.Lock ∷ []) }
+    ensures redirected { IsExplained (codes "schedule 1 bag kv/pb 2\nin 1 get a\n")
+        ↔ IsExplainedBy kv (item.Input 1 (cmd.Get (codes "a")) ∷ item.Output 1 pb.Redirect ∷ []) }
+    ensures ordered { IsExplained (codes "schedule 1 fail kv/raft 1\ntick 0\nin 0 7 1 put a x\n")
+        ↔ IsLinearizable kv (asked 7 1 (cmd.Put (codes "a") (codes "x")) ∷ []) (item.Input 0 (asked 7 1 (cmd.Put (codes "a") (codes "x"))) ∷ item.Output 0 (told.Reply 7 1 (kv_out (codes "a") (Some (codes "x")) None)) ∷ []) }
+    ensures no_header { ¬ IsExplained [] }
+    ensures another_header { ¬ IsExplained (codes "schedule 1 bag kv/raft 1\n") }
 {}

@@ -18,7 +18,7 @@ mod tallying;
 mod writing;
 
 pub use done::Done;
-pub use examples::worked;
+pub use examples::{worked, worked_explanations};
 pub use fault::ReplayFault;
 pub use laws::{
     machine_explains_clusters, machine_explains_images, machine_takes_images, same_under_images,

@@ -9,6 +9,9 @@ returns-clause-few_lines c = λ same. omega arith
 pub returns-clause-any_lines : goal.returns-clause-any_lines
 returns-clause-any_lines c = λ out same. cc
 
+pub returns-clause-most_lines : goal.returns-clause-most_lines
+returns-clause-most_lines c = λ out many same. omega (arith, many)
+
 pub returns-clause-too_many_lines : goal.returns-clause-too_many_lines
 returns-clause-too_many_lines c = λ out many within. let few = within refl in omega (arith, many, few)
 

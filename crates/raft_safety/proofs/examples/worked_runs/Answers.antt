@@ -1,15 +1,16 @@
 -- By what a map has at a number after a change.
-use Rattle.std.proofs.Common.{◌≡◌, ℕ, List, [], ◌∷◌, ◌++◌, map, refl, ◌∙◌}
+use Rattle.std.proofs.Common.{◌≡◌, ℕ, List, [], ◌∷◌, ◌++◌, map, refl, ◌∙◌, arith}
 use Rattle.std.specs.Cmp.{nat_cmp_total}
 use Rattle.std.specs.FinMap.{empty, get-empty, get-insert}
 use Rattle.vst_base.specs.Examples.{counter}
 use Rattle.vst_base.specs.declared.entry.Entry.{Entry}
 use Rattle.vst_base.specs.declared.step.Item.TheVariants as item
+use Rattle.vst_base.specs.declared.step.Step.TheVariants as step
 use Rattle.raft_clients.specs.Sessions.{applied_all}
 use Rattle.raft_xform.specs.Applying.{replies}
 use Rattle.raft_safety.specs.Runs.{seen}
 use Rattle.linearizability.specs.Examples.{asks, put}
-use Rattle.raft_safety.specs.Examples.{asked_again, five}
+use Rattle.raft_safety.specs.Examples.{asked_again, asked_once, five, started_again}
 use Rattle.linearizability.specs.Linearizable.{Seen}
 use Rattle.raft_safety.proofs.examples.worked_runs.Goals as goal
 
@@ -38,3 +39,9 @@ told = refl
 pub returns-clause-told_the_same : goal.returns-clause-told_the_same
 unfolding tells
 returns-clause-told_the_same c = told ∙ (λ i. tells (once i) (again i))
+
+pub returns-clause-other_moments : goal.returns-clause-other_moments
+returns-clause-other_moments c = record { early = asked_once; late = step.Reboot 0 ∷ []; run = record { size = (omega arith, omega arith); allowed = refl }; first = refl; second = refl }
+
+pub returns-clause-reached : goal.returns-clause-reached
+returns-clause-reached c = record { steps = started_again; run = record { size = (omega arith, omega arith); allowed = refl }; is = refl }

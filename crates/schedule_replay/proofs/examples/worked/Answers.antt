@@ -166,3 +166,7 @@ returns-clause-a_vote_outlives_a_reboot c = refl
 
 pub returns-clause-one_node_cluster_counted : goal.returns-clause-one_node_cluster_counted
 returns-clause-one_node_cluster_counted c = simp lookups_and_sessions
+
+pub returns-clause-the_trace_before_that_line : goal.returns-clause-the_trace_before_that_line
+unfolding digits
+returns-clause-the_trace_before_that_line c = refl
