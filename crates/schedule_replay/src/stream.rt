@@ -125,54 +125,31 @@ fn replay_stack<S: Source, K: Sink>(
 {
     match header.stack {
         StackId::Lock => {
+            let (net, below) = (Net::Bag, *header);
             let nodes = LockServer::new(header.nodes);
             replay_mapped::<LockServer, LockText, Itself<LockInput>, S, K>(
-                alloc,
-                nodes,
-                Net::Bag,
-                *header,
-                reader,
-                source,
-                sink,
+                alloc, nodes, net, below, reader, source, sink,
             )
         }
         StackId::LockSeq => {
-            let below = lock_header(header);
+            let (net, below) = (Net::Dup, lock_header(header));
             let nodes = SeqNum::new(LockServer::new(header.nodes));
             replay_mapped::<SeqNum<LockServer>, LockText, WithoutRepeats<LockInput>, S, K>(
-                alloc,
-                nodes,
-                Net::Dup,
-                below,
-                reader,
-                source,
-                sink,
+                alloc, nodes, net, below, reader, source, sink,
             )
         }
         StackId::KvPb => {
-            let below = kv_header();
+            let (net, below) = (Net::Bag, kv_header());
             let nodes = PrimaryBackup::new(KvMachine);
             replay_mapped::<PrimaryBackup<KvMachine>, KvPbText, RepliedTo<KvCmd>, S, K>(
-                alloc,
-                nodes,
-                Net::Bag,
-                below,
-                reader,
-                source,
-                sink,
+                alloc, nodes, net, below, reader, source, sink,
             )
         }
         StackId::KvPbSeq => {
-            let below = kv_header();
+            let (net, below) = (Net::Dup, kv_header());
             let nodes = SeqNum::new(PrimaryBackup::new(KvMachine));
             replay_mapped::<SeqNum<PrimaryBackup<KvMachine>>, KvPbText, RepliedTo<KvCmd>, S, K>(
-                alloc,
-                nodes,
-                Net::Dup,
-                below,
-                reader,
-                source,
-                sink,
+                alloc, nodes, net, below, reader, source, sink,
             )
         }
         StackId::KvRaft => {
@@ -180,16 +157,10 @@ fn replay_stack<S: Source, K: Sink>(
             replay_cluster(alloc, header, reader, source, sink)
         }
         StackId::Kv => {
-            let below = kv_header();
+            let (net, below) = (Net::One, kv_header());
             let nodes = SingleNode::new(KvMachine);
             replay_mapped::<SingleNode<KvMachine>, KvText, Itself<KvCmd>, S, K>(
-                alloc,
-                nodes,
-                Net::One,
-                below,
-                reader,
-                source,
-                sink,
+                alloc, nodes, net, below, reader, source, sink,
             )
         }
         StackId::TablePbSeq | StackId::TableRaft | StackId::Table => unreachable!(),
