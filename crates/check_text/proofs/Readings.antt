@@ -1,21 +1,21 @@
 -- The lines of a claim, read one after another from a source.
-use Rattle.std.specs.Prelude.{◌≡◌, ℕ, Bool, true, false, ◌+◌, ◌≤◌, List, [], ◌∷◌, ◌++◌, length, Option, Some, None, IfSome, IfErr, Result, Ok, Err, refl}
-use Rattle.std.proofs.Common.{ap, ◌∙◌, sym, append_assoc, arith}
+use Rattle.std.specs.Prelude.{◌≡◌, ℕ, Bool, true, false, ◌+◌, ◌-◌, ◌≤◌, List, [], ◌∷◌, ◌++◌, length, Option, Some, None, IfSome, IfErr, Result, Ok, Err, refl}
+use Rattle.std.proofs.Common.{ap, ◌∙◌, sym, append_assoc, arith, length-append}
 use Rattle.vst_base.specs.Firsts.{first_of}
 use Rattle.line_reader.specs.declared.why.Why.{Why}
 use Rattle.line_reader.specs.declared.why.Why.TheVariants as why
 use Rattle.line_reader.specs.declared.fault.LineFault.{LineFault}
 use Rattle.line_reader.specs.declared.fault.LineFault.TheVariants as fault
 use Rattle.line_reader.specs.Limits.{line_refusals}
-use Rattle.line_reader.specs.Lines.{lines_of, whole_lines}
+use Rattle.line_reader.specs.Lines.{decided, lines_of, whole_lines}
 use Rattle.line_reader.specs.Readers.{ReaderView, fresh}
-use Rattle.line_reader.specs.Outcomes.{Uses, BreaksOff, EndsAll, ReadsLine, HasReadCause}
+use Rattle.line_reader.specs.Outcomes.{Uses, StandsAt, BreaksOff, EndsAll, ReadsLine, HasReadCause}
 use Rattle.line_reader.proofs.Lining.{whole-append}
-use Rattle.line_reader.proofs.Using.{uses-none, uses-more, lines-more, breaks-behind}
+use Rattle.line_reader.proofs.Using.{uses-none, uses-more, lines-more, breaks-behind, stands-at-end, stands-behind}
 use Rattle.check_text.specs.Claims.{Claim}
 use Rattle.check_text.specs.Drafts.{Draft, EndsBy, EndsClaim, Finishes, TakesLine, comes_to, no_lines}
 use Rattle.check_text.specs.Forms.{Form, claim_of}
-use Rattle.check_text.specs.Outcomes.{HasReadFault, ReadsClaim}
+use Rattle.check_text.specs.Outcomes.{HasReadFault, LooksAhead, ReadsClaim}
 use Rattle.check_text.specs.Reading.{RefusedAt, refusal_of, refusal_so_far}
 use Rattle.check_text.specs.TraceLines.{most_lines}
 use Rattle.check_text.proofs.Takings.{line-limited, none-refused, read-same}
@@ -31,6 +31,16 @@ none-behind (x ∷ xs) ys e = cc
 
 pub nothing-left : (new : ReaderView) (left' : Option (List ℕ)) → EndsAll new left' → left' ≡ Some []
 nothing-left new left' ends = ends.left.left_is ∙ ap Some (none-behind new.ahead ends.left.behind ends.left.rest_is)
+
+-- what was given, where a reader stands at the byte that decided a line
+given-of : (new : ReaderView) (left' : Option (List ℕ)) (bytes : List ℕ) (n : ℕ) (w : Why) → StandsAt (fresh most_lines) new left' bytes n → LooksAhead left' bytes (fault.Refused n w)
+given-of new left' bytes n w s =
+    let all : n - 0 ≡ n = omega arith in
+    let decides : length s.used ≡ decided n bytes = s.decides ∙ ap (λ k. decided k bytes) all in (
+      s.used ++ new.ahead,
+      (s.left.behind, s.whole ∙ (ap (λ xs. s.used ++ xs) s.left.rest_is ∙ sym (append_assoc s.used new.ahead s.left.behind)), s.left.left_is),
+      omega (arith, length-append s.used new.ahead, decides, s.few),
+    )
 
 module _ {I O X : Type 0} (f : Form I O X) where
   -- some lines were used, and the claim is what their draft comes to with the lines that follow
@@ -110,6 +120,24 @@ module _ {I O X : Type 0} (f : Form I O X) where
     claim-ended A fault.Write r f0 f' most cause reads still is = absurd reads
     claim-ended A fault.Memory r f0 f' most cause reads still is = rw is tt
     claim-ended A (fault.Refused n w) r f0 f' most cause (stands, there, l, ls, first, refused) still is = rw is (line-stopped n w l ls most there first refused)
+
+    -- how much was given where a line is refused
+    pub ahead-refused : (w : Why) → StandsAt mid new left' s.uses.rest' new.number → LooksAhead left' bytes (fault.Refused new.number w)
+    ahead-refused w stands = given-of new left' bytes new.number w (stands-behind (fresh most_lines) mid new left left' bytes s.used new.number s.uses stands)
+
+    ahead-ends : (r : Result (Claim I O X) LineFault) → s.uses.rest' ≡ [] → EndsAll new left' → new.number ≡ mid.number → EndsClaim f d new.number r → IfErr r (LooksAhead left' bytes)
+    ahead-ends (Ok c) none ends still is = tt
+    ahead-ends (Err found) none ends still is =
+        rw is.0 (given-of new left' bytes (new.number + 1) why.Header (stands-at-end (fresh most_lines) mid new left left' bytes s.used s.uses (new.number + 1) none ends.left (ap (λ n. n + 1) still)))
+
+    pub ahead-ended : (A : Type 0) (found : LineFault) (r : Result (Claim I O X) LineFault) → ReadsLine {A = A} mid new left' s.uses.rest' (Err found) → new.number ≡ mid.number → EndsBy f d new.number found r
+        → IfErr r (LooksAhead left' bytes)
+    ahead-ended A fault.End r reads still is = ahead-ends r reads.1 reads.0 still is
+    ahead-ended A fault.Read r reads still is = rw is tt
+    ahead-ended A fault.Write r reads still is = absurd reads
+    ahead-ended A fault.Memory r reads still is = rw is tt
+    ahead-ended A (fault.Refused n w) r reads still is =
+        rw is (given-of new left' bytes n w (stands-behind (fresh most_lines) mid new left left' bytes s.used n s.uses reads.0))
 
 -- the cause of a fault
 ends-quiet : {I O X : Type 0} (f : Form I O X) (d : Draft I O X) (n f0 f' : ℕ) (r : Result (Claim I O X) LineFault) → EndsClaim f d n r → IfErr r (HasReadFault f0 f')

@@ -1,7 +1,8 @@
 -- What reading a claim from a source that tells comes to.
-use Rattle.std.specs.Prelude.{◌≡◌, ℕ, List, [], Option, Some, None, Result, Ok, Err}
+use Rattle.std.specs.Prelude.{◌≡◌, ℕ, ◌+◌, ◌≤◌, List, [], length, Option, Some, None, Result, Ok, Err}
 use Rattle.outside.specs.Counting.{Rose}
-use Rattle.line_reader.specs.Lines.{lines_of, whole_lines}
+use Rattle.outside.specs.Wholes.{Gave}
+use Rattle.line_reader.specs.Lines.{decided, lines_of, whole_lines}
 use Rattle.line_reader.specs.Outcomes.{BreaksOff}
 use Rattle.line_reader.specs.declared.fault.LineFault.{LineFault}
 use Rattle.line_reader.specs.declared.fault.LineFault.TheVariants as fault
@@ -19,6 +20,18 @@ ReadsClaim form left' bytes (Err fault.Read) =
 ReadsClaim form left' bytes (Err fault.End) = ⊥
 ReadsClaim form left' bytes (Err fault.Write) = ⊥
 ReadsClaim form left' bytes (Err fault.Memory) = Unit {0}
+
+-- at most 4,096 of these bytes were given past the one that decided the line of this number
+abbrev pub IsDecidedBy : Option (List ℕ) → List ℕ → ℕ → Type 0
+IsDecidedBy left' bytes number = (given : List ℕ) × Gave (Some bytes) left' given × (length given ≤ decided number bytes + 4096)
+
+-- where a line is refused, it was decided so
+abbrev pub LooksAhead : Option (List ℕ) → List ℕ → LineFault → Type 0
+LooksAhead left' bytes (fault.Refused number w) = IsDecidedBy left' bytes number
+LooksAhead left' bytes fault.Read = Unit {0}
+LooksAhead left' bytes fault.End = Unit {0}
+LooksAhead left' bytes fault.Write = Unit {0}
+LooksAhead left' bytes fault.Memory = Unit {0}
 
 -- a failed read has its fault
 abbrev pub HasReadFault : ℕ → ℕ → LineFault → Type 0

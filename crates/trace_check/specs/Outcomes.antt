@@ -4,6 +4,7 @@ use Rattle.outside.specs.Counting.{Rose}
 use Rattle.line_reader.specs.Lines.{whole_lines}
 use Rattle.line_reader.specs.Outcomes.{BreaksOff}
 use Rattle.line_reader.specs.declared.fault.LineFault.{LineFault}
+use Rattle.check_text.specs.Outcomes.{IsDecidedBy}
 use Rattle.line_reader.specs.declared.fault.LineFault.TheVariants as line
 use Rattle.line_reader.specs.declared.why.Why.{Why}
 use Rattle.trace_check.specs.declared.fault.CheckFault.{CheckFault}
@@ -26,6 +27,12 @@ ComesTo whole so_far bytes left' (Ok verdict) = (left' ≡ Some []) × (whole by
 ComesTo whole so_far bytes left' (Err (fault.Refused number why)) = whole bytes ≡ Err (number, why)
 ComesTo whole so_far bytes left' (Err fault.Read) = (given : List ℕ) × BreaksOff left' bytes given × (so_far (whole_lines given) ≡ None)
 ComesTo whole so_far bytes left' (Err fault.Memory) = Unit {0}
+
+-- where a line is refused, at most 4,096 bytes were given past the byte that decided it
+abbrev pub LooksAhead : Option (List ℕ) → List ℕ → CheckFault → Type 0
+LooksAhead left' bytes (fault.Refused number w) = IsDecidedBy left' bytes number
+LooksAhead left' bytes fault.Read = Unit {0}
+LooksAhead left' bytes fault.Memory = Unit {0}
 
 -- a failed read has its fault
 abbrev pub HasFault : ℕ → ℕ → CheckFault → Type 0

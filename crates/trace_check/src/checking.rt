@@ -3,7 +3,7 @@ ghost use Rattle.check_text.specs.ImageLines.{IsHeaded};
 ghost use Rattle.check_text.specs.declared.heading.Heading.TheVariants as heading_kind;
 ghost use Rattle.line_reader.specs.Lines.{lines_of};
 ghost use Rattle.trace_check.specs.Checks.{checked, far_of, kv_form, kv_pb_form, kv_pb_verdict, kv_raft_form, kv_raft_verdict, kv_verdict, lock_form, lock_verdict, refused_so_far, said_of};
-ghost use Rattle.trace_check.specs.Outcomes.{ComesTo, HasFault};
+ghost use Rattle.trace_check.specs.Outcomes.{ComesTo, HasFault, LooksAhead};
 
 use crate::backup::backup_verdict;
 use crate::cluster::cluster_verdict;
@@ -57,6 +57,7 @@ fn kv_verdict(
 
 fn check_lock<S: Source>(alloc: Global, source: &mut S) -> Result<Verdict, CheckFault>
     ensures told { IfSome (S.left source.old) (λ bytes. ComesTo (λ bs. said_of lock_form lock_verdict (lines_of bs)) (far_of lock_form) bytes (S.left source.new) result) }
+    ensures ahead { IfSome (S.left source.old) (λ bytes. IfErr result (LooksAhead (S.left source.new) bytes)) }
     ensures fault { IfErr result (HasFault (S.faults source.old) (S.faults source.new)) }
     ensures counts { S.faults source.old ≤ S.faults source.new }
 {
@@ -67,6 +68,7 @@ fn check_lock<S: Source>(alloc: Global, source: &mut S) -> Result<Verdict, Check
 
 fn check_kv<S: Source>(alloc: Global, source: &mut S) -> Result<Verdict, CheckFault>
     ensures told { IfSome (S.left source.old) (λ bytes. ComesTo (λ bs. said_of kv_form kv_verdict (lines_of bs)) (far_of kv_form) bytes (S.left source.new) result) }
+    ensures ahead { IfSome (S.left source.old) (λ bytes. IfErr result (LooksAhead (S.left source.new) bytes)) }
     ensures fault { IfErr result (HasFault (S.faults source.old) (S.faults source.new)) }
     ensures counts { S.faults source.old ≤ S.faults source.new }
 {
@@ -77,6 +79,7 @@ fn check_kv<S: Source>(alloc: Global, source: &mut S) -> Result<Verdict, CheckFa
 
 fn check_kv_pb<S: Source>(alloc: Global, source: &mut S) -> Result<Verdict, CheckFault>
     ensures told { IfSome (S.left source.old) (λ bytes. ComesTo (λ bs. said_of kv_pb_form kv_pb_verdict (lines_of bs)) (far_of kv_pb_form) bytes (S.left source.new) result) }
+    ensures ahead { IfSome (S.left source.old) (λ bytes. IfErr result (LooksAhead (S.left source.new) bytes)) }
     ensures fault { IfErr result (HasFault (S.faults source.old) (S.faults source.new)) }
     ensures counts { S.faults source.old ≤ S.faults source.new }
 {
@@ -87,6 +90,7 @@ fn check_kv_pb<S: Source>(alloc: Global, source: &mut S) -> Result<Verdict, Chec
 
 fn check_kv_raft<S: Source>(alloc: Global, source: &mut S) -> Result<Verdict, CheckFault>
     ensures told { IfSome (S.left source.old) (λ bytes. ComesTo (λ bs. said_of kv_raft_form kv_raft_verdict (lines_of bs)) (far_of kv_raft_form) bytes (S.left source.new) result) }
+    ensures ahead { IfSome (S.left source.old) (λ bytes. IfErr result (LooksAhead (S.left source.new) bytes)) }
     ensures fault { IfErr result (HasFault (S.faults source.old) (S.faults source.new)) }
     ensures counts { S.faults source.old ≤ S.faults source.new }
 {
@@ -104,6 +108,7 @@ pub fn check<S: Source>(
     source: &mut S,
 ) -> Result<Verdict, CheckFault>
     ensures told { IfSome (S.left source.old) (λ bytes. ComesTo (checked stack) (refused_so_far stack) bytes (S.left source.new) result) }
+    ensures ahead { IfSome (S.left source.old) (λ bytes. IfErr result (LooksAhead (S.left source.new) bytes)) }
     ensures fault { IfErr result (HasFault (S.faults source.old) (S.faults source.new)) }
     ensures counts { S.faults source.old ≤ S.faults source.new }
 {

@@ -14,7 +14,8 @@ use handler_trait::Handlers;
 use vst_base::Machine;
 
 /// The verdict on a claim on a cluster is yes exactly where what clients saw is linearizable by the order. It holds of every
-/// machine over the types of `M`, and not of the meaning of `M` alone, and of every claim whose commands and outputs have texts.
+/// machine over the types of `M`, and not of the meaning of `M` alone, and of every claim whose commands and outputs have texts, where the
+/// machine's own outputs have texts too.
 pub fn yes_is_linearizable<M: Machine, A: AppText<Input = M::Cmd, Output = M::Out>>()
     ensures { (m : MachineMeaning M.State M.Cmd M.Out) (c : ClusterClaim M.Cmd M.Out) → AreSpelled A.is_input A.is_output m c
         → (cluster_verdict A.input_text A.output_text m c ≡ Verdict.Yes) ↔ IsLinearizable m c.image c.trace }
@@ -28,7 +29,8 @@ pub fn yes_is_what_clients_see<H: Handlers, A: AppText<Input = H::Input, Output 
 {}
 
 /// The verdict on a claim on a primary and its backup is yes exactly where one machine explains what clients saw, and the image
-/// reads as what it took. It holds of every machine over the types of `M`, and of every claim whose outputs have texts.
+/// reads as what it took. It holds of every machine over the types of `M`, and of every claim whose outputs have texts, where the
+/// machine's own outputs have texts too.
 pub fn yes_is_one_machine<M: Machine, A: AppText<Input = M::Cmd, Output = M::Out>>()
     ensures { (m : MachineMeaning M.State M.Cmd M.Out) (c : BackupClaim M.Cmd M.Out) → AreSpelledReplies A.is_output m c
         → (backup_verdict A.input_text A.output_text m c ≡ Verdict.Yes) ↔ IsExplained A.input_text m c }

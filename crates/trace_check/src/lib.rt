@@ -31,6 +31,6 @@ pub use checking::check;
 pub use cluster_rows::worked_clusters;
 pub use fault::CheckFault;
 pub use laws::{yes_is_linearizable, yes_is_one_machine, yes_is_what_clients_see};
-pub use refusal_rows::worked_refusals;
+pub use refusal_rows::{worked_breaks, worked_refusals};
 pub use schedule_rows::worked_schedules;
 pub use verdict::Verdict;

@@ -1,5 +1,6 @@
-ghost use Rattle.std.specs.Prelude.{◌≡◌, Err, Ok, codes};
-ghost use Rattle.trace_check.specs.Checks.{checked};
+ghost use Rattle.std.specs.Prelude.{◌≡◌, Err, None, Ok, Some, codes};
+ghost use Rattle.line_reader.specs.Lines.{whole_lines};
+ghost use Rattle.trace_check.specs.Checks.{checked, refused_so_far};
 
 use crate::Verdict;
 use line_reader::Why;
@@ -36,4 +37,18 @@ pub fn worked_refusals()
     ensures order_alone { checked StackId.KvRaft (codes "below\norder\n") ≡ Err (2, Why.UnknownWord) }
     ensures order_of_no_request { checked StackId.KvRaft (codes "below\norder 7 01 get a\n") ≡ Err (2, Why.Text) }
     ensures refused_before_any_verdict { checked StackId.Lock (codes "out 1 locked\nbelow\nschedule 1 bag lock 2\ngrab\n") ≡ Err (4, Why.UnknownWord) }
+    ensures no_claims_yet { checked StackId.Table (codes "below\n") ≡ Err (1, Why.Header) }
+{}
+
+/// The lines of texts that broke off which are refused whatever follows them: a text that ends too early may still go on, and the
+/// line in which it broke off may still change.
+pub fn worked_breaks()
+    ensures in_a_trace { refused_so_far StackId.Lock (whole_lines (codes "in 1 lock\nbel")) ≡ None }
+    ensures behind_a_refused_line { refused_so_far StackId.Lock (whole_lines (codes "in 1 lock\non 1 lock\nin 1")) ≡ Some (2, Why.UnknownWord) }
+    ensures in_a_refused_line { refused_so_far StackId.Lock (whole_lines (codes "in 1 lock\non 1 lo")) ≡ None }
+    ensures before_the_header { refused_so_far StackId.Lock (whole_lines (codes "below\n")) ≡ None }
+    ensures behind_another_header { refused_so_far StackId.KvPb (whole_lines (codes "below\nschedule 1 bag lock 2\nin")) ≡ Some (2, Why.Header) }
+    ensures in_an_image { refused_so_far StackId.Kv (whole_lines (codes "below\nschedule 1 one kv 1\nin 0 get")) ≡ None }
+    ensures in_an_order { refused_so_far StackId.KvRaft (whole_lines (codes "below\norder 7 01 get a\norder")) ≡ Some (2, Why.Text) }
+    ensures no_claims_yet { refused_so_far StackId.Table (whole_lines (codes "bel")) ≡ Some (1, Why.Header) }
 {}

@@ -1,6 +1,6 @@
 use Rattle.std.proofs.Common.{◌∙◌, refl, arith}
 use Rattle.check_text.specs.Forms.{form_of}
-use Rattle.check_text.proofs.Readings.{claim-ended, ends-cause, if-some, line-refused, line-taken, none-so-far}
+use Rattle.check_text.proofs.Readings.{ahead-ended, ahead-refused, claim-ended, ends-cause, if-some, line-refused, line-taken, none-so-far}
 use Rattle.check_text.proofs.reading.read_claim.Goals as goal
 
 pub loop-fault-init : goal.loop-fault-init
@@ -57,3 +57,18 @@ loop-fault-preserved g c =
       most = c.next_line.ensures.kept.0 ∙ inv.most;
       counts = omega (arith, inv.counts, c.next_line.ensures.counts);
     }
+
+pub returns-in-Err-clause-ahead : goal.returns-in-Err-clause-ahead
+returns-in-Err-clause-ahead g c = if-some _ _ (λ bytes has.
+    let f = form_of c.args.nodes g.A.AppText.input_of g.A.AppText.output_of c.args.heading g.G.ImageText.says in
+    let s = c.loop-fault.invariant.told bytes has in
+    ahead-ended f c.loop-fault.reader c.next_line.new.reader c.loop-fault.draft c.loop-fault.draft (g.S.Source.left c.loop-fault.source) (g.S.Source.left c.next_line.new.source) bytes s
+    (Unit {0}) c.in-Err.fault c.end_claim.result (c.in-Err.ensures.told s.uses.rest' s.uses.left) c.in-Err.ensures.still (c.end_claim.ensures.ends c.args.nodes c.args.heading))
+
+pub returns-in-Some-clause-ahead : goal.returns-in-Some-clause-ahead
+returns-in-Some-clause-ahead g c = if-some _ _ (λ bytes has.
+    let f = form_of c.args.nodes g.A.AppText.input_of g.A.AppText.output_of c.args.heading g.G.ImageText.says in
+    let s = c.loop-fault.invariant.told bytes has in
+    let reads = c.in-Ok.ensures.told s.uses.rest' s.uses.left in
+    rw c.refuse.ensures (ahead-refused f c.loop-fault.reader c.next_line.new.reader c.loop-fault.draft c.take_line.new.draft (g.S.Source.left c.loop-fault.source) (g.S.Source.left c.next_line.new.source) bytes s
+    c.in-Some.why reads.2))
