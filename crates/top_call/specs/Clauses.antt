@@ -10,7 +10,7 @@ use Rattle.command_line.specs.declared.command.Command.{Command}
 use Rattle.command_line.specs.declared.command.Command.TheVariants as command
 use Rattle.schedule_replay.specs.Explained.{IsExplained}
 use Rattle.permitted_claims.specs.Permitted.{IsPermitted}
-use Rattle.top_call.specs.Answers.{Answer, answer_by, condition_line, so_far_by, usage_line, read_failed_line, memory_line}
+use Rattle.top_call.specs.Answers.{Answer, answer_by, condition_line, memory_line, permitted_line, read_failed_line, so_far_by, usage_line}
 
 -- a status of the program
 abbrev pub IsStatus : ℕ → Type 0
@@ -39,6 +39,19 @@ IsExplainedInput None bytes = Unit {0}
 IsExplainedInput (Some command.Replay) bytes = IsExplained bytes
 IsExplainedInput (Some (command.Check s)) bytes = IsPermitted s bytes
 
+-- what a check leaves on the output, whatever its input tells: at 0 its line, at 1, 3 and 4 nothing, and always a front of the line
+pub record SaysVerdict (status : ℕ) (out out' : Option (List ℕ)) : Type 0 where
+  pub permitted : status ≡ 0 → Gained out out' permitted_line
+  pub nothing : (status ≡ 1) ⊎ (status ≡ 3) ⊎ (status ≡ 4) → out' ≡ out
+  pub front : GainedFront out out' permitted_line
+
+-- what a command leaves on the output whatever its input tells: a check what it says of a claim, and where the words name no
+-- command nothing. Of a replay nothing is said where its input tells nothing
+abbrev pub SaysItsOwn : Option Command → ℕ → Streams → Type 0
+SaysItsOwn None status s = s.out' ≡ s.out
+SaysItsOwn (Some command.Replay) status s = Unit {0}
+SaysItsOwn (Some (command.Check stack)) status s = SaysVerdict status s.out s.out'
+
 -- 1: a condition of a claim is false. The input was read to its end, nothing was written on the output, and on the error stream
 -- the condition and its line
 pub record IsDenied (answer : List ℕ → Answer) (s : Streams) : Type 0 where
@@ -63,13 +76,8 @@ pub record IsIdle (s : Streams) (answered : ℕ) : Type 0 where
   pub left : s.left' ≡ s.left
   pub out : s.out' ≡ s.out
 
--- of the input of a replay at most 4,096 bytes were given past the byte that decided this line
-abbrev pub LooksAhead : Option Command → ℕ → Streams → List ℕ → Type 0
-LooksAhead None line s bytes = Unit {0}
-LooksAhead (Some command.Replay) line s bytes = (given : List ℕ) × Gave s.left s.left' given × (length given ≤ decided line bytes + 4096)
-LooksAhead (Some (command.Check stack)) line s bytes = Unit {0}
-
--- 3: a line is refused, the output gained what the command writes before it, and the error stream its line
+-- 3: a line is refused, the output gained what the command writes before it, and the error stream its line. At most 4,096
+-- bytes of the input were given past the byte that decided the line
 pub record IsLineRefused (command : Option Command) (s : Streams) : Type 0 where
   pub line : ℕ
   pub why : Why
@@ -77,7 +85,7 @@ pub record IsLineRefused (command : Option Command) (s : Streams) : Type 0 where
   pub out : IfSome s.left (λ bytes. Gained s.out s.out' (answer_by command bytes).out)
   pub err : Gained s.err s.err' (refusal_line line why)
   pub named : IfSome s.left (λ bytes. (answer_by command bytes).err ≡ refusal_line line why)
-  pub ahead : IfSome s.left (LooksAhead command line s)
+  pub ahead : IfSome s.left (λ bytes. (given : List ℕ) × Gave s.left s.left' given × (length given ≤ decided line bytes + 4096))
 
 -- 4: a read failed, no whole line that was given is refused, what stands behind the last is not too long yet, and the output
 -- gained exactly what the command writes for them
@@ -86,18 +94,19 @@ pub record HasReadFailed (command : Option Command) (read read' : ℕ) (s : Stre
   pub given : IfSome s.left (λ bytes. (given : List ℕ) × Gave s.left s.left' given × (length (split_lines given).1 ≤ 4096) × ((so_far_by command given).refused ≡ None) × Gained s.out s.out' (so_far_by command given).out)
   pub err : Gained s.err s.err' read_failed_line
 
--- 5: a write failed, and the output gained a front of what it gains otherwise
-pub record HasWriteFailed (answer : List ℕ → Answer) (write write' complain complain' : ℕ) (s : Streams) : Type 0 where
-  pub rose : Rose write write' ⊎ Rose complain complain'
-  pub out : IfSome s.left (λ bytes. GainedFront s.out s.out' (answer bytes).out)
-
--- a line that was being written on the error stream when it answered want of memory itself: that of want of memory, that of
+-- a line that was being written on the error stream when it failed or answered want of memory itself: that of want of memory, that of
 -- words that are refused, that of a read that failed, that of a refused line, or that of a false condition
 abbrev pub WasWriting : (List ℕ → Answer) → Type 0 → Type 0 → Streams → Type 0
 WasWriting answer unknown unread s =
     GainedFront s.err s.err' memory_line ⊎ (unknown × GainedFront s.err s.err' usage_line) ⊎ (unread × GainedFront s.err s.err' read_failed_line)
     ⊎ ((line : ℕ) × (why : Why) × GainedFront s.err s.err' (refusal_line line why) × IfSome s.left (λ bytes. (answer bytes).err ≡ refusal_line line why))
     ⊎ ((condition line : ℕ) × GainedFront s.err s.err' (condition_line condition line) × IfSome s.left (λ bytes. (answer bytes).err ≡ condition_line condition line))
+
+-- 5: a write failed, and the output gained a front of what it gains otherwise; the error stream is as it was, or, where it failed
+-- itself, gained a front of the line that was being written
+pub record HasWriteFailed (answer : List ℕ → Answer) (unknown unread : Type 0) (write write' complain complain' : ℕ) (s : Streams) : Type 0 where
+  pub out : IfSome s.left (λ bytes. GainedFront s.out s.out' (answer bytes).out)
+  pub err : (Rose write write' × (s.err' ≡ s.err)) ⊎ (Rose complain complain' × WasWriting answer unknown unread s)
 
 -- 8: want of memory; the error stream gained its line, or, where it answered want of memory itself, a front of that or of
 -- the line that was being written
@@ -109,7 +118,7 @@ pub record IsOutOfMemory (answer : List ℕ → Answer) (unknown unread : Type 0
 abbrev pub Said : ℕ → List ℕ → Option (List ℕ) → Option (List ℕ) → ℕ → ℕ → ℕ → ℕ → ℕ → Type 0
 Said status line err err' faults faults' wants wants' result =
     ((result ≡ status) × Gained err err' line)
-    ⊎ ((result ≡ 5) × Rose faults faults')
+    ⊎ ((result ≡ 5) × Rose faults faults' × GainedFront err err' line)
     ⊎ ((result ≡ 8) × Rose wants wants' × GainedFront err err' line)
 
 -- where no count of input, output and error stream rose, the status is the answer's, or 8

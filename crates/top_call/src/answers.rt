@@ -2,7 +2,7 @@ ghost use Rattle.std.specs.Prelude.{◌≡◌, ◌≤◌, ℕ, map, false, strin
 ghost use Rattle.outside.specs.Counting.{Rose};
 ghost use Rattle.command_line.specs.CommandSet.{command_of, takes_words};
 ghost use Rattle.top_call.specs.Answers.{answered};
-ghost use Rattle.top_call.specs.Clauses.{AreWordsRefused, HasReadFailed, HasWriteFailed, IsComplete, IsDenied, IsDone, IsExplainedInput, IsIdle, IsLineRefused, IsOutOfMemory, IsStatus};
+ghost use Rattle.top_call.specs.Clauses.{AreWordsRefused, HasReadFailed, HasWriteFailed, IsComplete, IsDenied, IsDone, IsExplainedInput, IsIdle, IsLineRefused, IsOutOfMemory, IsStatus, SaysItsOwn};
 
 use crate::checking::run_check;
 use crate::replaying::run_replay;
@@ -75,7 +75,7 @@ pub fn run<S: Source, O: Sink, E: Sink, D: Device>(
       err = E.written err.old;
       err' = E.written err.new;
     }) }
-    ensures write { result ≡ 5 → HasWriteFailed (answered (map string_bytes words.now)) (O.faults out.old) (O.faults out.new) (E.faults err.old) (E.faults err.new) (record {
+    ensures write { result ≡ 5 → HasWriteFailed (answered (map string_bytes words.now)) (takes_words (map string_bytes words.now) ≡ false) (Rose (S.faults input.old) (S.faults input.new)) (O.faults out.old) (O.faults out.new) (E.faults err.old) (E.faults err.new) (record {
       left = S.left input.old;
       left' = S.left input.new;
       out = O.written out.old;
@@ -84,6 +84,14 @@ pub fn run<S: Source, O: Sink, E: Sink, D: Device>(
       err' = E.written err.new;
     }) }
     ensures memory { result ≡ 8 → IsOutOfMemory (answered (map string_bytes words.now)) (takes_words (map string_bytes words.now) ≡ false) (Rose (S.faults input.old) (S.faults input.new)) (E.wants err.old) (E.wants err.new) (record {
+      left = S.left input.old;
+      left' = S.left input.new;
+      out = O.written out.old;
+      out' = O.written out.new;
+      err = E.written err.old;
+      err' = E.written err.new;
+    }) }
+    ensures verdict { SaysItsOwn (command_of (map string_bytes words.now)) result (record {
       left = S.left input.old;
       left' = S.left input.new;
       out = O.written out.old;

@@ -1,5 +1,5 @@
 use super::tests::{Ran, came_to, repeated, run_over, sink, source};
-use outside_mem::MemorySink;
+use outside_mem::{MemorySink, MemorySource};
 use std::alloc::{AllocError, Global};
 use std::test::Fail;
 
@@ -179,9 +179,8 @@ fn how_a_text_is_cut_changes_no_verdict(rt: HostRuntime) -> Result<(), Fail> {
     Ok(())
 }
 
-// Checks a claim that holds, which comes in pieces of ten bytes, where these reads fail.
-fn check_over(alloc: Global, failing: Vec<u64>, out: MemorySink) -> Result<Ran, AllocError> {
-    let source = source(alloc, PUT_IN_AGAIN, 10, failing)?;
+// Checks the claim on a cluster that a source gives, where the error stream does not fail.
+fn check_over(alloc: Global, source: MemorySource, out: MemorySink) -> Result<Ran, AllocError> {
     let err = sink(alloc, 100, Vec::new(alloc));
     run_over(
         alloc,
@@ -195,17 +194,30 @@ fn check_over(alloc: Global, failing: Vec<u64>, out: MemorySink) -> Result<Ran, 
 #[test]
 fn a_check_that_cannot_read_says_so(rt: HostRuntime) -> Result<(), Fail> {
     let alloc = rt.alloc();
-    let failing = vec![in alloc; 3]?;
-    let ran = check_over(alloc, failing, sink(alloc, 100, Vec::new(alloc)))?;
+    let source = source(alloc, PUT_IN_AGAIN, 10, vec![in alloc; 3]?)?;
+    let ran = check_over(alloc, source, sink(alloc, 100, Vec::new(alloc)))?;
     assert!(rt; came_to(&ran, 4, b"", b"read\n"));
+    Ok(())
+}
+
+#[test]
+fn a_refused_line_of_a_claim_comes_before_a_read_that_would_fail(
+    rt: HostRuntime,
+) -> Result<(), Fail> {
+    let alloc = rt.alloc();
+    let text = b"below\norder 7 01 get a\norder 7 1 get a\n";
+    let source = source(alloc, text, 30, vec![in alloc; 2]?)?;
+    let ran = check_over(alloc, source, sink(alloc, 100, Vec::new(alloc)))?;
+    assert!(rt; came_to(&ran, 3, b"", b"line 2: text\n"));
+    assert!(rt; ran.source.calls() == 1);
     Ok(())
 }
 
 #[test]
 fn a_check_that_cannot_write_says_so(rt: HostRuntime) -> Result<(), Fail> {
     let alloc = rt.alloc();
-    let out = sink(alloc, 4, vec![in alloc; 2]?);
-    let ran = check_over(alloc, Vec::new(alloc), out)?;
+    let source = source(alloc, PUT_IN_AGAIN, 10, Vec::new(alloc))?;
+    let ran = check_over(alloc, source, sink(alloc, 4, vec![in alloc; 2]?))?;
     assert!(rt; ran.status == 5);
     assert!(rt; ran.out.written() == b"perm".as_slice());
     Ok(())

@@ -3,7 +3,7 @@ ghost use Rattle.command_line.specs.declared.command.Command.TheVariants as comm
 ghost use Rattle.outside.specs.Counting.{Rose};
 ghost use Rattle.permitted_claims.specs.Permitted.{IsPermitted};
 ghost use Rattle.top_call.specs.Answers.{answer_by};
-ghost use Rattle.top_call.specs.Clauses.{HasReadFailed, HasWriteFailed, IsComplete, IsDenied, IsDone, IsLineRefused, IsOutOfMemory, IsStatus};
+ghost use Rattle.top_call.specs.Clauses.{HasReadFailed, HasWriteFailed, IsComplete, IsDenied, IsDone, IsLineRefused, IsOutOfMemory, IsStatus, SaysVerdict};
 
 use crate::deny::deny;
 use crate::refuse::refuse;
@@ -60,7 +60,7 @@ pub(crate) fn run_check<S: Source, O: Sink, E: Sink>(
       err = E.written err.old;
       err' = E.written err.new;
     }) }
-    ensures write { result ≡ 5 → HasWriteFailed (answer_by (Some (command.Check stack))) (O.faults out.old) (O.faults out.new) (E.faults err.old) (E.faults err.new) (record {
+    ensures write { result ≡ 5 → HasWriteFailed (answer_by (Some (command.Check stack))) ⊥ (Rose (S.faults input.old) (S.faults input.new)) (O.faults out.old) (O.faults out.new) (E.faults err.old) (E.faults err.new) (record {
       left = S.left input.old;
       left' = S.left input.new;
       out = O.written out.old;
@@ -76,6 +76,7 @@ pub(crate) fn run_check<S: Source, O: Sink, E: Sink>(
       err = E.written err.old;
       err' = E.written err.new;
     }) }
+    ensures verdict { SaysVerdict result (O.written out.old) (O.written out.new) }
     ensures reads { S.faults input.old ≤ S.faults input.new }
     ensures writes { O.faults out.old ≤ O.faults out.new }
     ensures complains { E.faults err.old ≤ E.faults err.new }

@@ -50,7 +50,7 @@ pub(crate) fn run_replay<S: Source, O: Sink, E: Sink>(
       err = E.written err.old;
       err' = E.written err.new;
     }) }
-    ensures write { result ≡ 5 → HasWriteFailed (λ bytes. answer_of (replayed bytes)) (O.faults out.old) (O.faults out.new) (E.faults err.old) (E.faults err.new) (record {
+    ensures write { result ≡ 5 → HasWriteFailed (λ bytes. answer_of (replayed bytes)) ⊥ (Rose (S.faults input.old) (S.faults input.new)) (O.faults out.old) (O.faults out.new) (E.faults err.old) (E.faults err.new) (record {
       left = S.left input.old;
       left' = S.left input.new;
       out = O.written out.old;
