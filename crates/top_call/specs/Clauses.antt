@@ -25,6 +25,9 @@ pub record Streams : Type 0 where
   pub err : Option (List ℕ)
   pub err' : Option (List ℕ)
 
+abbrev pub streams : (left left' out out' err err' : Option (List ℕ)) → Streams
+streams left left' out out' err err' = record { left = left; left' = left'; out = out; out' = out'; err = err; err' = err' }
+
 -- 0: the input was read to its end, and the output gained the whole text
 pub record IsDone (answer : List ℕ → Answer) (s : Streams) : Type 0 where
   pub ended : IfSome s.left (λ bytes. s.left' ≡ Some [])

@@ -2,7 +2,7 @@ ghost use Rattle.std.specs.Prelude.{◌≡◌, ◌≤◌, ℕ, map, false, strin
 ghost use Rattle.outside.specs.Counting.{Rose};
 ghost use Rattle.command_line.specs.CommandSet.{command_of, takes_words};
 ghost use Rattle.top_call.specs.Answers.{answered};
-ghost use Rattle.top_call.specs.Clauses.{AreWordsRefused, HasReadFailed, HasWriteFailed, IsComplete, IsDenied, IsDone, IsExplainedInput, IsIdle, IsLineRefused, IsOutOfMemory, IsStatus, SaysItsOwn};
+ghost use Rattle.top_call.specs.Clauses.{AreWordsRefused, HasReadFailed, HasWriteFailed, IsComplete, IsDenied, IsDone, IsExplainedInput, IsIdle, IsLineRefused, IsOutOfMemory, IsStatus, SaysItsOwn, streams};
 
 use crate::checking::run_check;
 use crate::replaying::run_replay;
@@ -26,79 +26,16 @@ pub fn run<S: Source, O: Sink, E: Sink, D: Device>(
     ensures status { IsStatus result }
     ensures complete { IsComplete (answered (map string_bytes words.now)) (S.left input.old) (Rose (S.faults input.old) (S.faults input.new))
         (Rose (O.faults out.old) (O.faults out.new)) (Rose (E.faults err.old) (E.faults err.new)) result }
-    ensures done { result ≡ 0 → IsDone (answered (map string_bytes words.now)) (record {
-      left = S.left input.old;
-      left' = S.left input.new;
-      out = O.written out.old;
-      out' = O.written out.new;
-      err = E.written err.old;
-      err' = E.written err.new;
-    }) }
+    ensures done { result ≡ 0 → IsDone (answered (map string_bytes words.now)) (streams (S.left input.old) (S.left input.new) (O.written out.old) (O.written out.new) (E.written err.old) (E.written err.new)) }
     ensures explained { result ≡ 0 → IfSome (S.left input.old) (λ bytes. IsExplainedInput (command_of (map string_bytes words.now)) bytes) }
-    ensures denied { result ≡ 1 → IsDenied (answered (map string_bytes words.now)) (record {
-      left = S.left input.old;
-      left' = S.left input.new;
-      out = O.written out.old;
-      out' = O.written out.new;
-      err = E.written err.old;
-      err' = E.written err.new;
-    }) }
-    ensures words { result ≡ 2 → AreWordsRefused (map string_bytes words.now) (record {
-      left = S.left input.old;
-      left' = S.left input.new;
-      out = O.written out.old;
-      out' = O.written out.new;
-      err = E.written err.old;
-      err' = E.written err.new;
-    }) }
-    ensures words_only { takes_words (map string_bytes words.now) ≡ false → IsIdle (record {
-      left = S.left input.old;
-      left' = S.left input.new;
-      out = O.written out.old;
-      out' = O.written out.new;
-      err = E.written err.old;
-      err' = E.written err.new;
-    }) result }
-    ensures refused { result ≡ 3 → IsLineRefused (command_of (map string_bytes words.now)) (record {
-      left = S.left input.old;
-      left' = S.left input.new;
-      out = O.written out.old;
-      out' = O.written out.new;
-      err = E.written err.old;
-      err' = E.written err.new;
-    }) }
-    ensures read { result ≡ 4 → HasReadFailed (command_of (map string_bytes words.now)) (S.faults input.old) (S.faults input.new) (record {
-      left = S.left input.old;
-      left' = S.left input.new;
-      out = O.written out.old;
-      out' = O.written out.new;
-      err = E.written err.old;
-      err' = E.written err.new;
-    }) }
-    ensures write { result ≡ 5 → HasWriteFailed (answered (map string_bytes words.now)) (takes_words (map string_bytes words.now) ≡ false) (Rose (S.faults input.old) (S.faults input.new)) (O.faults out.old) (O.faults out.new) (E.faults err.old) (E.faults err.new) (record {
-      left = S.left input.old;
-      left' = S.left input.new;
-      out = O.written out.old;
-      out' = O.written out.new;
-      err = E.written err.old;
-      err' = E.written err.new;
-    }) }
-    ensures memory { result ≡ 8 → IsOutOfMemory (answered (map string_bytes words.now)) (takes_words (map string_bytes words.now) ≡ false) (Rose (S.faults input.old) (S.faults input.new)) (E.wants err.old) (E.wants err.new) (record {
-      left = S.left input.old;
-      left' = S.left input.new;
-      out = O.written out.old;
-      out' = O.written out.new;
-      err = E.written err.old;
-      err' = E.written err.new;
-    }) }
-    ensures verdict { SaysItsOwn (command_of (map string_bytes words.now)) result (record {
-      left = S.left input.old;
-      left' = S.left input.new;
-      out = O.written out.old;
-      out' = O.written out.new;
-      err = E.written err.old;
-      err' = E.written err.new;
-    }) }
+    ensures denied { result ≡ 1 → IsDenied (answered (map string_bytes words.now)) (streams (S.left input.old) (S.left input.new) (O.written out.old) (O.written out.new) (E.written err.old) (E.written err.new)) }
+    ensures words { result ≡ 2 → AreWordsRefused (map string_bytes words.now) (streams (S.left input.old) (S.left input.new) (O.written out.old) (O.written out.new) (E.written err.old) (E.written err.new)) }
+    ensures words_only { takes_words (map string_bytes words.now) ≡ false → IsIdle (streams (S.left input.old) (S.left input.new) (O.written out.old) (O.written out.new) (E.written err.old) (E.written err.new)) result }
+    ensures refused { result ≡ 3 → IsLineRefused (command_of (map string_bytes words.now)) (streams (S.left input.old) (S.left input.new) (O.written out.old) (O.written out.new) (E.written err.old) (E.written err.new)) }
+    ensures read { result ≡ 4 → HasReadFailed (command_of (map string_bytes words.now)) (S.faults input.old) (S.faults input.new) (streams (S.left input.old) (S.left input.new) (O.written out.old) (O.written out.new) (E.written err.old) (E.written err.new)) }
+    ensures write { result ≡ 5 → HasWriteFailed (answered (map string_bytes words.now)) (takes_words (map string_bytes words.now) ≡ false) (Rose (S.faults input.old) (S.faults input.new)) (O.faults out.old) (O.faults out.new) (E.faults err.old) (E.faults err.new) (streams (S.left input.old) (S.left input.new) (O.written out.old) (O.written out.new) (E.written err.old) (E.written err.new)) }
+    ensures memory { result ≡ 8 → IsOutOfMemory (answered (map string_bytes words.now)) (takes_words (map string_bytes words.now) ≡ false) (Rose (S.faults input.old) (S.faults input.new)) (E.wants err.old) (E.wants err.new) (streams (S.left input.old) (S.left input.new) (O.written out.old) (O.written out.new) (E.written err.old) (E.written err.new)) }
+    ensures verdict { SaysItsOwn (command_of (map string_bytes words.now)) result (streams (S.left input.old) (S.left input.new) (O.written out.old) (O.written out.new) (E.written err.old) (E.written err.new)) }
     ensures reads { S.faults input.old ≤ S.faults input.new }
     ensures writes { O.faults out.old ≤ O.faults out.new }
     ensures complains { E.faults err.old ≤ E.faults err.new }

@@ -3,7 +3,7 @@ ghost use Rattle.command_line.specs.declared.command.Command.TheVariants as comm
 ghost use Rattle.outside.specs.Counting.{Rose};
 ghost use Rattle.permitted_claims.specs.Permitted.{IsPermitted};
 ghost use Rattle.top_call.specs.Answers.{answer_by};
-ghost use Rattle.top_call.specs.Clauses.{HasReadFailed, HasWriteFailed, IsComplete, IsDenied, IsDone, IsLineRefused, IsOutOfMemory, IsStatus, SaysVerdict};
+ghost use Rattle.top_call.specs.Clauses.{HasReadFailed, HasWriteFailed, IsComplete, IsDenied, IsDone, IsLineRefused, IsOutOfMemory, IsStatus, SaysVerdict, streams};
 
 use crate::deny::deny;
 use crate::refuse::refuse;
@@ -26,56 +26,14 @@ pub(crate) fn run_check<S: Source, O: Sink, E: Sink>(
     ensures status { IsStatus result }
     ensures complete { IsComplete (answer_by (Some (command.Check stack))) (S.left input.old) (Rose (S.faults input.old) (S.faults input.new))
         (Rose (O.faults out.old) (O.faults out.new)) (Rose (E.faults err.old) (E.faults err.new)) result }
-    ensures done { result ≡ 0 → IsDone (answer_by (Some (command.Check stack))) (record {
-      left = S.left input.old;
-      left' = S.left input.new;
-      out = O.written out.old;
-      out' = O.written out.new;
-      err = E.written err.old;
-      err' = E.written err.new;
-    }) }
+    ensures done { result ≡ 0 → IsDone (answer_by (Some (command.Check stack))) (streams (S.left input.old) (S.left input.new) (O.written out.old) (O.written out.new) (E.written err.old) (E.written err.new)) }
     ensures explained { result ≡ 0 → IfSome (S.left input.old) (λ bytes. IsPermitted stack bytes) }
-    ensures denied { result ≡ 1 → IsDenied (answer_by (Some (command.Check stack))) (record {
-      left = S.left input.old;
-      left' = S.left input.new;
-      out = O.written out.old;
-      out' = O.written out.new;
-      err = E.written err.old;
-      err' = E.written err.new;
-    }) }
+    ensures denied { result ≡ 1 → IsDenied (answer_by (Some (command.Check stack))) (streams (S.left input.old) (S.left input.new) (O.written out.old) (O.written out.new) (E.written err.old) (E.written err.new)) }
     ensures words { result ≢ 2 }
-    ensures refused { result ≡ 3 → IsLineRefused (Some (command.Check stack)) (record {
-      left = S.left input.old;
-      left' = S.left input.new;
-      out = O.written out.old;
-      out' = O.written out.new;
-      err = E.written err.old;
-      err' = E.written err.new;
-    }) }
-    ensures read { result ≡ 4 → HasReadFailed (Some (command.Check stack)) (S.faults input.old) (S.faults input.new) (record {
-      left = S.left input.old;
-      left' = S.left input.new;
-      out = O.written out.old;
-      out' = O.written out.new;
-      err = E.written err.old;
-      err' = E.written err.new;
-    }) }
-    ensures write { result ≡ 5 → HasWriteFailed (answer_by (Some (command.Check stack))) ⊥ (Rose (S.faults input.old) (S.faults input.new)) (O.faults out.old) (O.faults out.new) (E.faults err.old) (E.faults err.new) (record {
-      left = S.left input.old;
-      left' = S.left input.new;
-      out = O.written out.old;
-      out' = O.written out.new;
-      err = E.written err.old;
-      err' = E.written err.new;
-    }) }
-    ensures memory { result ≡ 8 → IsOutOfMemory (answer_by (Some (command.Check stack))) ⊥ (Rose (S.faults input.old) (S.faults input.new)) (E.wants err.old) (E.wants err.new) (record {
-      left = S.left input.old;
-      left' = S.left input.new;
-      out = O.written out.old;
-      out' = O.written out.new;
-      err = E.written err.old;
-      err' = E.written err.new;
-    }) }
+    ensures refused { result ≡ 3 → IsLineRefused (Some (command.Check stack)) (streams (S.left input.old) (S.left input.new) (O.written out.old) (O.written out.new) (E.written err.old) (E.written err.new)) }
+    ensures read { result ≡ 4 → HasReadFailed (Some (command.Check stack)) (S.faults input.old) (S.faults input.new) (streams (S.left input.old) (S.left input.new) (O.written out.old) (O.written out.new) (E.written err.old) (E.written err.new)) }
+    ensures write { result ≡ 5 → HasWriteFailed (answer_by (Some (command.Check stack))) ⊥ (Rose (S.faults input.old) (S.faults input.new)) (O.faults out.old) (O.faults out.new) (E.faults err.old) (E.faults err.new) (streams (S.left input.old) (S.left input.new) (O.written out.old) (O.written out.new) (E.written err.old) (E.written err.new)) }
+    ensures memory { result ≡ 8 → IsOutOfMemory (answer_by (Some (command.Check stack))) ⊥ (Rose (S.faults input.old) (S.faults input.new)) (E.wants err.old) (E.wants err.new) (streams (S.left input.old) (S.left input.new) (O.written out.old) (O.written out.new) (E.written err.old) (E.written err.new)) }
     ensures verdict { SaysVerdict result (O.written out.old) (O.written out.new) }
     ensures reads { S.faults input.old ≤ S.faults input.new }
     ensures writes { O.faults out.old ≤ O.faults out.new }

@@ -4,7 +4,7 @@ ghost use Rattle.outside.specs.Counting.{Rose};
 ghost use Rattle.schedule_replay.specs.Explained.{IsExplained};
 ghost use Rattle.schedule_replay.specs.Replays.{replayed};
 ghost use Rattle.top_call.specs.Answers.{answer_of};
-ghost use Rattle.top_call.specs.Clauses.{HasReadFailed, HasWriteFailed, IsComplete, IsDone, IsLineRefused, IsOutOfMemory, IsStatus};
+ghost use Rattle.top_call.specs.Clauses.{HasReadFailed, HasWriteFailed, IsComplete, IsDone, IsLineRefused, IsOutOfMemory, IsStatus, streams};
 
 use crate::refuse::refuse;
 use crate::say::say;
@@ -23,49 +23,14 @@ pub(crate) fn run_replay<S: Source, O: Sink, E: Sink>(
     ensures status { IsStatus result }
     ensures complete { IsComplete (λ bytes. answer_of (replayed bytes)) (S.left input.old) (Rose (S.faults input.old) (S.faults input.new))
         (Rose (O.faults out.old) (O.faults out.new)) (Rose (E.faults err.old) (E.faults err.new)) result }
-    ensures done { result ≡ 0 → IsDone (λ bytes. answer_of (replayed bytes)) (record {
-      left = S.left input.old;
-      left' = S.left input.new;
-      out = O.written out.old;
-      out' = O.written out.new;
-      err = E.written err.old;
-      err' = E.written err.new;
-    }) }
+    ensures done { result ≡ 0 → IsDone (λ bytes. answer_of (replayed bytes)) (streams (S.left input.old) (S.left input.new) (O.written out.old) (O.written out.new) (E.written err.old) (E.written err.new)) }
     ensures explained { result ≡ 0 → IfSome (S.left input.old) (λ bytes. IsExplained bytes) }
     ensures denied { result ≢ 1 }
     ensures words { result ≢ 2 }
-    ensures refused { result ≡ 3 → IsLineRefused (Some command.Replay) (record {
-      left = S.left input.old;
-      left' = S.left input.new;
-      out = O.written out.old;
-      out' = O.written out.new;
-      err = E.written err.old;
-      err' = E.written err.new;
-    }) }
-    ensures read { result ≡ 4 → HasReadFailed (Some command.Replay) (S.faults input.old) (S.faults input.new) (record {
-      left = S.left input.old;
-      left' = S.left input.new;
-      out = O.written out.old;
-      out' = O.written out.new;
-      err = E.written err.old;
-      err' = E.written err.new;
-    }) }
-    ensures write { result ≡ 5 → HasWriteFailed (λ bytes. answer_of (replayed bytes)) ⊥ (Rose (S.faults input.old) (S.faults input.new)) (O.faults out.old) (O.faults out.new) (E.faults err.old) (E.faults err.new) (record {
-      left = S.left input.old;
-      left' = S.left input.new;
-      out = O.written out.old;
-      out' = O.written out.new;
-      err = E.written err.old;
-      err' = E.written err.new;
-    }) }
-    ensures memory { result ≡ 8 → IsOutOfMemory (λ bytes. answer_of (replayed bytes)) ⊥ (Rose (S.faults input.old) (S.faults input.new)) (E.wants err.old) (E.wants err.new) (record {
-      left = S.left input.old;
-      left' = S.left input.new;
-      out = O.written out.old;
-      out' = O.written out.new;
-      err = E.written err.old;
-      err' = E.written err.new;
-    }) }
+    ensures refused { result ≡ 3 → IsLineRefused (Some command.Replay) (streams (S.left input.old) (S.left input.new) (O.written out.old) (O.written out.new) (E.written err.old) (E.written err.new)) }
+    ensures read { result ≡ 4 → HasReadFailed (Some command.Replay) (S.faults input.old) (S.faults input.new) (streams (S.left input.old) (S.left input.new) (O.written out.old) (O.written out.new) (E.written err.old) (E.written err.new)) }
+    ensures write { result ≡ 5 → HasWriteFailed (λ bytes. answer_of (replayed bytes)) ⊥ (Rose (S.faults input.old) (S.faults input.new)) (O.faults out.old) (O.faults out.new) (E.faults err.old) (E.faults err.new) (streams (S.left input.old) (S.left input.new) (O.written out.old) (O.written out.new) (E.written err.old) (E.written err.new)) }
+    ensures memory { result ≡ 8 → IsOutOfMemory (λ bytes. answer_of (replayed bytes)) ⊥ (Rose (S.faults input.old) (S.faults input.new)) (E.wants err.old) (E.wants err.new) (streams (S.left input.old) (S.left input.new) (O.written out.old) (O.written out.new) (E.written err.old) (E.written err.new)) }
     ensures reads { S.faults input.old ≤ S.faults input.new }
     ensures writes { O.faults out.old ≤ O.faults out.new }
     ensures complains { E.faults err.old ≤ E.faults err.new }
