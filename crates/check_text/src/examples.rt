@@ -1,7 +1,8 @@
-ghost use Rattle.std.specs.Prelude.{◌≡◌, [], ◌∷◌, ◌++◌, codes, replicate};
+ghost use Rattle.std.specs.Prelude.{◌≡◌, ℕ, List, [], ◌∷◌, ◌++◌, Some, codes, length, replicate};
 ghost use Rattle.app_text.specs.LockTexts.{input_of, output_of};
 ghost use Rattle.check_text.specs.Forms.{claim_of, form_of, image_from, with_header};
 ghost use Rattle.check_text.specs.ImageLines.{line_of_image, order_says, step_says};
+ghost use Rattle.check_text.specs.Outcomes.{IsDecidedBy};
 ghost use Rattle.check_text.specs.Reading.{EndedAt, RefusedAt, Whole};
 ghost use Rattle.check_text.specs.TraceLines.{trace_line};
 ghost use Rattle.check_text.specs.declared.image_line.ImageLine.TheVariants as image;
@@ -54,4 +55,12 @@ pub fn worked_ends()
     ensures header_past_the_last_line { with_header (form_of 9 input_of output_of Heading.Lock (step_says input_of)) Heading.Lock 8000001 (codes "schedule 1 bag lock 2" ∷ []) ≡ RefusedAt 8000001 Why.TooManyEvents }
     ensures header_too_long { claim_of (form_of 9 input_of output_of Heading.Lock (step_says input_of)) (codes "below" ∷ replicate 4097 97 ∷ []) ≡ RefusedAt 2 Why.LineTooLong }
     ensures no_line_of_an_image { image_from (step_says input_of) 8000001 0 [] ≡ Whole [] }
+{}
+
+/// How much of a text may be given where its first line is refused: 4,096 bytes past the newline that ends it, and not one more.
+pub fn worked_reads()
+    ensures to_its_newline { IsDecidedBy (Some (codes "in 1")) (codes "on 1 lock\nin 1") 1 }
+    ensures to_the_border { (rest : List ℕ) → length rest ≡ 4096 → IsDecidedBy (Some []) (codes "on 1 lock\n" ++ rest) 1 }
+    ensures past_the_border { (rest : List ℕ) → length rest ≡ 4097 → IsDecidedBy (Some []) (codes "on 1 lock\n" ++ rest) 1 → ⊥ }
+    ensures nothing_is_left_to_tell { IsDecidedBy None (codes "on 1 lock\n") 1 → ⊥ }
 {}

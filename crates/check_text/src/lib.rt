@@ -17,7 +17,7 @@ mod trace_line;
 mod trace_lines;
 
 pub use claim::Claim;
-pub use examples::{worked_ends, worked_image_lines, worked_trace_lines};
+pub use examples::{worked_ends, worked_image_lines, worked_reads, worked_trace_lines};
 pub use heading::Heading;
 pub use image_line::ImageLine;
 pub use image_lines::{Orders, Steps};

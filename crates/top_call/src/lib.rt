@@ -12,7 +12,7 @@ mod say;
 mod status;
 
 pub use answers::run;
-pub use examples::{worked, worked_breaks};
+pub use examples::{worked, worked_breaks, worked_verdicts};
 pub use laws::stacks_have_one_word;
 
 #[cfg(test)]
