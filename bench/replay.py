@@ -23,7 +23,7 @@ A round of `kv` is one command, of `kv/pb` three events and two packets:
 A round of `kv/pb/seq` has two events more, the copy of the acknowledgement and its delivery. The commands put and get
 under a thousand keys in turn.
 
-Before the rounds of `kv/raft`, on three nodes, node 0 is elected and tells so. A round is five events and four packets:
+Before the rounds of `kv/raft`, on three nodes, node 0 is elected, and both others take its no-op. A round is five events and four packets:
 
     in 0 7 r put ..  packets k and k + 1 bring the entry to the nodes 1 and 2
     deliver k        node 1 takes it: packet k + 2 goes back
@@ -87,12 +87,12 @@ def backed_round(turn, packet):
 
 
 def copied_backed_round(turn, packet):
-    """The same, with a copy of the acknowledgement that comes behind the reply."""
+    """The same, with a copy of the acknowledgement that comes after the reply."""
     asked, applied, replied = backed_round(turn, packet)
     return (asked, applied, (f"dup {packet + 1}", 0, None), replied, (f"deliver {packet + 1}", 0, None))
 
 
-# Node 0 asks for votes, both come, and its first heartbeats are answered.
+# Node 0 asks for votes, both come, and both nodes take its no-op and answer.
 ELECTION = ("tick 0", *(f"deliver {packet}" for packet in range(8)))
 
 

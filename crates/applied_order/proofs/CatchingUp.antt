@@ -1,4 +1,4 @@
--- The entries of a node's log behind those that there are, one by one.
+-- The entries of a node's log after those that there are, one by one.
 use Rattle.std.proofs.Common.{◌≡◌, ℕ, zero, suc, ◌+◌, ◌<◌, ◌≤◌, Bool, true, false, cond, ltb, List, [], ◌∷◌, ◌++◌, length, take, drop, Some, slice_get, refl, ap, sym, subst, ◌∙◌, arith}
 use Rattle.std.proofs.Math.Seq.{take-append_seam}
 use Rattle.std.proofs.lemmas.Bool.{ltb-false, ltb-true}
@@ -13,8 +13,8 @@ take_next (y ∷ xs) zero x is = let e : x ≡ y = cc (is) in ap (λ z. z ∷ []
 take_next (y ∷ xs) (suc i) x is = ap (λ zs. y ∷ zs) (take_next xs i x is)
 
 -- where two lists begin one, the shorter is a front of the longer
-pub front_of : {A : Type 0} (es log all : List A) (a : ℕ) → IsBeginning es all → IsBeginning (take a log) all → length es ≤ a → a ≤ length log →
-    es ≡ take (length es) log
+pub front_of : {A : Type 0} (es log all : List A) (a : ℕ) → IsBeginning es all → IsBeginning (take a log) all →
+    length es ≤ a → a ≤ length log → es ≡ take (length es) log
 front_of es log all a (rest, is) (after, was) short fits =
     let n = length es in
     let within : n ≤ length (take a log) = omega (arith, length-take-le a log fits) in
@@ -29,7 +29,8 @@ pub record CaughtUp {C : Type 0} (old now : OrderView C) (log : List (Entry C)) 
   pub ahead : applied ≤ old.entries → i ≡ old.entries
 
 module _ {C : Type 0} (old now : OrderView C) (log : List (Entry C)) (applied i : ℕ) (was : CaughtUp old now log applied i) where
-  pub caught_more : (next : OrderView C) (e : Entry C) → old.entries ≤ i → i < applied → slice_get log i ≡ Some e → next.entries ≡ now.entries + 1 →
+  pub caught_more : (next : OrderView C) (e : Entry C) → old.entries ≤ i → i < applied → slice_get log i ≡ Some e →
+      next.entries ≡ now.entries + 1 →
       ((es : List (Entry C)) → HasFollowed now es → HasFollowed next (es ++ e ∷ [])) → CaughtUp old next log applied (i + 1)
   caught_more next e from below is counts follows = record {
     entries = omega (arith, counts, was.entries);
@@ -42,7 +43,7 @@ module _ {C : Type 0} (old now : OrderView C) (log : List (Entry C)) (applied i 
 
   pub caught_all : (es all : List (Entry C)) → applied ≤ length log → (old.entries ≤ applied → i ≡ applied) →
       IsBeginning es all → IsBeginning (take applied log) all → HasFollowed old es → HasFollowed now (longer es (take applied log))
-  caught_all es all fits behind begins node_begins had = go (ltb (length es) (length (take applied log))) refl
+  caught_all es all fits lags begins node_begins had = go (ltb (length es) (length (take applied log))) refl
     where
       long : length (take applied log) ≡ applied
       long = length-take-le applied log fits
@@ -54,8 +55,9 @@ module _ {C : Type 0} (old now : OrderView C) (log : List (Entry C)) (applied i 
       go true t =
           let less = ltb-true _ _ t in
           let short : length es ≤ applied = omega (arith, long, less) in
-          let at : i ≡ applied = behind (omega (arith, counted, short)) in
-          let front : es ≡ take old.entries log = front_of es log all applied begins node_begins short fits ∙ ap (λ n. take n log) (sym counted) in
+          let at : i ≡ applied = lags (omega (arith, counted, short)) in
+          let front : es ≡ take old.entries log =
+          front_of es log all applied begins node_begins short fits ∙ ap (λ n. take n log) (sym counted) in
           subst (λ n. HasFollowed now (take n log)) at (was.followed (subst (HasFollowed old) front had))
       go false t =
           let more = ltb-false _ _ t in

@@ -1,4 +1,4 @@
 pub mod Adding
+pub mod ByNode
 pub mod CatchingUp
-pub mod Following
 pub mod Shown

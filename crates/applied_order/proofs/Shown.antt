@@ -1,17 +1,10 @@
 -- Each state of a sound world keeps to what the handlers ask, since the world stands for one.
-use Rattle.std.proofs.Common.{◌≡◌, ℕ, zero, suc, ◌<◌, List, [], ◌∷◌, length, map, get_or, Option, None, Some, IfSome, IsSome, slice_get, refl, sym, subst, arith}
+use Rattle.std.proofs.Common.{◌≡◌, ℕ, zero, suc, ◌<◌, List, [], ◌∷◌, length, map, get_or, Option, None, Some, IfSome, IsSome, slice_get, refl, arith}
 use Rattle.std.specs.Prelude.{is_none}
 use Rattle.handler_trait.specs.Handling.{Meaning}
 use Rattle.net_semantics.specs.Shown.{IsSoundPacket, Shown, ShowsAt}
 use Rattle.net_semantics.specs.ShownFail.{FailView, IsSoundFail, ShowsFail, kept_at}
 use Rattle.net_semantics.specs.Worlds.{Packet, World}
-use Rattle.vst_base.specs.Machines.{MachineMeaning}
-use Rattle.raft_types.specs.Keeping.{KeptView}
-use Rattle.raft_types.specs.declared.client.RaftInput.{RaftInput}
-use Rattle.raft_types.specs.declared.client.RaftOut.{RaftOut}
-use Rattle.raft_types.specs.declared.msg.RaftMsg.{RaftMsg}
-use Rattle.raft_xform.specs.Nodes.{RaftView}
-use Rattle.applied_order.specs.Orders.{IsSoundCluster}
 
 pub got : {A : Type 0} (xs : List A) (n : ℕ) (x : A) → n < length xs → slice_get xs n ≡ Some (get_or xs n x)
 got [] n x h = absurd (omega arith)
@@ -38,8 +31,8 @@ module _ {M : Type 0} (any : M) where
       record { source = refl; destination = refl; copies = refl; content = λ h. content_is p.content ((sound 0).content h) }
   shows_packets nodes taken (p ∷ ps) sound (suc k) = shows_packets nodes taken ps (λ j. sound (suc j)) k
 
-module _ {H S K I O M : Type 0} (m : Meaning S I O M) (sound : ℕ → S → Type 0) (spent : S → ℕ) (fits : K → Type 0) (v : FailView H S K I O M)
-    (is : IsSoundFail m sound spent fits v) (any : M) where
+module _ {H S K I O M : Type 0} (m : Meaning S I O M) (sound : ℕ → S → Type 0) (spent : S → ℕ) (fits : K → Type 0)
+    (v : FailView H S K I O M) (is : IsSoundFail m sound spent fits v) (any : M) where
   -- a world that the view stands for
   abbrev shown : S → World S K M
   shown first = record {
@@ -61,8 +54,3 @@ module _ {H S K I O M : Type 0} (m : Meaning S I O M) (sound : ℕ → S → Typ
   state_is_sound n s below tells =
       let known = rw ((shows s).states n below) at (is.world.states n) in
       rw (tells (shown s) (shows s)) known.keeps
-
--- what holds of a world by some handlers holds by equal ones
-pub sound_by : {H S C O : Type 0} (m : H → MachineMeaning S C O) (nodes : H → ℕ) (v : FailView H (RaftView S C O) (KeptView C) (RaftInput C) (RaftOut O) (RaftMsg C)) (h k : H) →
-    k ≡ h → IsSoundCluster (m h) (nodes h) v → IsSoundCluster (m k) (nodes k) v
-sound_by m nodes v h k same sound = subst (λ r. IsSoundCluster (m r) (nodes r) v) (sym same) sound

@@ -1,15 +1,16 @@
 -- What is kept of what a cluster has applied, as it grows.
-use Rattle.std.specs.Prelude.{◌≡◌, ℕ, ◌<◌, List, [], ◌∷◌, ◌++◌, length, map, IfSome, refl}
+use Rattle.std.specs.Prelude.{◌≡◌, ℕ, suc, ◌+◌, ◌<◌, Bool, false, List, [], ◌∷◌, ◌++◌, length, map, Option, Some, None, IfSome, if◌then◌else◌, refl}
 use base.Stored.{coded_unit}
 use Rattle.std.specs.Coded.{Coded, code_by, coded×, coded_list, coded_ℕ}
-use Rattle.std.specs.FinMap.{get}
+use Rattle.std.specs.FinMap.{get, insert}
 use Rattle.net_semantics.specs.ShownFail.{FailView, IsSoundFail, ShowsFail}
 use Rattle.vst_base.specs.Machines.{MachineMeaning}
 use Rattle.vst_base.specs.declared.entry.Entry.{Entry}
 use Rattle.vst_base.specs.declared.step.Step.{Step}
-use Rattle.raft_clients.specs.Executed.{exceeds, executed}
+use Rattle.raft_clients.specs.Executed.{exceeds, executed, executed_places}
+use Rattle.raft_clients.specs.Requests.{requests as asked}
 use Rattle.raft_clients.specs.Sessions.{Sessions, is_new, sessions_code}
-use Rattle.raft_safety.specs.Applied.{applied_by, request_of}
+use Rattle.raft_safety.specs.Applied.{applied_by}
 use Rattle.raft_safety.specs.Runs.{IsRun, world_after}
 use Rattle.raft_types.specs.Keeping.{KeptView}
 use Rattle.raft_types.specs.declared.client.RaftInput.{RaftInput}
@@ -19,12 +20,13 @@ use Rattle.raft_xform.specs.Nodes.{RaftView}
 use Rattle.raft_xform.specs.Raft.{raft}
 use Rattle.raft_xform.specs.Sound.{IsSoundNode}
 
--- how many entries there are, the greatest request number of each client in them, as a session with no output, and the
--- requests of them that were executed, in order
+-- how many entries there are, the last request of each client that was executed, as a session with no output, the
+-- executed requests in order, and the index of the entry of each
 pub record OrderView (C : Type 0) : Type 0 where
   pub entries : ℕ
-  pub greatest : Sessions (Unit {0})
+  pub sessions : Sessions (Unit {0})
   pub requests : List (RaftInput C)
+  pub indexes : List ℕ
 
 abbrev request_code : {C : Type 0} → Coded C → Coded (RaftInput C)
 request_code {C} cmd =
@@ -33,21 +35,51 @@ request_code {C} cmd =
 
 abbrev pub order_code : {C : Type 0} → Coded C → Coded (OrderView C)
 order_code {C} cmd =
-    code_by (ℕ × (Sessions (Unit {0}) × List (RaftInput C))) (coded× coded_ℕ (coded× (sessions_code coded_unit) (coded_list (request_code cmd))))
-    (λ o. (o.entries, (o.greatest, o.requests))) (λ p. record { entries = p.0; greatest = p.1.0; requests = p.1.1 }) (λ _. refl)
+    code_by (ℕ × (Sessions (Unit {0}) × (List (RaftInput C) × List ℕ)))
+    (coded× coded_ℕ (coded× (sessions_code coded_unit) (coded× (coded_list (request_code cmd)) (coded_list coded_ℕ))))
+    (λ o. (o.entries, (o.sessions, (o.requests, o.indexes))))
+    (λ p. record { entries = p.0; sessions = p.1.0; requests = p.1.1.0; indexes = p.1.1.1 }) (λ _. refl)
 
 -- it is what is kept of these entries: it tells of each further request whether its number exceeds all of its client
 pub record HasFollowed {C : Type 0} (o : OrderView C) (es : List (Entry C)) : Type 0 where
   pub entries : o.entries ≡ length es
-  pub greatest : (client request : ℕ) → exceeds es client request ≡ is_new (get o.greatest client) request
-  pub requests : o.requests ≡ map request_of (executed es)
+  pub sessions : (client request : ℕ) → is_new (get o.sessions client) request ≡ exceeds (asked es) client request
+  pub requests : o.requests ≡ executed (asked es)
+  pub indexes : o.indexes ≡ map suc (executed_places es)
+
+-- whether the next entry executes a request, by what is kept of its client. Where it holds none, none is
+abbrev pub is_executed_by : {C : Type 0} → Sessions (Unit {0}) → Option (RaftInput C) → Bool
+is_executed_by sessions None = false
+is_executed_by sessions (Some r) = is_new (get sessions r.client) r.request
+
+-- the next entry is counted
+abbrev pub counted : {C : Type 0} → OrderView C → OrderView C
+counted o = record o { entries = o.entries + 1 }
+
+-- and this request of it is executed
+abbrev pub with_executed : {C : Type 0} → OrderView C → RaftInput C → OrderView C
+with_executed o r = record {
+  entries = o.entries + 1;
+  sessions = insert o.sessions r.client (record { request = r.request; output = tt });
+  requests = o.requests ++ r ∷ [];
+  indexes = o.indexes ++ (o.entries + 1) ∷ [];
+}
+
+-- what is kept once there is a next entry, by its request, if it holds one
+abbrev pub with_entry : {C : Type 0} → OrderView C → Option (RaftInput C) → OrderView C
+with_entry o None = counted o
+with_entry o (Some r) = if is_new (get o.sessions r.client) r.request then with_executed o r else counted o
 
 -- what holds of a world of a cluster when it is made and after each step that doesn't answer want of memory
-abbrev pub IsSoundCluster : {H S C O : Type 0} → MachineMeaning S C O → ℕ → FailView H (RaftView S C O) (KeptView C) (RaftInput C) (RaftOut O) (RaftMsg C) → Type 0
-IsSoundCluster m nodes world = IsSoundFail (raft nodes m) (IsSoundNode nodes) (λ _. 0) (λ kept. IfSome kept.voted (λ node. node < nodes)) world
+abbrev pub IsSoundCluster : {H S C O : Type 0} → MachineMeaning S C O → ℕ →
+    FailView H (RaftView S C O) (KeptView C) (RaftInput C) (RaftOut O) (RaftMsg C) → Type 0
+IsSoundCluster m nodes world =
+    IsSoundFail (raft nodes m) (IsSoundNode nodes) (λ _. 0) (λ kept. IfSome kept.voted (λ node. node < nodes)) world
 
--- where the world is the one behind the steps and one more, and the steps were followed, so is the one more
-abbrev pub FollowsStep : {H S C O : Type 0} → MachineMeaning S C O → ℕ → FailView H (RaftView S C O) (KeptView C) (RaftInput C) (RaftOut O) (RaftMsg C) → OrderView C → OrderView C → Type 0
+-- where the world is the one after the steps and one more, and the steps were followed, so is the one more
+abbrev pub FollowsStep : {H S C O : Type 0} → MachineMeaning S C O → ℕ →
+    FailView H (RaftView S C O) (KeptView C) (RaftInput C) (RaftOut O) (RaftMsg C) → OrderView C → OrderView C → Type 0
 FollowsStep {C = C} m nodes world old new =
-    (ss : List (Step (RaftInput C))) (s : Step (RaftInput C)) → IsRun m nodes (ss ++ s ∷ []) → ShowsFail nodes world (world_after m nodes (ss ++ s ∷ [])) →
+    (ss : List (Step (RaftInput C))) (s : Step (RaftInput C)) → IsRun m nodes (ss ++ s ∷ []) →
+    ShowsFail nodes world (world_after m nodes (ss ++ s ∷ [])) →
     HasFollowed old (applied_by m nodes ss) → HasFollowed new (applied_by m nodes (ss ++ s ∷ []))

@@ -1,18 +1,31 @@
 ghost use Rattle.std.specs.Prelude.{[], ◌∷◌};
 ghost use Rattle.std.specs.FinMap as map;
-ghost use Rattle.raft_clients.specs.Examples.{asks};
-ghost use Rattle.raft_safety.specs.Applied.{request_of};
-ghost use Rattle.applied_order.specs.Examples.{five_entries, kept_of_five, nothing, number};
+ghost use Rattle.raft_clients.specs.Examples.{asked};
+ghost use Rattle.applied_order.specs.Examples.{five_entries, kept_of_five, kept_of_six, nothing, number, six_entries};
 ghost use Rattle.applied_order.specs.Orders.{HasFollowed};
 
-/// What is kept of no entry and of five, and what is not: each entry is counted, a client's number is the
-/// greatest and not the last, a request that comes again is not there twice, and entries have an order.
+/// What is kept of no entry, of five and of six, and what is not: each entry is counted, a no-op too, but a
+/// no-op is no request; a client's number is the greatest and not the last; a request that comes again is not
+/// there twice; requests have an order, and each the index of its entry, from 1.
 pub fn worked_orders()
     ensures none { HasFollowed nothing [] }
     ensures five { HasFollowed kept_of_five five_entries }
+    ensures six { HasFollowed kept_of_six six_entries }
     ensures not_the_executed_alone_counted { ¬ HasFollowed (record kept_of_five { entries = 3 }) five_entries }
-    ensures not_the_last_number { ¬ HasFollowed (record kept_of_five { greatest = map.insert kept_of_five.greatest 9 (number 4) }) five_entries }
-    ensures not_of_a_client_unseen { ¬ HasFollowed (record kept_of_five { greatest = map.insert kept_of_five.greatest 8 (number 0) }) five_entries }
-    ensures not_again { ¬ HasFollowed (record kept_of_five { requests = request_of (asks 7 0 3) ∷ request_of (asks 7 0 4) ∷ request_of (asks 9 5 1) ∷ request_of (asks 7 2 5) ∷ [] }) five_entries }
-    ensures not_in_another_order { ¬ HasFollowed (record kept_of_five { requests = request_of (asks 9 5 1) ∷ request_of (asks 7 0 3) ∷ request_of (asks 7 2 5) ∷ [] }) five_entries }
+    ensures not_the_requests_alone_counted { ¬ HasFollowed (record kept_of_five { entries = 4 }) five_entries }
+    ensures not_a_noop_as_a_request { ¬ HasFollowed
+        (record kept_of_five { requests = asked 7 0 3 ∷ asked 0 0 0 ∷ asked 9 5 1 ∷ asked 7 2 5 ∷ [] }) five_entries }
+    ensures not_a_noop_of_client_0 { ¬ HasFollowed (record kept_of_five { sessions = map.insert kept_of_five.sessions 0 (number 0) })
+        five_entries }
+    ensures not_the_last_number { ¬ HasFollowed (record kept_of_six { sessions = map.insert kept_of_six.sessions 9 (number 4) })
+        six_entries }
+    ensures not_of_a_client_unseen { ¬ HasFollowed (record kept_of_five { sessions = map.insert kept_of_five.sessions 8 (number 0) })
+        five_entries }
+    ensures not_again { ¬ HasFollowed (record kept_of_five { requests = asked 7 0 3 ∷ asked 7 0 4 ∷ asked 9 5 1 ∷ asked 7 2 5 ∷ [] })
+        five_entries }
+    ensures not_in_another_order { ¬ HasFollowed (record kept_of_five { requests = asked 9 5 1 ∷ asked 7 0 3 ∷ asked 7 2 5 ∷ [] })
+        five_entries }
+    ensures not_an_index_of_another_entry { ¬ HasFollowed (record kept_of_five { indexes = 1 ∷ 3 ∷ 5 ∷ [] }) five_entries }
+    ensures not_from_0 { ¬ HasFollowed (record kept_of_five { indexes = 0 ∷ 3 ∷ 4 ∷ [] }) five_entries }
+    ensures not_the_place_among_requests { ¬ HasFollowed (record kept_of_five { indexes = 1 ∷ 2 ∷ 3 ∷ [] }) five_entries }
 {}

@@ -1,32 +1,26 @@
-ghost use Rattle.std.specs.Prelude.{◌≡◌, ◌+◌, ◌<◌, ◌≤◌, List, [], ◌∷◌, ◌++◌, length, true, false, IsOk, OnOk};
-ghost use Rattle.std.specs.FinMap as map;
-ghost use Rattle.raft_clients.specs.Sessions.{is_new};
-ghost use Rattle.raft_safety.specs.Applied.{IsBeginning, applied_list, longer};
+ghost use Rattle.std.specs.Prelude.{◌≡◌, ◌+◌, ◌<◌, List, [], ◌∷◌, ◌++◌, false, IsOk, OnOk};
 ghost use Rattle.vst_base.specs.declared.entry.Entry.{Entry as EntryView};
-ghost use Rattle.applied_order.specs.Orders.{FollowsStep, HasFollowed, IsSoundCluster};
+ghost use Rattle.raft_clients.specs.Requests.{asked_by, request_of};
+ghost use Rattle.applied_order.specs.Orders.{HasFollowed, is_executed_by, with_entry};
 
-use handler_trait::Handlers;
-use indexmap::IndexMap;
-use net_semantics::FailWorld;
-use raft_clients::Session;
+use raft_clients::Sessions;
 use raft_types::RaftInput;
-use raft_xform::{Raft, RaftState};
 use std::alloc::{AllocError, Global};
 use std::marker::Model;
-use vst_base::{ClientId, Entry, Machine, Node, ReqId};
+use vst_base::{Entry, Machine, What};
 
 /// What a cluster has applied so far, the longest list of entries that one of its nodes had applied at any
-/// moment: how many entries, each client's greatest request number in them, and the requests of them that
-/// were executed. Contracts see the record of these.
+/// moment: how many entries, each client's last request in them that was executed, these requests in order,
+/// and beside each the index of its entry, from 1. Contracts see the record of these.
 #[derive(Drop)]
 pub struct AppliedOrder<C> {
     entries: u32,
-    greatest: IndexMap<ClientId, Session<()>>,
+    sessions: Sessions<()>,
     requests: Vec<RaftInput<C>>,
+    indexes: Vec<u32>,
 }
 
 impl<C> Model for AppliedOrder<C> {
-    ghost use Rattle.std.specs.FinMap as map;
     ghost use Rattle.applied_order.specs.Orders.{OrderView, order_code};
 
     ghost Value = { OrderView C };
@@ -35,27 +29,10 @@ impl<C> Model for AppliedOrder<C> {
 
     ghost view = { λ o. record {
       entries = o.entries;
-      greatest = map.from_entries o.greatest.entries;
+      sessions = o.sessions;
       requests = o.requests.items;
+      indexes = o.indexes.items;
     } };
-}
-
-// Adds what each node of the cluster has applied, node after node.
-fn follow_nodes<M: Machine>(
-    order: &mut AppliedOrder<M::Cmd>,
-    alloc: Global,
-    world: &FailWorld<Raft<M>>,
-) -> Result<(), AllocError>
-    requires { IsSoundCluster (M.meaning world.now.handlers.machine) world.now.handlers.nodes world.now }
-    ensures { OnOk result (FollowsStep (M.meaning world.now.handlers.machine) world.now.handlers.nodes world.now order.old order.new) }
-{
-    let cluster = world.handlers();
-    let nodes = cluster.nodes();
-    for n in 0..nodes {
-        let node = Node::new(n, nodes).unwrap();
-        order.catch_up(alloc, cluster, world.state(node))?;
-    }
-    Ok(())
 }
 
 impl<C: Drop> AppliedOrder<C> {
@@ -65,23 +42,48 @@ impl<C: Drop> AppliedOrder<C> {
     {
         AppliedOrder {
             entries: 0,
-            greatest: IndexMap::new(alloc),
+            sessions: Sessions::new(alloc),
             requests: Vec::new(alloc),
+            indexes: Vec::new(alloc),
         }
     }
 
-    // Whether the request is over all of its client.
-    fn is_new(&self, client: ClientId, request: ReqId) -> bool
-        ensures { result ≡ is_new (map.get self.now.greatest client) request }
+    // Counts the next entry, and keeps its request, if it holds one and that is new to its client.
+    fn take<M: Machine<Cmd = C>>(
+        &mut self,
+        alloc: Global,
+        machine: &M,
+        what: &What<C>,
+    ) -> Result<(), AllocError>
+        requires { self.old.entries < u32.MAX }
+        ensures does { OnOk result (self.new ≡ with_entry self.old (asked_by what.now)) }
+        ensures not_executed { is_executed_by self.old.sessions (asked_by what.now) ≡ false → IsOk result }
     {
-        match self.greatest.get(&client) {
-            Some(session) => session.request < request,
-            None => true,
+        match what {
+            What::Noop => {}
+            What::Request {
+                client,
+                request,
+                cmd,
+                ..
+            } => {
+                if self.sessions.note(*client, *request)? {
+                    self.requests.push(RaftInput {
+                        client: *client,
+                        request: *request,
+                        cmd: machine.copy_cmd(alloc, cmd)?,
+                    })?;
+                    self.indexes.push(self.entries + 1)?;
+                }
+            }
         }
+        self.entries += 1;
+        Ok(())
     }
 
-    /// One more entry is applied. Where it is executed, the machine, which may be any with this command,
-    /// copies the command. After an `Err` the order is given up. An entry that is not executed takes no memory.
+    /// One more entry is applied. Where its request is executed, the machine, which may be any with this
+    /// command, copies the command. After an `Err` the order is given up. An entry by which no request is
+    /// executed takes no memory.
     pub fn add<M: Machine<Cmd = C>>(
         &mut self,
         alloc: Global,
@@ -89,52 +91,19 @@ impl<C: Drop> AppliedOrder<C> {
         entry: &Entry<C>,
     ) -> Result<(), AllocError>
         requires { self.old.entries < u32.MAX }
-        ensures followed { OnOk result ((es : List (EntryView C)) → HasFollowed self.old es → HasFollowed self.new (es ++ entry.now ∷ [])) }
+        ensures followed { OnOk result ((es : List (EntryView C)) → HasFollowed self.old es
+            → HasFollowed self.new (es ++ entry.now ∷ [])) }
         ensures entries { OnOk result (self.new.entries ≡ self.old.entries + 1) }
-        ensures not_executed { is_new (map.get self.old.greatest entry.now.client) entry.now.request ≡ false → IsOk result }
+        ensures not_executed { is_executed_by self.old.sessions (request_of entry.now) ≡ false → IsOk result }
     {
-        let (client, request) = (entry.client(), entry.request());
-        if self.is_new(client, request) {
-            let cmd = machine.copy_cmd(alloc, entry.cmd())?;
-            self.requests.push(RaftInput {
-                client,
-                request,
-                cmd,
-            })?;
-            let output = ();
-            self.greatest.insert(client, Session { request, output })?;
-        }
-        self.entries += 1;
-        Ok(())
+        self.take(alloc, machine, entry.what())
     }
 
-    // Adds what a node has applied behind the entries that there are.
-    fn catch_up<M: Machine<Cmd = C>>(
-        &mut self,
-        alloc: Global,
-        cluster: &Raft<M>,
-        state: &RaftState<M::State, C, M::Out>,
-    ) -> Result<(), AllocError>
-        requires { state.now.applied ≤ length state.now.log }
-        ensures { OnOk result ((all es : List (EntryView C)) → IsBeginning es all → IsBeginning (applied_list state.now) all → HasFollowed self.old es → HasFollowed self.new (longer es (applied_list state.now))) }
+    // How many entries are applied.
+    pub(crate) fn entries(&self) -> u32
+        ensures { result ≡ self.now.entries }
     {
-        for i in self.entries..cluster.applied(state) {
-            self.add(alloc, cluster.machine(), cluster.entry(state, i + 1))?;
-        }
-        Ok(())
-    }
-
-    /// Follows a step that the world of a cluster took. It looks at each node, and at each entry once.
-    /// After an `Err` the order is given up.
-    pub fn follow<M: Machine<Cmd = C>>(
-        &mut self,
-        alloc: Global,
-        world: &FailWorld<Raft<M>>,
-    ) -> Result<(), AllocError>
-        requires { IsSoundCluster (M.meaning world.now.handlers.machine) world.now.handlers.nodes world.now }
-        ensures { OnOk result (FollowsStep (M.meaning world.now.handlers.machine) world.now.handlers.nodes world.now self.old self.new) }
-    {
-        follow_nodes(self, alloc, world)
+        self.entries
     }
 
     /// The executed requests, in order.
@@ -142,6 +111,13 @@ impl<C: Drop> AppliedOrder<C> {
         ensures { result.now ≡ self.now.requests }
     {
         &self.requests
+    }
+
+    /// The index of each one's entry, from 1.
+    pub fn indexes(&self) -> &[u32]
+        ensures { result.now ≡ self.now.indexes }
+    {
+        &self.indexes
     }
 
     /// Gives up the order for the executed requests.

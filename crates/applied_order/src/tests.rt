@@ -9,7 +9,7 @@ use raft_xform::Raft;
 use std::alloc::{AllocError, Global};
 use std::process::Abort;
 use std::test::Fail;
-use vst_base::{ClientId, Entry, Key, Machine, Node, ReqId, Step};
+use vst_base::{ClientId, Entry, Key, Machine, Node, ReqId, Step, What};
 
 // A client, the number of its request, and the letter of the key whose value it asks for.
 type Row = (u64, u64, u8);
@@ -25,11 +25,24 @@ fn asks(alloc: Global, row: Row) -> Result<RaftInput<KvCmd>, Fail> {
     })
 }
 
-// An entry with that request.
-fn entry(alloc: Global, row: Row) -> Result<Entry<KvCmd>, Fail> {
-    let origin = Node::new(0, 5).ok_or("a node")?;
-    let asked = asks(alloc, row)?;
-    Ok(Entry::new(1, asked.client, asked.request, origin, asked.cmd))
+// An entry with that request, or with none.
+fn entry(alloc: Global, row: Option<Row>) -> Result<Entry<KvCmd>, Fail> {
+    let Some(row) = row else {
+        return Ok(Entry::new(1, What::Noop));
+    };
+    let origin = Node::new(0, 9).ok_or("a node")?;
+    let RaftInput {
+        client,
+        request,
+        cmd,
+    } = asks(alloc, row)?;
+    let what = What::Request {
+        client,
+        request,
+        origin,
+        cmd,
+    };
+    Ok(Entry::new(1, what))
 }
 
 // Whether this is the request of a row.
@@ -37,18 +50,19 @@ fn is_of(alloc: Global, request: &RaftInput<KvCmd>, row: Row) -> Result<bool, Fa
     Ok(*request == asks(alloc, row)?)
 }
 
-// Whether these are the requests of the first so many rows, in order.
+// Whether the first so many rows, the index of an entry and its request, are what was executed, in order.
 fn are_first(
     alloc: Global,
-    requests: &[RaftInput<KvCmd>],
+    order: &AppliedOrder<KvCmd>,
     count: usize,
-    rows: &[Row],
+    rows: &[(u32, Row)],
 ) -> Result<bool, Fail> {
-    if requests.len() != count || count > rows.len() {
+    let (requests, indexes) = (order.requests(), order.indexes());
+    if requests.len() != count || indexes.len() != count || count > rows.len() {
         return Ok(false);
     }
-    for (request, row) in requests.iter().zip(rows) {
-        if !is_of(alloc, request, *row)? {
+    for ((request, index), (at, row)) in requests.iter().zip(indexes).zip(rows) {
+        if index != at || !is_of(alloc, request, *row)? {
             return Ok(false);
         }
     }
@@ -60,28 +74,29 @@ fn a_request_over_all_of_its_client_is_executed(rt: HostRuntime) -> Result<(), F
     let alloc = rt.alloc();
     let mut order = AppliedOrder::new(alloc);
     let executed = [
-        (7, 0, b'a'),
-        (9, 5, b'c'),
-        (7, 2, b'd'),
-        (9, u64::MAX, b'g'),
-        (8, 6, b'i'),
+        (2, (7, 0, b'a')),
+        (4, (9, 5, b'c')),
+        (6, (7, 2, b'd')),
+        (9, (9, u64::MAX, b'g')),
+        (11, (8, 6, b'i')),
+        (12, (0, 0, b'j')),
     ];
     for (row, count) in [
-        ((7, 0, b'a'), 1),
-        ((7, 0, b'b'), 1),
-        ((9, 5, b'c'), 2),
-        ((7, 2, b'd'), 3),
-        ((7, 1, b'e'), 3),
-        ((9, 4, b'f'), 3),
-        ((9, u64::MAX, b'g'), 4),
-        ((9, 6, b'h'), 4),
-        ((8, 6, b'i'), 5),
+        (None, 0),
+        (Some((7, 0, b'a')), 1),
+        (Some((7, 0, b'b')), 1),
+        (Some((9, 5, b'c')), 2),
+        (None, 2),
+        (Some((7, 2, b'd')), 3),
+        (Some((7, 1, b'e')), 3),
+        (Some((9, 4, b'f')), 3),
+        (Some((9, u64::MAX, b'g')), 4),
+        (Some((9, 6, b'h')), 4),
+        (Some((8, 6, b'i')), 5),
+        (Some((0, 0, b'j')), 6),
     ] {
         order.add(alloc, &KvMachine, &entry(alloc, row)?)?;
-        assert!(rt;
-            are_first(alloc, order.requests(), count, &executed)?,
-            "{count}"
-        );
+        assert!(rt; are_first(alloc, &order, count, &executed)?, "{count}");
     }
     Ok(())
 }
@@ -145,20 +160,18 @@ fn executes(
     nodes: u8,
     rows: &[Step<Row>],
     by_then: &[usize],
-    executed: &[Row],
+    executed: &[(u32, Row)],
 ) -> Result<bool, Fail>
     requires { IsClusterSize nodes }
 {
     let steps = steps_of(alloc, rows)?;
     let (order, counts) = followed(alloc, Raft::new(KvMachine, nodes), steps.as_slice())?;
-    if counts.as_slice() != by_then {
-        return Ok(false);
-    }
-    let requests = order.into_requests();
-    are_first(alloc, requests.as_slice(), executed.len(), executed)
+    let same = are_first(alloc, &order, executed.len(), executed)?;
+    Ok(same && counts.as_slice() == by_then && order.into_requests().len() == executed.len())
 }
 
-// The leader of three commits two requests and stops. The next one is asked the second again, and a third.
+// The leader of three commits its no-op and two requests and stops. The next one has a no-op of its own, is
+// asked the second again, and a third.
 #[test]
 fn the_requests_of_two_leaders_stand_in_one_order(rt: HostRuntime) -> Result<(), Fail> {
     let rows = [
@@ -181,14 +194,19 @@ fn the_requests_of_two_leaders_stand_in_one_order(rt: HostRuntime) -> Result<(),
         Step::Deliver(21),
         Step::Deliver(22),
         Step::Deliver(23),
+        Step::Deliver(24),
+        Step::Deliver(25),
     ];
-    let by_then = [0, 0, 0, 0, 0, 0, 2, 2, 2, 2, 2, 2, 2, 2, 2, 2, 2, 2, 3];
-    let executed = [(7, 1, b'a'), (9, 1, b'b'), (7, 2, b'c')];
+    let by_then = [
+        0, 0, 0, 0, 0, 0, 2, 2, 2, 2, 2, 2, 2, 2, 2, 2, 2, 2, 2, 2, 3,
+    ];
+    let executed = [(2, (7, 1, b'a')), (3, (9, 1, b'b')), (6, (7, 2, b'c'))];
     assert!(rt; executes(rt.alloc(), 3, &rows, &by_then, &executed)?);
     Ok(())
 }
 
-// A node that starts again has applied nothing, and applies its log once more.
+// A node that starts again has applied nothing, and applies its log once more. Each time it leads, it has a
+// no-op of its own.
 #[test]
 fn what_was_applied_before_a_stop_still_counts(rt: HostRuntime) -> Result<(), Fail> {
     let rows = [
@@ -201,7 +219,7 @@ fn what_was_applied_before_a_stop_still_counts(rt: HostRuntime) -> Result<(), Fa
         Step::In(0, (7, 1, b'c')),
     ];
     let by_then = [0, 1, 1, 1, 1, 1, 2];
-    let executed = [(7, 0, b'a'), (7, 1, b'c')];
+    let executed = [(2, (7, 0, b'a')), (5, (7, 1, b'c'))];
     assert!(rt; executes(rt.alloc(), 1, &rows, &by_then, &executed)?);
     Ok(())
 }

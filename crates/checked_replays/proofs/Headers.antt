@@ -2,6 +2,7 @@
 use Rattle.std.specs.Prelude.{◌≡◌, ◌≤◌, Some, option_and_then, refl}
 use Rattle.std.proofs.lemmas.Fmt.{length-decimal-le}
 use Rattle.std.proofs.Common.{length-append, inl, inr, ap, ◌∙◌, sym, arith}
+use Rattle.vst_base.specs.declared.node.TheConstants.{MAX_NODES}
 use Rattle.vst_base.specs.declared.net.Net.TheVariants as net
 use Rattle.vst_base.specs.declared.stack.StackId.{StackId}
 use Rattle.vst_base.specs.declared.stack.StackId.TheVariants as stack
@@ -44,7 +45,7 @@ lock-seq-of h (inr (inr (inr (inr (inl by))))) is = let other = other-stack h st
 lock-seq-of h (inr (inr (inr (inr (inr (inl by)))))) is = let other = other-stack h stack.KvRaft stack.LockSeq by.stack is in cc
 lock-seq-of h (inr (inr (inr (inr (inr (inr x)))))) is = elim x [ ]
 
-pub cluster-most : (h : Header) → IsHeader h → h.stack ≡ stack.KvRaft → h.nodes ≤ 5
+pub cluster-most : (h : Header) → IsHeader h → h.stack ≡ stack.KvRaft → h.nodes ≤ MAX_NODES
 cluster-most h good is = (cluster-header h good is).size.1
 
 -- the headers that images have

@@ -7,19 +7,24 @@ use Rattle.std.specs.FinMap.{get, get-empty, get-insert}
 use Rattle.std.specs.FinMap as map
 use Rattle.std.specs.Ordering.{eq_by_cmp, nat_cmp}
 use Rattle.linearizability.specs.Linearizable.{Each}
-use Rattle.raft_clients.specs.Sessions.{Applied, AppliedAll, Sessions, answer, applied, applied_all, applied_by, executes, kept_output}
+use Rattle.raft_clients.specs.Requests.{asked_by, request_of}
+use Rattle.raft_clients.specs.Sessions.{Applied, AppliedAll, Sessions, answer, applied, applied_all, applied_by, applied_request, executes, kept_output, passes}
 use Rattle.raft_clients.specs.declared.session.Session.{Session}
-use Rattle.raft_text.specs.RaftTexts.{IsNumber, IsRaftOutput}
+use Rattle.raft_text.specs.RaftTexts.{IsRaftInput, IsRaftOutput}
+use Rattle.raft_types.specs.declared.client.RaftInput.{RaftInput}
 use Rattle.raft_types.specs.declared.client.RaftOut.TheVariants as told
 use Rattle.raft_xform.specs.Applying.{replies, reply}
 use Rattle.vst_base.specs.Machines.{MachineMeaning}
 use Rattle.vst_base.specs.declared.entry.Entry.{Entry}
+use Rattle.vst_base.specs.declared.what.What.{What}
+use Rattle.vst_base.specs.declared.what.What.TheVariants.{Noop, Request}
 use Rattle.checked_replays.proofs.Eaches.{IfThere, each-both, either}
 use Rattle.checked_replays.proofs.KvRuns.{MachineKeeps}
 
 module _ {S C O : Type 0} (m : MachineMeaning S C O) (HasIn : C → Type 0) (HasOut : O → Type 0) (Sound : S → Type 0) (keeps : MachineKeeps m HasIn HasOut Sound) where
+  -- what it asks for has a text, if it asks for anything
   abbrev pub IsTextEntry : Entry C → Type 0
-  IsTextEntry e = IsNumber e.client × IsNumber e.request × HasIn e.cmd
+  IsTextEntry e = IfThere (IsRaftInput HasIn) (request_of e)
 
   abbrev IsTextSession : Session O → Type 0
   IsTextSession s = HasOut s.output
@@ -35,25 +40,29 @@ module _ {S C O : Type 0} (m : MachineMeaning S C O) (HasIn : C → Type 0) (Has
     sessions : AreTextSessions a.sessions
     output : IfThere HasOut a.output
 
-  module _ (state : S) (sessions : Sessions O) (sound : Sound state) (kept : AreTextSessions sessions) (e : Entry C) (has : IsTextEntry e) where
-    executes-text : IsTextApplied (executes m state sessions e)
-    executes-text =
-        let output = keeps.output state e.cmd sound has.2 in
+  module _ (state : S) (sessions : Sessions O) (sound : Sound state) (kept : AreTextSessions sessions) where
+    executes-text : (r : RaftInput C) → IsRaftInput HasIn r → IsTextApplied (executes m state sessions r)
+    executes-text r has =
+        let output = keeps.output state r.cmd sound has.2 in
         record {
-          state = keeps.state state e.cmd sound has.2;
-          sessions = λ client. subst (IfThere IsTextSession) (sym (get-insert nat_cmp_total sessions e.client (record { request = e.request; output = (m.apply state e.cmd).1 }) client))
-              (either (IfThere IsTextSession) (eq_by_cmp nat_cmp client e.client) (Some (record { request = e.request; output = (m.apply state e.cmd).1 })) (get sessions client) output (kept client));
+          state = keeps.state state r.cmd sound has.2;
+          sessions = λ client. subst (IfThere IsTextSession) (sym (get-insert nat_cmp_total sessions r.client (record { request = r.request; output = (m.apply state r.cmd).1 }) client))
+              (either (IfThere IsTextSession) (eq_by_cmp nat_cmp client r.client) (Some (record { request = r.request; output = (m.apply state r.cmd).1 })) (get sessions client) output (kept client));
           output = output;
         }
 
-    applied-by : (o : Option (Session O)) → IfThere IsTextSession o → IsTextApplied (applied_by m state sessions e o)
-    applied-by None text = executes-text
-    applied-by (Some session) text =
-        either IsTextApplied (nat_lt session.request e.request) (executes m state sessions e) (record { state = state; sessions = sessions; output = kept_output session e.request }) executes-text
-        (record { state = sound; sessions = kept; output = either (IfThere HasOut) (e.request == session.request) (Some session.output) None text tt })
+    passes-text : (output : Option O) → IfThere HasOut output → IsTextApplied (passes state sessions output)
+    passes-text output has = record { state = sound; sessions = kept; output = has }
 
-    applied-text : IsTextApplied (applied m state sessions e)
-    applied-text = applied-by (get sessions e.client) (kept e.client)
+    applied-by : (r : RaftInput C) → IsRaftInput HasIn r → (o : Option (Session O)) → IfThere IsTextSession o → IsTextApplied (applied_by m state sessions r o)
+    applied-by r has None text = executes-text r has
+    applied-by r has (Some session) text =
+        either IsTextApplied (nat_lt session.request r.request) (executes m state sessions r) (passes state sessions (kept_output session r.request)) (executes-text r has)
+        (passes-text (kept_output session r.request) (either (IfThere HasOut) (r.request == session.request) (Some session.output) None text tt))
+
+    applied-request : (o : Option (RaftInput C)) → IfThere (IsRaftInput HasIn) o → IsTextApplied (applied_request m state sessions o)
+    applied-request None has = passes-text None tt
+    applied-request (Some r) has = applied-by r has (get sessions r.client) (kept r.client)
 
   abbrev IsTextAnswer : Entry C × O → Type 0
   IsTextAnswer a = IsTextEntry a.0 × HasOut a.1
@@ -70,7 +79,7 @@ module _ {S C O : Type 0} (m : MachineMeaning S C O) (HasIn : C → Type 0) (Has
   pub all-text : (state : S) (sessions : Sessions O) (es : List (Entry C)) → Sound state → AreTextSessions sessions → Each IsTextEntry es → AreTextApplied (applied_all m state sessions es)
   all-text state sessions [] sound kept has = record { state = sound; sessions = kept; answers = tt }
   all-text state sessions (e ∷ es) sound kept has =
-      let first = applied-text state sessions sound kept e has.0 in
+      let first = applied-request state sessions sound kept (request_of e) has.0 in
       let rest = all-text (applied m state sessions e).state (applied m state sessions e).sessions es first.state first.sessions has.1 in
       record {
         state = rest.state;
@@ -79,7 +88,12 @@ module _ {S C O : Type 0} (m : MachineMeaning S C O) (HasIn : C → Type 0) (Has
       }
 
   -- what a node tells its clients
+  reply-text : (me : ℕ) (what : What C) (output : O) → IfThere (IsRaftInput HasIn) (asked_by what) → HasOut output → Each (IsRaftOutput HasOut) (reply me what output)
+  reply-text me Noop output has text = tt
+  reply-text me (Request client request origin cmd) output has text =
+      either (Each (IsRaftOutput HasOut)) (origin == me) (told.Reply client request output ∷ []) [] ((has.0, has.1, text), tt) tt
+
   pub replies-text : (me : ℕ) (answers : List (Entry C × O)) → Each IsTextAnswer answers → Each (IsRaftOutput HasOut) (replies me answers)
   replies-text me [] has = tt
   replies-text me (a ∷ rest) has =
-      each-both (IsRaftOutput HasOut) (reply me a.0 a.1) (replies me rest) (either (Each (IsRaftOutput HasOut)) (a.0.origin == me) (told.Reply a.0.client a.0.request a.1 ∷ []) [] ((has.0.0.0, has.0.0.1, has.0.1), tt) tt) (replies-text me rest has.1)
+      each-both (IsRaftOutput HasOut) (reply me a.0.what a.1) (replies me rest) (reply-text me a.0.what a.1 has.0.0 has.0.1) (replies-text me rest has.1)

@@ -1,4 +1,5 @@
 -- A check of what a replay of a cluster wrote is permitted.
+use Rattle.vst_base.specs.declared.node.TheConstants.{MAX_NODES}
 use Rattle.std.specs.Prelude.{ℕ, List, [], ◌∷◌, None, Ok, refl, ◌≤◌}
 use Rattle.std.proofs.Common.{ap, ◌∙◌, inl, inr, subst, sym, arith}
 use Rattle.app_text.specs.KvTexts as texts
@@ -56,8 +57,8 @@ raft-headed h number ls good is explained accepted within =
     let steps = subst (Each (IsSpellable (IsRaftInput IsCommand))) (sym (takes-all st sc accepted)) (script-spellable st.input_of (IsRaftInput IsCommand) spelled.has_text most_lines number 0 ls) in
     let few = trace-texts net.Fail (raft h.nodes kv) (raft_recovery kv) (IsRaftInput IsCommand) (IsRaftOutput IsOutput) (IsTextNode kv IsCommand IsOutput IsTextStore kv-keeps h.nodes) (IsTextRaftMsg kv IsCommand IsOutput IsTextStore kv-keeps h.nodes)
     (raft-keeps kv IsCommand IsOutput IsTextStore kv-keeps h.nodes) ss (all-allowed st sc accepted) steps in
-    let items = more-nodes h.nodes 5 (IsRaftInput IsCommand) (IsRaftOutput IsOutput) (cluster-most h good is) (trace_of st ss) few in
-    let requests = each-weaker (HasInput (trace_of st ss)) (IsRaftInput IsCommand) (put-in-text 5 (IsRaftInput IsCommand) (IsRaftOutput IsOutput) (trace_of st ss) items) order explained.requested.put_in in
+    let items = more-nodes h.nodes MAX_NODES (IsRaftInput IsCommand) (IsRaftOutput IsOutput) (cluster-most h good is) (trace_of st ss) few in
+    let requests = each-weaker (HasInput (trace_of st ss)) (IsRaftInput IsCommand) (put-in-text MAX_NODES (IsRaftInput IsCommand) (IsRaftOutput IsOutput) (trace_of st ss) items) order explained.requested.put_in in
     let plain = plain-orders IsCommand texts.input_of texts.input_text spelled order requests in
     let orders = orders-said IsCommand texts.input_of texts.input_text spelled order requests in
     let image : ImageText (RaftInput KvCmd) = record { header = None; line = order_text texts.input_text } in

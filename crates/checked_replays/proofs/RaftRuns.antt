@@ -18,15 +18,18 @@ use Rattle.raft_types.specs.declared.msg.RaftMsg.{RaftMsg}
 use Rattle.raft_types.specs.declared.msg.RaftMsg.TheVariants as msg
 use Rattle.raft_xform.specs.declared.role.Role.TheVariants as role
 use Rattle.raft_xform.specs.Applying.{caught_up, committed, due, settled}
-use Rattle.raft_xform.specs.Electing.{campaign, candidate, has_won, heard, lead, led, on_request, on_vote, sees_up_to_date, tick, vote, voted}
+use Rattle.raft_xform.specs.Electing.{campaign, candidate, has_won, heard, on_request, on_vote, sees_up_to_date, tick, vote, voted}
+use Rattle.raft_xform.specs.Leading.{and_sending, lead, led, spreads, with_entry, with_noop}
 use Rattle.raft_xform.specs.Nodes.{RaftEffect, RaftView, is_candidate, is_leader, peer_at, sending, stays}
 use Rattle.raft_xform.specs.Raft.{by_message, raft, raft_recovery}
-use Rattle.raft_xform.specs.Replicating.{and_sending, answer, follower, known, last_new, may_take, moved_by, on_append, on_appended, on_input, on_moved, proposed, proposes, taken, takes, telling}
+use Rattle.raft_xform.specs.Replicating.{answer, follower, known, last_new, may_take, moved_by, on_append, on_appended, on_input, on_moved, proposed, proposes, taken, takes, telling}
 use Rattle.raft_xform.specs.Sending.{append, append_rest, appends, request, to_others}
 use Rattle.vst_base.specs.Logs.{merged}
 use Rattle.vst_base.specs.Machines.{MachineMeaning}
 use Rattle.vst_base.specs.declared.entry.Entry.{Entry}
 use Rattle.vst_base.specs.declared.net.Net.TheVariants as net
+use Rattle.vst_base.specs.declared.what.What.{What}
+use Rattle.vst_base.specs.declared.what.What.TheVariants.{Noop, Request}
 use Rattle.checked_replays.proofs.Eaches.{each-both, each-drop, each-take, either}
 use Rattle.checked_replays.proofs.KvRuns.{MachineKeeps}
 use Rattle.checked_replays.proofs.RaftApplying.{AreTextSessions, IsTextEntry, all-text, no-sessions, replies-text}
@@ -88,18 +91,23 @@ module _ {S C O : Type 0} (m : MachineMeaning S C O) (HasIn : C → Type 0) (Has
   -- applying what is committed
   caught-up-fine : (me : ℕ) (s : RaftView S C O) → IsTextNode me s → IsRaftFine me (caught_up m me s)
   caught-up-fine me s text =
-      let behind = all-text m HasIn HasOut Sound keeps s.machine s.sessions (due s) text.1 text.2 (each-take IsText (s.commit - s.applied) (drop s.applied s.log) (each-drop IsText s.applied s.log text.0)) in
-      record { state = (text.0, behind.state, behind.sessions); outputs = replies-text m HasIn HasOut Sound keeps me (applied_all m s.machine s.sessions (due s)).answers behind.answers; sends = tt }
+      let after = all-text m HasIn HasOut Sound keeps s.machine s.sessions (due s) text.1 text.2 (each-take IsText (s.commit - s.applied) (drop s.applied s.log) (each-drop IsText s.applied s.log text.0)) in
+      record { state = (text.0, after.state, after.sessions); outputs = replies-text m HasIn HasOut Sound keeps me (applied_all m s.machine s.sessions (due s)).answers after.answers; sends = tt }
 
   settled-fine : (me : ℕ) (s : RaftView S C O) → IsTextNode me s → IsRaftFine me (settled m nodes me s)
   settled-fine me s text = caught-up-fine me (committed nodes me s) text
 
-  -- a request
+  -- a leader with one more entry, that spreads its log
+  with-entry-text : (me : ℕ) (s : RaftView S C O) (what : What C) → IsTextNode me s → IsText (record { term = s.ballot.term; what = what }) → IsTextNode me (with_entry s what)
+  with-entry-text me s what text has = (each-both IsText s.log (record { term = s.ballot.term; what = what } ∷ []) text.0 (has, tt), text.1, text.2)
+
+  spreads-fine : (me : ℕ) (s : RaftView S C O) → IsTextNode me s → IsRaftFine me (spreads m nodes me s)
+  spreads-fine me s text =
+      let fine = settled-fine me s text in
+      and-sending-fine me (settled m nodes me s) (appends nodes me (settled m nodes me s).state) fine (appends-sent me me (settled m nodes me s).state fine.state)
+
   proposes-fine : (me : ℕ) (s : RaftView S C O) (i : RaftInput C) → IsTextNode me s → IsRaftInput HasIn i → IsRaftFine me (proposes m nodes me s i)
-  proposes-fine me s i text has =
-      let grown = each-both IsText s.log (record { term = s.ballot.term; client = i.client; request = i.request; origin = me; cmd = i.cmd } ∷ []) text.0 (has, tt) in
-      let fine = settled-fine me (proposed me s i) (grown, text.1, text.2) in
-      and-sending-fine me (settled m nodes me (proposed me s i)) (appends nodes me (settled m nodes me (proposed me s i)).state) fine (appends-sent me me (settled m nodes me (proposed me s i)).state fine.state)
+  proposes-fine me s i text has = spreads-fine me (proposed me s i) (with-entry-text me s (Request i.client i.request me i.cmd) text has)
 
   input-fine : (me : ℕ) (s : RaftView S C O) (i : RaftInput C) → IsTextNode me s → IsRaftInput HasIn i → IsRaftFine me (on_input m nodes me s i)
   input-fine me s i text has =
@@ -108,18 +116,20 @@ module _ {S C O : Type 0} (m : MachineMeaning S C O) (HasIn : C → Type 0) (Has
       (either (IsRaftFine me) (length s.log == MAX_INDEX) (telling s (told.Full i.client i.request)) (proposes m nodes me s i) (telling-fine me s (told.Full i.client i.request) text (has.0, has.1)) (proposes-fine me s i text has))
 
   -- elections
-  lead-fine : (me : ℕ) (s : RaftView S C O) → IsTextNode me s → IsRaftFine me (lead nodes me s)
-  lead-fine me s text = sending-fine me (led nodes s) (appends nodes me (led nodes s)) text (appends-sent me me (led nodes s) text)
+  lead-fine : (me : ℕ) (s : RaftView S C O) → IsTextNode me s → IsRaftFine me (lead m nodes me s)
+  lead-fine me s text =
+      spreads-fine me (with_noop (led nodes s))
+      (either (IsTextNode me) (nat_lt (length s.log) MAX_INDEX) (with_entry (led nodes s) Noop) (led nodes s) (with-entry-text me (led nodes s) Noop text tt) text)
 
-  campaign-fine : (me : ℕ) (s : RaftView S C O) → IsTextNode me s → IsRaftFine me (campaign nodes me s)
+  campaign-fine : (me : ℕ) (s : RaftView S C O) → IsTextNode me s → IsRaftFine me (campaign m nodes me s)
   campaign-fine me s text =
-      either (IsRaftFine me) (has_won nodes s) (lead nodes me s) (sending s (to_others nodes me (λ _. request s))) (lead-fine me s text)
+      either (IsRaftFine me) (has_won nodes s) (lead m nodes me s) (sending s (to_others nodes me (λ _. request s))) (lead-fine me s text)
       (sending-fine me s (to_others nodes me (λ _. request s)) text (others-sent nodes me (λ _. request s) (omega arith) (λ k. tt)))
 
-  tick-fine : (me : ℕ) (s : RaftView S C O) → IsTextNode me s → IsRaftFine me (tick nodes me s)
+  tick-fine : (me : ℕ) (s : RaftView S C O) → IsTextNode me s → IsRaftFine me (tick m nodes me s)
   tick-fine me s text =
-      either (IsRaftFine me) (is_leader s.role) (sending s (appends nodes me s)) (cond (may_start s.ballot) (campaign nodes me (candidate me s)) (stays s)) (sending-fine me s (appends nodes me s) text (appends-sent me me s text))
-      (either (IsRaftFine me) (may_start s.ballot) (campaign nodes me (candidate me s)) (stays s) (campaign-fine me (candidate me s) text) (stays-fine me s text))
+      either (IsRaftFine me) (is_leader s.role) (sending s (appends nodes me s)) (cond (may_start s.ballot) (campaign m nodes me (candidate me s)) (stays s)) (sending-fine me s (appends nodes me s) text (appends-sent me me s text))
+      (either (IsRaftFine me) (may_start s.ballot) (campaign m nodes me (candidate me s)) (stays s) (campaign-fine me (candidate me s) text) (stays-fine me s text))
 
   vote-fine : (me : ℕ) (s : RaftView S C O) (granted : Bool) (to : ℕ) → to < nodes → IsTextNode me s → IsRaftFine me (vote s granted to)
   vote-fine me s granted to below text = record { state = text; outputs = tt; sends = ((below, tt), tt) }
@@ -129,10 +139,10 @@ module _ {S C O : Type 0} (m : MachineMeaning S C O) (HasIn : C → Type 0) (Has
       either (IsRaftFine me) (grants s.ballot r.term from (sees_up_to_date s r)) (vote (record s { ballot = voted_for from s.ballot }) true from) (vote s false from)
       (vote-fine me (record s { ballot = voted_for from s.ballot }) true from below text) (vote-fine me s false from below text)
 
-  voted-fine : (me : ℕ) (s : RaftView S C O) (from : ℕ) (v : VoteView) → IsTextNode me s → IsRaftFine me (on_vote nodes me s from v)
+  voted-fine : (me : ℕ) (s : RaftView S C O) (from : ℕ) (v : VoteView) → IsTextNode me s → IsRaftFine me (on_vote m nodes me s from v)
   voted-fine me s from v text =
-      either (IsRaftFine me) (is_candidate s.role && v.term == s.ballot.term && v.granted) (cond (has_won nodes (voted s from)) (lead nodes me (voted s from)) (stays (voted s from))) (stays s)
-      (either (IsRaftFine me) (has_won nodes (voted s from)) (lead nodes me (voted s from)) (stays (voted s from)) (lead-fine me (voted s from) text) (stays-fine me (voted s from) text)) (stays-fine me s text)
+      either (IsRaftFine me) (is_candidate s.role && v.term == s.ballot.term && v.granted) (cond (has_won nodes (voted s from)) (lead m nodes me (voted s from)) (stays (voted s from))) (stays s)
+      (either (IsRaftFine me) (has_won nodes (voted s from)) (lead m nodes me (voted s from)) (stays (voted s from)) (lead-fine me (voted s from) text) (stays-fine me (voted s from) text)) (stays-fine me s text)
 
   -- entries of a leader
   answer-sent : (s : RaftView S C O) (ok : Bool) (index to : ℕ) → to < nodes → Each IsSentText (answer s ok index to)

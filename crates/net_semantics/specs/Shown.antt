@@ -2,6 +2,7 @@
 -- copy may be gone, so the tie between the two is a relation.
 use Rattle.std.specs.Prelude.{◌≡◌, ℕ, true, ◌<◌, ◌≤◌, ◌*◌, List, length, Option, Some, None, IfSome, IsSome, slice_get}
 use Rattle.handler_trait.specs.Handling.{Meaning}
+use Rattle.handler_trait.specs.Facts.{HandlersFacts}
 use Rattle.vst_base.specs.declared.net.Net.{Net}
 use Rattle.vst_base.specs.declared.step.Item.{Item}
 use Rattle.net_semantics.specs.Worlds.{World, Packet}
@@ -56,9 +57,18 @@ pub record IsSoundState {S : Type 0} (sound : S → Type 0) (spent : S → ℕ) 
   pub little : spent s ≤ 8 * taken
 
 -- what holds of a world when it is made and after each step that doesn't answer want of memory
-pub record IsSound {H S I O M : Type 0} (m : Meaning S I O M) (sound : ℕ → S → Type 0) (spent : S → ℕ) (v : WorldView H S I O M) : Type 0 where
+pub record IsSound {H S I O M : Type 0} (m : Meaning S I O M) (sound : ℕ → S → Type 0) (spent : S → ℕ)
+    (v : WorldView H S I O M) : Type 0 where
   pub nodes : length v.states ≡ m.nodes
   pub states : (n : ℕ) → IfSome (slice_get v.states n) (IsSoundState (sound n) spent v.taken)
   pub packets : (k : ℕ) → IfSome (slice_get v.packets k) (IsSoundPacket m.nodes v.taken)
   pub few_packets : length v.packets ≤ 8 * v.taken
   pub few_steps : v.taken ≤ 1000000
+
+-- the same two by what the view's own handlers promise
+module _ {H S I O M : Type 0} (f : HandlersFacts H S I O M) (v : WorldView H S I O M) where
+  abbrev pub ShowsBy : World S S M → Type 0
+  ShowsBy w = Shows (f.meaning v.handlers).nodes v w
+
+  abbrev pub IsSoundBy : Type 0
+  IsSoundBy = IsSound (f.meaning v.handlers) (f.sound v.handlers) (f.spent v.handlers) v

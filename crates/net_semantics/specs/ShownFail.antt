@@ -2,6 +2,7 @@
 -- that are down have kept.
 use Rattle.std.specs.Prelude.{◌≡◌, ℕ, ◌<◌, List, length, Option, Some, None, is_none, IfSome, slice_get}
 use Rattle.handler_trait.specs.Handling.{Meaning}
+use Rattle.handler_trait.specs.Facts.{RebootableFacts}
 use Rattle.vst_base.specs.declared.net.Net.TheVariants as net
 use Rattle.vst_base.specs.declared.step.Item.{Item}
 use Rattle.net_semantics.specs.Worlds.{World}
@@ -34,7 +35,16 @@ abbrev pub without_kept : {H S K I O M : Type 0} → FailView H S K I O M → Wo
 without_kept v = record { handlers = v.handlers; net = net.Dup; states = v.states; packets = v.packets; trace = v.trace; taken = v.taken }
 
 -- what holds of a world when it is made and after each step that doesn't answer want of memory
-pub record IsSoundFail {H S K I O M : Type 0} (m : Meaning S I O M) (sound : ℕ → S → Type 0) (spent : S → ℕ) (fits : K → Type 0) (v : FailView H S K I O M) : Type 0 where
+pub record IsSoundFail {H S K I O M : Type 0} (m : Meaning S I O M) (sound : ℕ → S → Type 0) (spent : S → ℕ)
+    (fits : K → Type 0) (v : FailView H S K I O M) : Type 0 where
   pub world : IsSound m sound spent (without_kept v)
   pub nodes : length v.kept ≡ m.nodes
   pub kept : (n : ℕ) → IfSome (kept_at (slice_get v.kept n)) fits
+
+-- the same two by what the view's own handlers promise
+module _ {H S K I O M : Type 0} (f : RebootableFacts H S K I O M) (v : FailView H S K I O M) where
+  abbrev pub ShowsFailBy : World S K M → Type 0
+  ShowsFailBy w = ShowsFail (f.meaning v.handlers).nodes v w
+
+  abbrev pub IsSoundFailBy : Type 0
+  IsSoundFailBy = let h = v.handlers in IsSoundFail (f.meaning h) (f.sound h) (f.spent h) (f.fits h) v

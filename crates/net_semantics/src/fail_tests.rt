@@ -1,5 +1,5 @@
 ghost use Rattle.std.specs.Prelude.{◌≡◌, ◌<◌, length, IfOk};
-ghost use Rattle.net_semantics.specs.ShownFail.{IsSoundFail};
+ghost use Rattle.net_semantics.specs.ShownFail.{IsSoundFailBy};
 
 use super::*;
 use crate::tests::Keeper;
@@ -16,7 +16,7 @@ fn after<H: Rebootable>(
     requires { length steps.now < 1000000 }
     ensures handlers { IfOk result (λ world. world.handlers ≡ handlers) }
     ensures taken { IfOk result (λ world. world.taken ≡ length steps.now) }
-    ensures sound { IfOk result (λ world. IsSoundFail (H.meaning handlers) (H.sound handlers) (H.spent handlers) (H.fits handlers) world) }
+    ensures sound { IfOk result (IsSoundFailBy H.Rebootable) }
 {
     let Ok(mut world) = FailWorld::new(alloc, handlers) else {
         return Err(StepRefusal::Memory);

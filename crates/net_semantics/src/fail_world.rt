@@ -1,8 +1,8 @@
-ghost use Rattle.std.specs.Prelude.{◌≡◌, ◌≢◌, ℕ, ◌+◌, ◌<◌, ◌≤◌, [], ◌++◌, length, true, false, IsTrue, IfOk, IfErr, OnOk, MatchResult, Ok, Err};
-ghost use Rattle.net_semantics.specs.Worlds.{World as DefinedWorld, first_world, copies, ends};
+ghost use Rattle.std.specs.Prelude.{◌≡◌, ◌≢◌, ℕ, ◌+◌, ◌<◌, ◌≤◌, [], ◌++◌, length, true, false, IsTrue, IfOk, IfErr, OnOk, OnErr, MatchResult, Ok, Err};
+ghost use Rattle.net_semantics.specs.Worlds.{first_world, copies, ends};
 ghost use Rattle.net_semantics.specs.Steps.{next, refusal_of, items_of, IsAnswer, acting, fails};
-ghost use Rattle.net_semantics.specs.ShownFail.{ShowsFail, IsSoundFail};
-ghost use Rattle.net_semantics.specs.TakingFail.{AnswersFail};
+ghost use Rattle.net_semantics.specs.ShownFail.{IsSoundFailBy, ShowsFailBy};
+ghost use Rattle.net_semantics.specs.TakingFail.{AnswersFailBy};
 ghost use Rattle.vst_base.specs.Nets.{has_kind, kind_of};
 
 use crate::refusals::{existing_node, input_node, or_memory};
@@ -45,10 +45,11 @@ impl<H: Rebootable> FailWorld<H> {
     /// The first world of these handlers: every node is up.
     pub fn new(alloc: Global, handlers: H) -> Result<Self, AllocError>
         ensures handlers { IfOk result (λ world. world.handlers ≡ handlers) }
-        ensures first { IfOk result (λ world. ShowsFail (H.meaning handlers).nodes world (first_world (H.meaning handlers))) }
+        ensures first { IfOk result (λ world.
+            ShowsFailBy H.Rebootable world (first_world (H.meaning handlers))) }
         ensures trace { IfOk result (λ world. world.trace ≡ []) }
         ensures taken { IfOk result (λ world. world.taken ≡ 0) }
-        ensures sound { IfOk result (λ world. IsSoundFail (H.meaning handlers) (H.sound handlers) (H.spent handlers) (H.fits handlers) world) }
+        ensures sound { IfOk result (IsSoundFailBy H.Rebootable) }
     {
         let nodes = handlers.nodes();
         let world = World::new(alloc, handlers, Net::Dup)?;
@@ -63,19 +64,20 @@ impl<H: Rebootable> FailWorld<H> {
     /// Takes one step, or says why not: the first refusal that applies. A refused step changes nothing.
     /// After want of memory the world is given up.
     pub fn step(&mut self, step: &Step<H::Input>) -> Result<(), StepRefusal>
-        requires sound { IsSoundFail (H.meaning self.old.handlers) (H.sound self.old.handlers) (H.spent self.old.handlers) (H.fits self.old.handlers) self.old }
+        requires sound { IsSoundFailBy H.Rebootable self.old }
         requires steps { self.old.taken < 1000000 }
-        ensures refused { (w : DefinedWorld H.State H.Kept H.Msg) → ShowsFail (H.meaning self.old.handlers).nodes self.old w
+        ensures refused { (w : _) → ShowsFailBy H.Rebootable self.old w
             → IsAnswer result (refusal_of Net.Fail (H.meaning self.old.handlers) w step.now) }
         ensures unchanged { IfErr result (λ why. why ≢ StepRefusal.Memory → self.new ≡ self.old) }
-        ensures next { OnOk result ((w : DefinedWorld H.State H.Kept H.Msg) → ShowsFail (H.meaning self.old.handlers).nodes self.old w
-            → ShowsFail (H.meaning self.old.handlers).nodes self.new (next (H.meaning self.old.handlers) (H.recovery self.old.handlers) w step.now)) }
-        ensures trace { OnOk result ((w : DefinedWorld H.State H.Kept H.Msg) → ShowsFail (H.meaning self.old.handlers).nodes self.old w
+        ensures next { OnOk result ((w : _) → ShowsFailBy H.Rebootable self.old w
+            → ShowsFailBy H.Rebootable self.new
+            (next (H.meaning self.old.handlers) (H.recovery self.old.handlers) w step.now)) }
+        ensures trace { OnOk result ((w : _) → ShowsFailBy H.Rebootable self.old w
             → self.new.trace ≡ self.old.trace ++ items_of (H.meaning self.old.handlers) w step.now) }
         ensures trace_grows { OnOk result (length self.old.trace ≤ length self.new.trace) }
         ensures taken { OnOk result (self.new.taken ≡ self.old.taken + 1) }
         ensures handlers { self.new.handlers ≡ self.old.handlers }
-        ensures sound { OnOk result (IsSoundFail (H.meaning self.old.handlers) (H.sound self.old.handlers) (H.spent self.old.handlers) (H.fits self.old.handlers) self.new) }
+        ensures sound { OnOk result (IsSoundFailBy H.Rebootable self.new) }
         ensures dup_takes_no_memory { (k : ℕ) → step.now ≡ Step.Dup k → result ≢ Err StepRefusal.Memory }
         ensures lose_takes_no_memory { (k : ℕ) → step.now ≡ Step.Lose k → result ≢ Err StepRefusal.Memory }
     {
@@ -124,38 +126,38 @@ impl<H: Rebootable> FailWorld<H> {
 
     /// How many copies of packet `k` are in flight, none of one that was never sent.
     pub fn copies(&self, k: u32) -> u32
-        ensures { (w : DefinedWorld H.State H.Kept H.Msg) → ShowsFail (H.meaning self.now.handlers).nodes self.now w → result ≡ copies w k }
+        ensures { (w : _) → ShowsFailBy H.Rebootable self.now w → result ≡ copies w k }
     {
         self.world.copies(k)
     }
 
     /// The source and the destination of packet `k`, and `None` exactly where it was never sent.
     pub fn ends(&self, k: u32) -> Option<(Node, Node)>
-        ensures { (w : DefinedWorld H.State H.Kept H.Msg) → ShowsFail (H.meaning self.now.handlers).nodes self.now w → result ≡ ends w k }
+        ensures { (w : _) → ShowsFailBy H.Rebootable self.now w → result ≡ ends w k }
     {
         self.world.ends(k)
     }
 
     /// How many packets were sent.
     pub fn sent(&self) -> u32
-        requires sound { IsSoundFail (H.meaning self.now.handlers) (H.sound self.now.handlers) (H.spent self.now.handlers) (H.fits self.now.handlers) self.now }
-        ensures { (w : DefinedWorld H.State H.Kept H.Msg) → ShowsFail (H.meaning self.now.handlers).nodes self.now w → result ≡ length w.packets }
+        requires sound { IsSoundFailBy H.Rebootable self.now }
+        ensures { (w : _) → ShowsFailBy H.Rebootable self.now w → result ≡ length w.packets }
     {
         self.world.sent()
     }
 
     /// Whether node `n` is up.
     pub fn is_up(&self, n: Node) -> bool
-        ensures { (w : DefinedWorld H.State H.Kept H.Msg) → ShowsFail (H.meaning self.now.handlers).nodes self.now w → result ≡ w.is_up n }
+        ensures { (w : _) → ShowsFailBy H.Rebootable self.now w → result ≡ w.is_up n }
     {
         self.stopped.is_up(n)
     }
 
     /// The state of node `n`. A node that is down has the one in which it stopped.
     pub fn state(&self, n: Node) -> &H::State
-        requires sound { IsSoundFail (H.meaning self.now.handlers) (H.sound self.now.handlers) (H.spent self.now.handlers) (H.fits self.now.handlers) self.now }
+        requires sound { IsSoundFailBy H.Rebootable self.now }
         requires node { n < (H.meaning self.now.handlers).nodes }
-        ensures { (w : DefinedWorld H.State H.Kept H.Msg) → ShowsFail (H.meaning self.now.handlers).nodes self.now w → result.now ≡ w.state n }
+        ensures { (w : _) → ShowsFailBy H.Rebootable self.now w → result.now ≡ w.state n }
     {
         self.world.state(n)
     }
@@ -164,8 +166,9 @@ impl<H: Rebootable> FailWorld<H> {
 impl<H: Rebootable> FailWorld<H> {
     // Node `n`, which has to be up.
     fn up(&self, n: Node) -> Result<(), StepRefusal>
-        ensures ok { OnOk result ((w : DefinedWorld H.State H.Kept H.Msg) → ShowsFail (H.meaning self.now.handlers).nodes self.now w → w.is_up n ≡ true) }
-        ensures down { IfErr result (λ why. (why ≡ StepRefusal.NodeDown) × ((w : DefinedWorld H.State H.Kept H.Msg) → ShowsFail (H.meaning self.now.handlers).nodes self.now w → w.is_up n ≡ false)) }
+        ensures up { OnOk result ((w : _) → ShowsFailBy H.Rebootable self.now w → w.is_up n ≡ true) }
+        ensures down { OnErr result ((w : _) → ShowsFailBy H.Rebootable self.now w → w.is_up n ≡ false) }
+        ensures why { IfErr result (λ why. why ≡ StepRefusal.NodeDown) }
     {
         if self.is_up(n) {
             Ok(())
@@ -177,8 +180,10 @@ impl<H: Rebootable> FailWorld<H> {
     // The node that acts in the step, if any, has to be up.
     fn acting_up(&self, step: &Step<H::Input>) -> Result<(), StepRefusal>
         requires kind { IsTrue (has_kind Net.Dup (kind_of step.now)) }
-        ensures up { OnOk result ((w : DefinedWorld H.State H.Kept H.Msg) → ShowsFail (H.meaning self.now.handlers).nodes self.now w → fails (acting w step.now) w.is_up ≡ false) }
-        ensures refused { IfErr result (λ why. (w : DefinedWorld H.State H.Kept H.Msg) → ShowsFail (H.meaning self.now.handlers).nodes self.now w → IsAnswer result (refusal_of Net.Fail (H.meaning self.now.handlers) w step.now)) }
+        ensures up { OnOk result ((w : _) → ShowsFailBy H.Rebootable self.now w
+            → fails (acting w step.now) w.is_up ≡ false) }
+        ensures refused { OnErr result ((w : _) → ShowsFailBy H.Rebootable self.now w
+            → IsAnswer result (refusal_of Net.Fail (H.meaning self.now.handlers) w step.now)) }
         ensures no_memory { result ≢ Err StepRefusal.Memory }
     {
         match step {
@@ -196,10 +201,10 @@ impl<H: Rebootable> FailWorld<H> {
     // A step that a network has too on which no node is ever down: the world takes it that this one
     // stands on.
     fn pass_on(&mut self, step: &Step<H::Input>) -> Result<(), StepRefusal>
-        requires sound { IsSoundFail (H.meaning self.old.handlers) (H.sound self.old.handlers) (H.spent self.old.handlers) (H.fits self.old.handlers) self.old }
+        requires sound { IsSoundFailBy H.Rebootable self.old }
         requires steps { self.old.taken < 1000000 }
         requires kind { IsTrue (has_kind Net.Dup (kind_of step.now)) }
-        ensures answers { AnswersFail (H.meaning self.old.handlers) (H.recovery self.old.handlers) (H.sound self.old.handlers) (H.spent self.old.handlers) (H.fits self.old.handlers) step.now self.old self.new result }
+        ensures answers { AnswersFailBy H.Rebootable step.now self.old self.new result }
         ensures dup_takes_no_memory { (k : ℕ) → step.now ≡ Step.Dup k → result ≢ Err StepRefusal.Memory }
     {
         self.acting_up(step)?;
@@ -208,9 +213,9 @@ impl<H: Rebootable> FailWorld<H> {
 
     // A loss. It takes no memory.
     fn take_lose(&mut self, k: u32) -> Result<(), StepRefusal>
-        requires sound { IsSoundFail (H.meaning self.old.handlers) (H.sound self.old.handlers) (H.spent self.old.handlers) (H.fits self.old.handlers) self.old }
+        requires sound { IsSoundFailBy H.Rebootable self.old }
         requires steps { self.old.taken < 1000000 }
-        ensures answers { AnswersFail (H.meaning self.old.handlers) (H.recovery self.old.handlers) (H.sound self.old.handlers) (H.spent self.old.handlers) (H.fits self.old.handlers) (Step.Lose k) self.old self.new result }
+        ensures answers { AnswersFailBy H.Rebootable (Step.Lose k) self.old self.new result }
         ensures no_memory { result ≢ Err StepRefusal.Memory }
     {
         self.world.lose(k)
@@ -218,9 +223,9 @@ impl<H: Rebootable> FailWorld<H> {
 
     // A crash.
     fn take_crash(&mut self, n: u32) -> Result<(), StepRefusal>
-        requires sound { IsSoundFail (H.meaning self.old.handlers) (H.sound self.old.handlers) (H.spent self.old.handlers) (H.fits self.old.handlers) self.old }
+        requires sound { IsSoundFailBy H.Rebootable self.old }
         requires steps { self.old.taken < 1000000 }
-        ensures { AnswersFail (H.meaning self.old.handlers) (H.recovery self.old.handlers) (H.sound self.old.handlers) (H.spent self.old.handlers) (H.fits self.old.handlers) (Step.Crash n) self.old self.new result }
+        ensures { AnswersFailBy H.Rebootable (Step.Crash n) self.old self.new result }
     {
         let node = existing_node(self.world.handlers(), n)?;
         self.up(node)?;
@@ -233,9 +238,9 @@ impl<H: Rebootable> FailWorld<H> {
 
     // A reboot.
     fn take_reboot(&mut self, n: u32) -> Result<(), StepRefusal>
-        requires sound { IsSoundFail (H.meaning self.old.handlers) (H.sound self.old.handlers) (H.spent self.old.handlers) (H.fits self.old.handlers) self.old }
+        requires sound { IsSoundFailBy H.Rebootable self.old }
         requires steps { self.old.taken < 1000000 }
-        ensures { AnswersFail (H.meaning self.old.handlers) (H.recovery self.old.handlers) (H.sound self.old.handlers) (H.spent self.old.handlers) (H.fits self.old.handlers) (Step.Reboot n) self.old self.new result }
+        ensures { AnswersFailBy H.Rebootable (Step.Reboot n) self.old self.new result }
     {
         let node = existing_node(self.world.handlers(), n)?;
         let Some(kept) = self.stopped.start(node) else {

@@ -1,6 +1,6 @@
 ghost use Rattle.std.specs.Prelude.{◌⊎◌, ◌≡◌, ◌<◌, true, refl, [], ◌∷◌, length, IfOk};
 ghost use Rattle.std.proofs.Common.{arith};
-ghost use Rattle.net_semantics.specs.Shown.{IsSound};
+ghost use Rattle.net_semantics.specs.Shown.{IsSoundBy};
 
 use super::*;
 use handler_trait::{Effects, Handlers, Rebootable};
@@ -123,7 +123,7 @@ fn after<H: Handlers>(
     requires few { length steps.now < 1000000 }
     ensures handlers { IfOk result (λ world. world.handlers ≡ handlers) }
     ensures taken { IfOk result (λ world. world.taken ≡ length steps.now) }
-    ensures sound { IfOk result (λ world. IsSound (H.meaning handlers) (H.sound handlers) (H.spent handlers) world) }
+    ensures sound { IfOk result (IsSoundBy H.Handlers) }
 {
     let Ok(mut world) = World::new(alloc, handlers, net) else {
         return Err(StepRefusal::Memory);

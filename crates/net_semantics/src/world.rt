@@ -1,10 +1,10 @@
 ghost use Rattle.std.specs.Prelude.{◌≡◌, ◌≢◌, ℕ, ◌+◌, ◌<◌, ◌≤◌, [], ◌++◌, length, IsTrue, IsOk, IfOk, IfErr, OnOk, OnErr, Some, None, Ok, Err, slice_get};
-ghost use Rattle.net_semantics.specs.Worlds.{World as DefinedWorld, first_world, change_at, copies, ends};
+ghost use Rattle.net_semantics.specs.Worlds.{first_world, change_at, copies, ends};
 ghost use Rattle.net_semantics.specs.Steps.{next, refusal_of, items_of, IsAnswer};
 ghost use Rattle.net_semantics.specs.Runs.{no_recovery};
-ghost use Rattle.net_semantics.specs.Shown.{Shows, IsSound};
+ghost use Rattle.net_semantics.specs.Shown.{IsSoundBy, ShowsBy};
 ghost use Rattle.net_semantics.specs.Kept.{kept_copies, kept_less};
-ghost use Rattle.net_semantics.specs.Taking.{Takes, Answers};
+ghost use Rattle.net_semantics.specs.Taking.{AnswersBy, TakesBy};
 ghost use Rattle.vst_base.specs.Nets.{has_kind};
 
 use crate::Trace;
@@ -57,10 +57,10 @@ impl<H: Handlers> World<H> {
         requires { net ≢ Net.Fail }
         ensures handlers { IfOk result (λ world. world.handlers ≡ handlers) }
         ensures net { IfOk result (λ world. world.net ≡ net) }
-        ensures first { IfOk result (λ world. Shows (H.meaning handlers).nodes world (first_world {K = H.State} (H.meaning handlers))) }
+        ensures first { IfOk result (λ world. ShowsBy H.Handlers world (first_world (H.meaning handlers))) }
         ensures trace { IfOk result (λ world. world.trace ≡ []) }
         ensures taken { IfOk result (λ world. world.taken ≡ 0) }
-        ensures sound { IfOk result (λ world. IsSound (H.meaning handlers) (H.sound handlers) (H.spent handlers) world) }
+        ensures sound { IfOk result (IsSoundBy H.Handlers) }
     {
         let states = first_states(alloc, &handlers)?;
         Ok(World {
@@ -78,20 +78,20 @@ impl<H: Handlers> World<H> {
     /// Takes one step, or says why not: the first refusal that applies. A refused step changes nothing.
     /// After want of memory the world is given up.
     pub fn step(&mut self, step: &Step<H::Input>) -> Result<(), StepRefusal>
-        requires sound { IsSound (H.meaning self.old.handlers) (H.sound self.old.handlers) (H.spent self.old.handlers) self.old }
+        requires sound { IsSoundBy H.Handlers self.old }
         requires steps { self.old.taken < 1000000 }
-        ensures refused { (w : DefinedWorld H.State H.State H.Msg) → Shows (H.meaning self.old.handlers).nodes self.old w
+        ensures refused { (w : _) → ShowsBy H.Handlers self.old w
             → IsAnswer result (refusal_of self.old.net (H.meaning self.old.handlers) w step.now) }
         ensures unchanged { IfErr result (λ why. why ≢ StepRefusal.Memory → self.new ≡ self.old) }
-        ensures next { OnOk result ((w : DefinedWorld H.State H.State H.Msg) → Shows (H.meaning self.old.handlers).nodes self.old w
-            → Shows (H.meaning self.old.handlers).nodes self.new (next (H.meaning self.old.handlers) no_recovery w step.now)) }
-        ensures trace { OnOk result ((w : DefinedWorld H.State H.State H.Msg) → Shows (H.meaning self.old.handlers).nodes self.old w
+        ensures next { OnOk result ((w : _) → ShowsBy H.Handlers self.old w
+            → ShowsBy H.Handlers self.new (next (H.meaning self.old.handlers) no_recovery w step.now)) }
+        ensures trace { OnOk result ((w : _) → ShowsBy H.Handlers self.old w
             → self.new.trace ≡ self.old.trace ++ items_of (H.meaning self.old.handlers) w step.now) }
         ensures trace_grows { OnOk result (length self.old.trace ≤ length self.new.trace) }
         ensures taken { OnOk result (self.new.taken ≡ self.old.taken + 1) }
         ensures handlers { self.new.handlers ≡ self.old.handlers }
         ensures net { self.new.net ≡ self.old.net }
-        ensures sound { OnOk result (IsSound (H.meaning self.old.handlers) (H.sound self.old.handlers) (H.spent self.old.handlers) self.new) }
+        ensures sound { OnOk result (IsSoundBy H.Handlers self.new) }
         ensures dup_takes_no_memory { (k : ℕ) → step.now ≡ Step.Dup k → result ≢ Err StepRefusal.Memory }
     {
         if !self.net.has(step.kind()) {
@@ -143,38 +143,38 @@ impl<H: Handlers> World<H> {
 
     /// How many copies of packet `k` are in flight, none of one that was never sent.
     pub fn copies(&self, k: u32) -> u32
-        ensures { (w : DefinedWorld H.State H.State H.Msg) → Shows (H.meaning self.now.handlers).nodes self.now w → result ≡ copies w k }
+        ensures { (w : _) → ShowsBy H.Handlers self.now w → result ≡ copies w k }
     {
         self.packets.copies(k)
     }
 
     /// The source and the destination of packet `k`, and `None` exactly where it was never sent.
     pub fn ends(&self, k: u32) -> Option<(Node, Node)>
-        ensures { (w : DefinedWorld H.State H.State H.Msg) → Shows (H.meaning self.now.handlers).nodes self.now w → result ≡ ends w k }
+        ensures { (w : _) → ShowsBy H.Handlers self.now w → result ≡ ends w k }
     {
         self.packets.ends(k)
     }
 
     /// How many packets were sent.
     pub fn sent(&self) -> u32
-        requires sound { IsSound (H.meaning self.now.handlers) (H.sound self.now.handlers) (H.spent self.now.handlers) self.now }
-        ensures { (w : DefinedWorld H.State H.State H.Msg) → Shows (H.meaning self.now.handlers).nodes self.now w → result ≡ length w.packets }
+        requires sound { IsSoundBy H.Handlers self.now }
+        ensures { (w : _) → ShowsBy H.Handlers self.now w → result ≡ length w.packets }
     {
         self.packets.len() as u32
     }
 
     /// Whether node `n` is up: on these networks it always is.
     pub fn is_up(&self, n: Node) -> bool
-        ensures { (w : DefinedWorld H.State H.State H.Msg) → Shows (H.meaning self.now.handlers).nodes self.now w → result ≡ w.is_up n }
+        ensures { (w : _) → ShowsBy H.Handlers self.now w → result ≡ w.is_up n }
     {
         true
     }
 
     /// The state of node `n`.
     pub fn state(&self, n: Node) -> &H::State
-        requires sound { IsSound (H.meaning self.now.handlers) (H.sound self.now.handlers) (H.spent self.now.handlers) self.now }
+        requires sound { IsSoundBy H.Handlers self.now }
         requires node { n < (H.meaning self.now.handlers).nodes }
-        ensures { (w : DefinedWorld H.State H.State H.Msg) → Shows (H.meaning self.now.handlers).nodes self.now w → result.now ≡ w.state n }
+        ensures { (w : _) → ShowsBy H.Handlers self.now w → result.now ≡ w.state n }
     {
         self.held_state(n)
     }
@@ -191,10 +191,10 @@ impl<H: Handlers> World<H> {
 impl<H: Handlers> World<H> {
     // An input step.
     fn take_input(&mut self, n: u32, input: &H::Input) -> Result<(), StepRefusal>
-        requires sound { IsSound (H.meaning self.old.handlers) (H.sound self.old.handlers) (H.spent self.old.handlers) self.old }
+        requires sound { IsSoundBy H.Handlers self.old }
         requires steps { self.old.taken < 1000000 }
         requires kind { IsTrue (has_kind self.old.net StepKind.In) }
-        ensures { Answers (H.meaning self.old.handlers) (H.sound self.old.handlers) (H.spent self.old.handlers) (Step.In n input.now) self.old self.new result }
+        ensures { AnswersBy H.Handlers (Step.In n input.now) self.old self.new result }
     {
         let node = input_node(&self.handlers, n)?;
         or_memory(self.input(node, input))
@@ -202,10 +202,10 @@ impl<H: Handlers> World<H> {
 
     // A step of a timer.
     fn take_tick(&mut self, n: u32) -> Result<(), StepRefusal>
-        requires sound { IsSound (H.meaning self.old.handlers) (H.sound self.old.handlers) (H.spent self.old.handlers) self.old }
+        requires sound { IsSoundBy H.Handlers self.old }
         requires steps { self.old.taken < 1000000 }
         requires kind { IsTrue (has_kind self.old.net StepKind.Tick) }
-        ensures { Answers (H.meaning self.old.handlers) (H.sound self.old.handlers) (H.spent self.old.handlers) (Step.Tick n) self.old self.new result }
+        ensures { AnswersBy H.Handlers (Step.Tick n) self.old self.new result }
     {
         let node = existing_node(&self.handlers, n)?;
         or_memory(self.tick(node))
@@ -213,10 +213,10 @@ impl<H: Handlers> World<H> {
 
     // A delivery.
     fn take_deliver(&mut self, k: u32) -> Result<(), StepRefusal>
-        requires sound { IsSound (H.meaning self.old.handlers) (H.sound self.old.handlers) (H.spent self.old.handlers) self.old }
+        requires sound { IsSoundBy H.Handlers self.old }
         requires steps { self.old.taken < 1000000 }
         requires kind { IsTrue (has_kind self.old.net StepKind.Deliver) }
-        ensures { Answers (H.meaning self.old.handlers) (H.sound self.old.handlers) (H.spent self.old.handlers) (Step.Deliver k) self.old self.new result }
+        ensures { AnswersBy H.Handlers (Step.Deliver k) self.old self.new result }
     {
         let place = self.packets.in_flight(k)?;
         or_memory(self.deliver(place))
@@ -224,10 +224,10 @@ impl<H: Handlers> World<H> {
 
     // A step that copies a packet. It takes no memory.
     fn take_dup(&mut self, k: u32) -> Result<(), StepRefusal>
-        requires sound { IsSound (H.meaning self.old.handlers) (H.sound self.old.handlers) (H.spent self.old.handlers) self.old }
+        requires sound { IsSoundBy H.Handlers self.old }
         requires steps { self.old.taken < 1000000 }
         requires kind { IsTrue (has_kind self.old.net StepKind.Dup) }
-        ensures answers { Answers (H.meaning self.old.handlers) (H.sound self.old.handlers) (H.spent self.old.handlers) (Step.Dup k) self.old self.new result }
+        ensures answers { AnswersBy H.Handlers (Step.Dup k) self.old self.new result }
         ensures no_memory { result ≢ Err StepRefusal.Memory }
     {
         let place = self.packets.in_flight(k)?;
@@ -238,11 +238,11 @@ impl<H: Handlers> World<H> {
 
     // The node takes the input.
     fn input(&mut self, node: Node, input: &H::Input) -> Result<(), AllocError>
-        requires sound { IsSound (H.meaning self.old.handlers) (H.sound self.old.handlers) (H.spent self.old.handlers) self.old }
+        requires sound { IsSoundBy H.Handlers self.old }
         requires steps { self.old.taken < 1000000 }
         requires node { node < (H.meaning self.old.handlers).nodes }
         requires takes { IsTrue ((H.meaning self.old.handlers).takes_input node) }
-        ensures takes { OnOk result (Takes (H.meaning self.old.handlers) (H.sound self.old.handlers) (H.spent self.old.handlers) (Step.In node input.now) self.old self.new) }
+        ensures takes { OnOk result (TakesBy H.Handlers (Step.In node input.now) self.old self.new) }
         ensures handlers { self.new.handlers ≡ self.old.handlers }
         ensures net { self.new.net ≡ self.old.net }
     {
@@ -263,10 +263,10 @@ impl<H: Handlers> World<H> {
 
     // The node's timer fires.
     fn tick(&mut self, node: Node) -> Result<(), AllocError>
-        requires sound { IsSound (H.meaning self.old.handlers) (H.sound self.old.handlers) (H.spent self.old.handlers) self.old }
+        requires sound { IsSoundBy H.Handlers self.old }
         requires steps { self.old.taken < 1000000 }
         requires node { node < (H.meaning self.old.handlers).nodes }
-        ensures takes { OnOk result (Takes (H.meaning self.old.handlers) (H.sound self.old.handlers) (H.spent self.old.handlers) (Step.Tick node) self.old self.new) }
+        ensures takes { OnOk result (TakesBy H.Handlers (Step.Tick node) self.old self.new) }
         ensures handlers { self.new.handlers ≡ self.old.handlers }
         ensures net { self.new.net ≡ self.old.net }
     {
@@ -284,10 +284,10 @@ impl<H: Handlers> World<H> {
 
     // A copy of packet `k` comes to its destination.
     fn deliver(&mut self, k: usize) -> Result<(), AllocError>
-        requires sound { IsSound (H.meaning self.old.handlers) (H.sound self.old.handlers) (H.spent self.old.handlers) self.old }
+        requires sound { IsSoundBy H.Handlers self.old }
         requires steps { self.old.taken < 1000000 }
         requires copy { 0 < kept_copies (slice_get self.old.packets k) }
-        ensures takes { OnOk result (Takes (H.meaning self.old.handlers) (H.sound self.old.handlers) (H.spent self.old.handlers) (Step.Deliver k) self.old self.new) }
+        ensures takes { OnOk result (TakesBy H.Handlers (Step.Deliver k) self.old self.new) }
         ensures handlers { self.new.handlers ≡ self.old.handlers }
         ensures net { self.new.net ≡ self.old.net }
     {
@@ -313,8 +313,10 @@ impl<H: Handlers> World<H> {
     pub(crate) fn lose(&mut self, k: u32) -> Result<(), StepRefusal>
         requires { self.old.taken < 1000000 }
         ensures copy { OnOk result (0 < kept_copies (slice_get self.old.packets k)) }
-        ensures lost { OnOk result (self.new ≡ record self.old { packets = change_at kept_less k self.old.packets; taken = self.old.taken + 1 }) }
-        ensures why { IfErr result (λ why. (why ≡ StepRefusal.NoCopy) × (kept_copies (slice_get self.old.packets k) ≡ 0)) }
+        ensures lost { OnOk result (self.new
+            ≡ record self.old { packets = change_at kept_less k self.old.packets; taken = self.old.taken + 1 }) }
+        ensures why { IfErr result (λ why.
+            (why ≡ StepRefusal.NoCopy) × (kept_copies (slice_get self.old.packets k) ≡ 0)) }
         ensures unchanged { OnErr result (self.new ≡ self.old) }
     {
         let place = self.packets.in_flight(k)?;
@@ -335,7 +337,8 @@ impl<H: Handlers> World<H> {
     pub(crate) fn restart(&mut self, n: Node, state: H::State)
         requires node { n < length self.old.states }
         requires steps { self.old.taken < 1000000 }
-        ensures { self.new ≡ record self.old { states = change_at (λ _. state) n self.old.states; taken = self.old.taken + 1 } }
+        ensures { self.new
+            ≡ record self.old { states = change_at (λ _. state) n self.old.states; taken = self.old.taken + 1 } }
     {
         self.states[usize::from(n.index())] = state;
         self.taken += 1;

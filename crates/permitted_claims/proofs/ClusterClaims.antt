@@ -1,4 +1,5 @@
 -- What a claim on a cluster of the key-value machine holds has texts, where the claim was read.
+use Rattle.vst_base.specs.declared.node.TheConstants.{MAX_NODES}
 use Rattle.std.specs.Prelude.{◌≡◌, ℕ, List, [], ◌∷◌, map, Option, Some, None, is_none, option_and_then, refl}
 use Rattle.app_text.specs.KvTexts as texts
 use Rattle.app_text.specs.KvTextLaws.{inputs_are_spelled, outputs_are_spelled}
@@ -58,7 +59,7 @@ cluster-spelled ls c is =
     let read = read-whole kv_raft_form (IsRaftInput IsCommand) (IsRaftOutput IsOutput) (IsRaftInput IsCommand) requests.has_text answers.has_text
     (order-text (raft_input_of texts.input_of) (IsRaftInput IsCommand) requests.has_text) ls c is in
     record {
-      trace = each-weaker (IsTextItem 5 (IsRaftInput IsCommand) (IsRaftOutput IsOutput)) (IsSpelledItem IsCommand IsOutput) (item-spelled 5 IsCommand IsOutput) c.trace read.trace;
+      trace = each-weaker (IsTextItem MAX_NODES (IsRaftInput IsCommand) (IsRaftOutput IsOutput)) (IsSpelledItem IsCommand IsOutput) (item-spelled MAX_NODES IsCommand IsOutput) c.trace read.trace;
       order = each-weaker (IsRaftInput IsCommand) (λ r. IsCommand r.cmd) (λ r has. has.2) c.image read.image;
       outputs = kv-fold-text (map (λ r. r.cmd) c.image) (commands-text IsCommand c.image read.image);
     }

@@ -1,18 +1,18 @@
--- Sessions tell which requests of their clients are new, as the entries do that were applied.
+-- Sessions tell which requests of their clients are new, as the requests do that came before.
 use Rattle.std.proofs.Common.{◌≡◌, ℕ, Bool, true, false, cond, not, ◌&&◌, ◌||◌, eqb, ltb, List, [], ◌∷◌, ◌++◌, Option, None, Some, refl, ap, sym, ◌∙◌, arith}
 use Rattle.std.proofs.Math.Bool.{and-true, and-false}
 use Rattle.std.proofs.lemmas.Bool.{eqb-true, ltb-true, ltb-false, lt-ltb}
 use Rattle.std.proofs.lemmas.List.Folds.{list_all-append}
 use Rattle.std.specs.FinMap.{empty, get, insert, get-empty}
 use Rattle.std.specs.Ordering.{nat_cmp}
-use Rattle.vst_base.specs.declared.entry.Entry.{Entry}
 use Rattle.raft_clients.proofs.Views.{get-written}
 use Rattle.raft_clients.specs.Executed.{exceeds}
 use Rattle.raft_clients.specs.Sessions.{Sessions, is_new}
 use Rattle.raft_clients.specs.declared.session.Session.{Session}
+use Rattle.raft_types.specs.declared.client.RaftInput.{RaftInput}
 
 -- a request is new to its client's session exactly where it exceeds the earlier ones
-pub record Knows {C O : Type 0} (sessions : Sessions O) (earlier : List (Entry C)) : Type 0 where
+pub record Knows {C O : Type 0} (sessions : Sessions O) (earlier : List (RaftInput C)) : Type 0 where
   pub tells : (client request : ℕ) → exceeds earlier client request ≡ is_new (get sessions client) request
 
 pub knows_none : {C O : Type 0} → Knows {C = C} {O = O} empty []
@@ -26,15 +26,15 @@ new_passed : {O : Type 0} (s : Option (Session O)) (q r : ℕ) → is_new s q �
 new_passed None q r h l = cc
 new_passed (Some s) q r h l = let a = ltb-false s.request q h in let b = ltb-true s.request r l in lt-ltb q r (omega arith)
 
-exceeds_more : {C : Type 0} (earlier : List (Entry C)) (e : Entry C) (client request : ℕ) →
+exceeds_more : {C : Type 0} (earlier : List (RaftInput C)) (e : RaftInput C) (client request : ℕ) →
     exceeds (earlier ++ e ∷ []) client request ≡ (exceeds earlier client request && ((not (eqb e.client client) || ltb e.request request) && true))
 exceeds_more earlier e client request = list_all-append (λ d. not (eqb d.client client) || ltb d.request request) earlier (e ∷ [])
 
--- what is kept of an entry
-abbrev pub session_of : {C O : Type 0} → Entry C → O → Session O
+-- what is kept of a request
+abbrev pub session_of : {C O : Type 0} → RaftInput C → O → Session O
 session_of e output = record { request = e.request; output = output }
 
-module _ {C O : Type 0} (sessions : Sessions O) (earlier : List (Entry C)) (e : Entry C) (knows : Knows sessions earlier) where
+module _ {C O : Type 0} (sessions : Sessions O) (earlier : List (RaftInput C)) (e : RaftInput C) (knows : Knows sessions earlier) where
   pub knows_kept : (output : O) → is_new (get sessions e.client) e.request ≡ true →
       Knows (insert sessions e.client (session_of e output)) (earlier ++ e ∷ [])
   knows_kept output new = record {

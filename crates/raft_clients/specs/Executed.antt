@@ -1,31 +1,35 @@
--- Which entries of a log are executed. It knows nothing of machines and sessions.
-use Rattle.std.specs.Prelude.{ℕ, Bool, not, ◌||◌, List, [], ◌∷◌, ◌++◌, length, map, nat_lt, ◌==◌, if◌then◌else◌}
-use Rattle.std.specs.List.{list_all}
+-- Which requests are executed. It knows nothing of machines and sessions.
+use Rattle.std.specs.Prelude.{ℕ, Bool, false, not, ◌||◌, List, [], ◌∷◌, ◌++◌, Option, Some, None, map, nat_lt, ◌==◌, if◌then◌else◌}
+use Rattle.std.specs.List.{enumerate_from, list_all}
+use Rattle.std.specs.Option.{option_to_list}
 use Rattle.vst_base.specs.declared.entry.Entry.{Entry}
+use Rattle.raft_clients.specs.Requests.{request_of}
+use Rattle.raft_types.specs.declared.client.RaftInput.{RaftInput}
 
--- whether a request number of the client exceeds each of its numbers in the entries
-abbrev pub exceeds : {C : Type 0} → List (Entry C) → ℕ → ℕ → Bool
-exceeds earlier client request = list_all (λ e. not (e.client == client) || nat_lt e.request request) earlier
+-- whether a request number of the client exceeds each of its numbers in these requests
+abbrev pub exceeds : {C : Type 0} → List (RaftInput C) → ℕ → ℕ → Bool
+exceeds earlier client request = list_all (λ r. not (r.client == client) || nat_lt r.request request) earlier
 
--- of the entries behind the earlier ones, those that are executed
-abbrev pub executed_behind : {C : Type 0} → List (Entry C) → List (Entry C) → List (Entry C)
-executed_behind earlier [] = []
-executed_behind earlier (e ∷ es) =
-    if exceeds earlier e.client e.request then e ∷ executed_behind (earlier ++ e ∷ []) es else executed_behind (earlier ++ e ∷ []) es
+-- whether a request is executed after these: one that exceeds them. Where there is none, none is
+abbrev pub is_executed : {C : Type 0} → List (RaftInput C) → Option (RaftInput C) → Bool
+is_executed earlier None = false
+is_executed earlier (Some r) = exceeds earlier r.client r.request
 
--- the entries whose request number exceeds every earlier one of their client
-abbrev pub executed : {C : Type 0} → List (Entry C) → List (Entry C)
-executed es = executed_behind [] es
+-- of things that may hold a request each, after these requests, those whose request is executed
+abbrev pub executed_after : {A C : Type 0} → (A → Option (RaftInput C)) → List (RaftInput C) → List A → List A
+executed_after asks earlier [] = []
+executed_after asks earlier (x ∷ xs) =
+    if is_executed earlier (asks x) then x ∷ executed_after asks (earlier ++ option_to_list (asks x)) xs
+    else executed_after asks (earlier ++ option_to_list (asks x)) xs
 
--- their places, from 0
-abbrev pub places_behind : {C : Type 0} → List (Entry C) → List (Entry C) → List ℕ
-places_behind earlier [] = []
-places_behind earlier (e ∷ es) =
-    if exceeds earlier e.client e.request then length earlier ∷ places_behind (earlier ++ e ∷ []) es else places_behind (earlier ++ e ∷ []) es
+-- the requests whose number exceeds every earlier one of their client
+abbrev pub executed : {C : Type 0} → List (RaftInput C) → List (RaftInput C)
+executed rs = executed_after Some [] rs
 
+-- the entries of a log that hold them, each with its term and the node that took it
+abbrev pub executed_entries : {C : Type 0} → List (Entry C) → List (Entry C)
+executed_entries es = executed_after request_of [] es
+
+-- the places of these entries, from 0
 abbrev pub executed_places : {C : Type 0} → List (Entry C) → List ℕ
-executed_places es = places_behind [] es
-
--- what they ask of the machine
-abbrev pub commands : {C : Type 0} → List (Entry C) → List C
-commands es = map (λ e. e.cmd) es
+executed_places es = map (λ p. p.0) (executed_after (λ p. request_of p.1) [] (enumerate_from 0 es))

@@ -1,4 +1,5 @@
 pub mod Examples
 pub mod Executed
 pub mod Executions
+pub mod Requests
 pub mod Sessions

@@ -1,9 +1,10 @@
-ghost use Rattle.std.specs.Prelude.{◌≡◌, None, IfOk, IsOk, OnOk};
-ghost use Rattle.raft_clients.specs.Sessions.{applied, executes, kept_output};
+ghost use Rattle.std.specs.Prelude.{◌≡◌, None, IfOk, IsOk};
+ghost use Rattle.raft_clients.specs.Sessions.{Makes, applied, executes, kept_output};
+ghost use Rattle.raft_types.specs.declared.client.RaftInput.{RaftInput};
 
 use crate::{Session, Sessions};
 use std::alloc::{AllocError, Global};
-use vst_base::{Entry, Machine, ReqId};
+use vst_base::{ClientId, Entry, Machine, ReqId, What};
 
 // A copy of the kept output, for the request that it was the output of.
 fn copy_kept<M: Machine>(
@@ -27,26 +28,25 @@ fn execute<M: Machine>(
     machine: &M,
     state: &mut M::State,
     sessions: &mut Sessions<M::Out>,
-    entry: &Entry<M::Cmd>,
+    client: ClientId,
+    request: ReqId,
+    cmd: &M::Cmd,
 ) -> Result<Option<M::Out>, AllocError>
-    ensures output { IfOk result (λ output. output ≡ (executes (M.meaning machine.now) state.old sessions.old entry.now).output) }
-    ensures state { OnOk result (state.new ≡ (executes (M.meaning machine.now) state.old sessions.old entry.now).state) }
-    ensures sessions { OnOk result (sessions.new ≡ (executes (M.meaning machine.now) state.old sessions.old entry.now).sessions) }
+    ensures { let asked : RaftInput M.Cmd = record { client = client; request = request; cmd = cmd.now } in
+        IfOk result (Makes (executes (M.meaning machine.now) state.old sessions.old asked) state.new sessions.new) }
 {
-    let told = machine.apply(alloc, state, entry.cmd())?;
-    let session = Session {
-        request: entry.request(),
-        output: machine.copy_out(alloc, &told)?,
-    };
-    sessions.keep(entry.client(), session)?;
+    let told = machine.apply(alloc, state, cmd)?;
+    let output = machine.copy_out(alloc, &told)?;
+    sessions.keep(client, Session { request, output })?;
     Ok(Some(told))
 }
 
-/// Applies an entry of the log (the extended Raft paper, section 8). A request over its client's last one is
-/// executed, and its output kept; the last one again is answered with the output that was kept; an earlier
-/// one is not answered. What a request asks for is not compared.
+/// Applies an entry of the log (the extended Raft paper, section 8). A no-op does nothing, and nobody is
+/// answered. A request over its client's last one is executed, and its output kept; the last one again is
+/// answered with the output that was kept; an earlier one is not answered. What a request asks for is not
+/// compared.
 ///
-/// After an `Err` state and sessions are given up. A request that is not answered takes no memory.
+/// After an `Err` state and sessions are given up. An entry that is not answered takes no memory.
 pub fn apply_entry<M: Machine>(
     alloc: Global,
     machine: &M,
@@ -54,14 +54,21 @@ pub fn apply_entry<M: Machine>(
     sessions: &mut Sessions<M::Out>,
     entry: &Entry<M::Cmd>,
 ) -> Result<Option<M::Out>, AllocError>
-    ensures output { IfOk result (λ output. output ≡ (applied (M.meaning machine.now) state.old sessions.old entry.now).output) }
-    ensures state { OnOk result (state.new ≡ (applied (M.meaning machine.now) state.old sessions.old entry.now).state) }
-    ensures sessions { OnOk result (sessions.new ≡ (applied (M.meaning machine.now) state.old sessions.old entry.now).sessions) }
+    ensures does { IfOk result (Makes (applied (M.meaning machine.now) state.old sessions.old entry.now) state.new sessions.new) }
     ensures not_answered { (applied (M.meaning machine.now) state.old sessions.old entry.now).output ≡ None → IsOk result }
 {
-    let request = entry.request();
-    match sessions.get(entry.client()) {
-        Some(session) if request <= session.request => copy_kept(alloc, machine, session, request),
-        _ => execute(alloc, machine, state, sessions, entry),
+    match entry.what() {
+        What::Noop => Ok(None),
+        What::Request {
+            client,
+            request,
+            cmd,
+            ..
+        } => match sessions.get(*client) {
+            Some(session) if !session.is_passed_by(*request) => {
+                copy_kept(alloc, machine, session, *request)
+            }
+            _ => execute(alloc, machine, state, sessions, *client, *request, cmd),
+        },
     }
 }

@@ -1,6 +1,6 @@
 //! What a Raft node keeps of clients, so that a request that comes again is executed once (the extended Raft
 //! paper, section 8): the last request of each client that was executed, with its output; what an entry of
-//! the log does with the machine and these; and which entries of a log are executed. It knows nothing of
+//! the log does with the machine and these; and which requests of a log are executed. It knows nothing of
 //! terms, messages or nodes.
 #![tactic(auto)]
 

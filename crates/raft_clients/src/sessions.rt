@@ -1,4 +1,4 @@
-ghost use Rattle.std.specs.Prelude.{◌≡◌, OnErr, OnOk};
+ghost use Rattle.std.specs.Prelude.{◌≡◌, false, IfOk, IsOk, OnErr, OnOk, if◌then◌else◌};
 ghost use Rattle.std.specs.FinMap as map;
 ghost use Rattle.std.specs.Option.{option_copied};
 ghost use Rattle.raft_clients.specs.Sessions.{is_new};
@@ -48,7 +48,7 @@ impl<O: Drop> Sessions<O> {
         ensures { result ≡ is_new (map.get self.now client) request }
     {
         match self.get(client) {
-            Some(session) => session.request < request,
+            Some(session) => session.is_passed_by(request),
             None => true,
         }
     }
@@ -60,5 +60,23 @@ impl<O: Drop> Sessions<O> {
     {
         self.by_client.insert(client, session)?;
         Ok(())
+    }
+}
+
+impl Sessions<()> {
+    /// Notes a request, and whether it is new to its client: over its last one. Then it is the client's last
+    /// one from now on. It takes no memory where it is not new, and an `Err` changes nothing.
+    pub fn note(&mut self, client: ClientId, request: ReqId) -> Result<bool, AllocError>
+        ensures answer { IfOk result (λ new. new ≡ is_new (map.get self.old client) request) }
+        ensures noted { IfOk result (λ new. self.new ≡ (if new then map.insert self.old client (record { request = request; output = tt }) else self.old)) }
+        ensures known { is_new (map.get self.old client) request ≡ false → IsOk result }
+        ensures err { OnErr result (self.new ≡ self.old) }
+    {
+        let new = self.is_new(client, request);
+        if new {
+            let output = ();
+            self.keep(client, Session { request, output })?;
+        }
+        Ok(new)
     }
 }

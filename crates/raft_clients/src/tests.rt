@@ -3,7 +3,7 @@ ghost use Rattle.vst_base.specs.Examples.{counter};
 use super::*;
 use std::alloc::{AllocError, Global};
 use std::test::Fail;
-use vst_base::{ClientId, Entry, Machine, Node, ReqId};
+use vst_base::{ClientId, Entry, Machine, Node, ReqId, What};
 
 // Adds its commands up to 255, and answers with the sum before.
 #[derive(Drop)]
@@ -39,8 +39,15 @@ impl Machine for Counter {
 
 // A request of a client, by its number, for this command.
 fn asks(client: u64, request: u64, cmd: u8) -> Result<Entry<u8>, Fail> {
-    let origin = Node::new(0, 5).ok_or("a node")?;
-    Ok(Entry::new(1, ClientId::new(client), ReqId::new(request), origin, cmd))
+    let origin = Node::new(0, 9).ok_or("a node")?;
+    let (client, request) = (ClientId::new(client), ReqId::new(request));
+    let what = What::Request {
+        client,
+        request,
+        origin,
+        cmd,
+    };
+    Ok(Entry::new(1, what))
 }
 
 // What the machine and the sessions answer, through the bounds.
@@ -81,6 +88,18 @@ fn a_request_is_executed_once_and_answered_again(rt: HostRuntime) -> Result<(), 
 }
 
 #[test]
+fn a_noop_does_nothing(rt: HostRuntime) -> Result<(), Fail> {
+    let alloc = rt.alloc();
+    let mut state = 5;
+    let mut sessions = Sessions::new(alloc);
+    let noop = Entry::new(1, What::Noop);
+    let answer = apply(alloc, &Counter, &mut state, &mut sessions, &noop)?;
+    assert_eq!(rt; (answer, state), (None, 5));
+    assert!(rt; sessions.get(ClientId::new(0)).is_none());
+    Ok(())
+}
+
+#[test]
 fn each_client_has_its_own_session(rt: HostRuntime) -> Result<(), Fail> {
     let alloc = rt.alloc();
     let mut state = 0;
@@ -103,10 +122,11 @@ fn each_client_has_its_own_session(rt: HostRuntime) -> Result<(), Fail> {
     Ok(())
 }
 
-// The places of the executed requests, of a client and a number each.
+// The places of the executed requests, of a client and a number each. A no-op stands before each.
 fn places(alloc: Global, requests: &[(u64, u64)]) -> Result<Vec<usize>, Fail> {
     let mut entries = Vec::new(alloc);
     for (client, request) in requests {
+        entries.push(Entry::new(1, What::Noop))?;
         entries.push(asks(*client, *request, 0)?)?;
     }
     Ok(executed(alloc, &entries)?)
@@ -116,12 +136,12 @@ fn places(alloc: Global, requests: &[(u64, u64)]) -> Result<Vec<usize>, Fail> {
 fn requests_over_all_earlier_ones_are_executed(rt: HostRuntime) -> Result<(), Fail> {
     for (requests, executed) in [
         ([].as_slice(), [].as_slice()),
-        (&[(7, 0), (7, 0)], &[0]),
-        (&[(7, 1), (9, 1), (7, 1), (9, 2)], &[0, 1, 3]),
-        (&[(7, 5), (7, 3), (7, 4), (7, 6)], &[0, 3]),
+        (&[(7, 0), (7, 0)], &[1]),
+        (&[(7, 1), (9, 1), (7, 1), (9, 2)], &[1, 3, 7]),
+        (&[(7, 5), (7, 3), (7, 4), (7, 6)], &[1, 7]),
         (
             &[(0, 0), (1, 0), (0, u64::MAX), (0, 1), (1, 1)],
-            &[0, 1, 2, 4],
+            &[1, 3, 5, 9],
         ),
     ] {
         let found = places(rt.alloc(), requests)?;

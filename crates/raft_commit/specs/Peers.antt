@@ -21,7 +21,8 @@ matched_of peers = slice_index (map (λ p. p.matched) peers)
 abbrev pub is_news : PeerView → ℕ → ℕ → Bool
 is_news p index len = nat_lt p.matched index && nat_le index len
 
--- a node that refuses the entries behind the index refuses those that it would be sent next
+-- a node refuses the entries after the index: those that the leader would send it next, where it is not known to have
+-- that index already
 abbrev pub is_refusal : PeerView → ℕ → Bool
 is_refusal p index = suc index == p.next && nat_lt p.matched index
 

@@ -1,6 +1,6 @@
-ghost use Rattle.std.specs.Prelude.{◌≡◌, [], ◌∷◌, true, false, drop, take};
+ghost use Rattle.std.specs.Prelude.{◌≡◌, [], ◌∷◌, ◌++◌, true, false, drop, take};
 ghost use Rattle.vst_base.specs.Committing.{advance};
-ghost use Rattle.vst_base.specs.LogExamples.{leader, log};
+ghost use Rattle.vst_base.specs.LogExamples.{leader, log, noop};
 ghost use Rattle.raft_commit.specs.Batches.{batch};
 ghost use Rattle.raft_commit.specs.PeerExamples.{peer, peers};
 ghost use Rattle.raft_commit.specs.Peers.{matched_of, moved, new_peer, peer_behind};
@@ -45,6 +45,12 @@ pub fn worked_commits()
     ensures old_term_waits { advance 5 0 (matched_of (peers (0 ∷ 2 ∷ 2 ∷ 0 ∷ 0 ∷ []))) (log (1 ∷ 2 ∷ 4 ∷ [])) 4 1 3 ≡ 1 }
     ensures old_term_goes_with_its_own { advance 5 0 (matched_of (peers (0 ∷ 3 ∷ 3 ∷ 0 ∷ 0 ∷ []))) (log (1 ∷ 2 ∷ 4 ∷ [])) 4 1 3 ≡ 3 }
     ensures two_of_five { advance 5 0 (matched_of (peers (0 ∷ 3 ∷ 2 ∷ 1 ∷ 0 ∷ []))) (log (1 ∷ 2 ∷ 4 ∷ [])) 4 1 3 ≡ 1 }
+
+    ensures old_terms_wait { advance 3 0 (matched_of (peers (0 ∷ 2 ∷ 0 ∷ []))) (log (1 ∷ 1 ∷ 2 ∷ [])) 2 0 3 ≡ 0 }
+    ensures old_terms_go_with_its_own { advance 3 0 (matched_of (peers (0 ∷ 3 ∷ 0 ∷ []))) (log (1 ∷ 1 ∷ 2 ∷ [])) 2 0 3 ≡ 3 }
+    ensures a_noop_commits_them { advance 3 0 (matched_of (peers (0 ∷ 3 ∷ 0 ∷ []))) (log (1 ∷ 1 ∷ []) ++ noop 2 ∷ []) 2 0 3 ≡ 3 }
+    ensures four_of_nine { advance 9 0 (matched_of (peers (0 ∷ 1 ∷ 1 ∷ 1 ∷ 0 ∷ 0 ∷ 0 ∷ 0 ∷ 0 ∷ []))) (log (1 ∷ [])) 1 0 1 ≡ 0 }
+    ensures five_of_nine { advance 9 0 (matched_of (peers (0 ∷ 1 ∷ 1 ∷ 1 ∷ 0 ∷ 0 ∷ 0 ∷ 0 ∷ 1 ∷ []))) (log (1 ∷ [])) 1 0 1 ≡ 1 }
 
     ensures two_of_three { advance 3 1 (matched_of (peers (3 ∷ 0 ∷ 1 ∷ []))) (log (1 ∷ 1 ∷ 1 ∷ 1 ∷ [])) 1 0 4 ≡ 3 }
     ensures third_of_five { advance 5 4 (matched_of (peers (1 ∷ 4 ∷ 2 ∷ 3 ∷ 0 ∷ []))) (log (1 ∷ 1 ∷ 1 ∷ 1 ∷ [])) 1 0 4 ≡ 3 }

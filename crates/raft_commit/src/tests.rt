@@ -2,17 +2,16 @@ use super::*;
 use std::alloc::Global;
 use std::process::Abort;
 use std::test::Fail;
-use vst_base::{ClientId, Entry, MAX_TERM, Node, ReqId};
+use vst_base::{Entry, MAX_TERM, Node, What};
 
 // Entries of these terms.
 fn entries(alloc: Global, terms: &[u64]) -> Result<Vec<Entry<u8>>, Fail> {
-    let origin = Node::new(0, 5).ok_or("a node")?;
     let mut made = Vec::new(alloc);
     for term in terms {
         if *term == 0 || *term > MAX_TERM {
             return Err(Fail::from("a term of an entry"));
         }
-        made.push(Entry::new(*term, ClientId::new(7), ReqId::new(1), origin, 0))?;
+        made.push(Entry::new(*term, What::Noop))?;
     }
     Ok(made)
 }
@@ -65,6 +64,15 @@ fn an_old_terms_entry_is_committed_with_one_of_the_leaders(rt: HostRuntime) -> R
     ] {
         assert_eq!(rt; committed(alloc, &FIGURE_8, &matched, 0, 4, 1)?, commit);
     }
+    Ok(())
+}
+
+// Node 0 of three leads in term 2. Its first two entries, which are of term 1, are on a majority; then so is its own.
+#[test]
+fn entries_of_an_old_term_wait_for_the_leaders_own(rt: HostRuntime) -> Result<(), Fail> {
+    let alloc = rt.alloc();
+    assert_eq!(rt; committed(alloc, &[1, 1, 2], &[0, 2, 0], 0, 2, 0)?, 0);
+    assert_eq!(rt; committed(alloc, &[1, 1, 2], &[0, 3, 0], 0, 2, 0)?, 3);
     Ok(())
 }
 

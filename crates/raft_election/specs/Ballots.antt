@@ -55,8 +55,8 @@ abbrev pub after : BallotView → List Rule → BallotView
 after b [] = b
 after b (r ∷ rs) = after (becomes b r) rs
 
--- whatever rules come, terms never fall, a vote stays as long as its term, and who gets a vote in a term in which
--- another got one is that other
+-- whatever rules come, terms never fall, a vote stays as long as its term, and only one candidate gets the vote of a
+-- term
 pub record OneVoteATerm : Type 0 where
   pub terms_never_fall : (rules : List Rule) (b : BallotView) → b.term ≤ (after b rules).term
   pub votes_stay : (rules : List Rule) (b : BallotView) (c : ℕ) → b.voted ≡ Some c → (after b rules).term ≡ b.term → (after b rules).voted ≡ Some c

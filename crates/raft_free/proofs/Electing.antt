@@ -1,6 +1,7 @@
 -- A node becomes a candidate, votes, or is elected.
 use Rattle.std.proofs.Common.{ℕ, suc, Some, arith}
-use Rattle.raft_histories.specs.Histories.{History, Noted, Stands}
+use Rattle.raft_histories.specs.Histories.{History}
+use Rattle.raft_histories.proofs.Bookkeeping.{Noted, Stands}
 use Rattle.raft_histories.proofs.Growing.{committed_grow}
 use Rattle.raft_histories.proofs.Leading.{led, led_leads, led_noted}
 use Rattle.raft_histories.proofs.Putting.{put2_at}

@@ -4,8 +4,9 @@ use Rattle.std.proofs.lemmas.Bool.Decides.{eqb_tells}
 use Rattle.std.proofs.lemmas.List.{take-append-drop, length-take-le}
 use Rattle.vst_base.specs.declared.entry.Entry.{Entry}
 use Rattle.vst_base.specs.Logs.{term_at}
-use Rattle.raft_histories.specs.Histories.{History, IsCommitted, IsSoundKept}
+use Rattle.raft_histories.specs.Histories.{History, IsCommitted}
 use Rattle.raft_histories.specs.Prefixes.{Follows}
+use Rattle.raft_histories.proofs.Bookkeeping.{IsSoundKept}
 use Rattle.raft_histories.proofs.Growing.{committed_grow, committed_less, has_or_lost_grow}
 use Rattle.raft_histories.proofs.Putting.{with_node_cases}
 use Rattle.raft_free.specs.Events.{Allowed, Apply, Ask, Count, Crash, IsRefusal, Learn, Match, Reboot, Refuse, Replicate, StepDown, becomes}

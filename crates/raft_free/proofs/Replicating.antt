@@ -2,13 +2,14 @@
 use Rattle.std.proofs.Common.{◌≡◌, ℕ, ◌+◌, ◌≤◌, List, [], ◌∷◌, ◌++◌, length, inr, refl, arith}
 use Rattle.vst_base.specs.declared.entry.Entry.{Entry}
 use Rattle.vst_base.specs.Logs.{accepted, term_at}
-use Rattle.raft_histories.specs.Histories.{History, Leads, Noted, Replicated}
+use Rattle.raft_histories.specs.Histories.{History}
 use Rattle.raft_histories.specs.Prefixes.{Took}
 use Rattle.raft_histories.proofs.Accepting.{matches_tells}
 use Rattle.raft_histories.proofs.Acking.{acked, acked_at, follower_took, own_committed, own_leads, own_noted, taken_committed, taken_noted}
+use Rattle.raft_histories.proofs.Bookkeeping.{Leads, Noted, Replicated}
 use Rattle.raft_histories.proofs.Growing.{committed_front, committed_grow}
-use Rattle.raft_histories.proofs.Logs.{front_append}
 use Rattle.raft_histories.proofs.Leading.{proposed, proposed_leads, proposed_noted}
+use Rattle.raft_histories.proofs.Logs.{front_append}
 use Rattle.raft_free.specs.Events.{Accept, Allowed, Commit, Propose, becomes}
 use Rattle.raft_free.specs.Nodes.{FreeWorld, NodeState}
 use Rattle.raft_free.proofs.Quiet.{follower_sound}

@@ -1,7 +1,9 @@
 -- Every run keeps what always holds.
 use Rattle.std.proofs.Common.{ℕ, None, List, [], ◌∷◌, inl, refl, arith}
-use Rattle.raft_histories.specs.Histories.{Descends, Grows, History, IsSoundKept}
+use Rattle.raft_histories.specs.Histories.{History, empty_history}
+use Rattle.raft_histories.proofs.Bookkeeping.{Grows, IsSoundKept}
 use Rattle.raft_histories.proofs.Logs.{front_trans}
+use Rattle.raft_histories.proofs.Worked.{empty_is_sound}
 use Rattle.raft_free.specs.Events.{Accept, Allowed, Apply, Ask, Commit, Count, Crash, Event, Grant, Lead, Learn, Match, Propose, Reboot, Refuse, Replicate, StepDown, Timeout, actor}
 use Rattle.raft_free.specs.Nodes.{FreeWorld, first_node, first_world}
 use Rattle.raft_free.specs.Runs.{Moments, Reached, Run}
@@ -54,29 +56,16 @@ run (e ∷ es) {g = g} sound r =
     record { history = l.history; sound = l.sound; grows = grows_trans n.grows l.grows }
 
 -- nothing was noted yet
-abbrev pub first_history : (C : Type 0) → History C
-first_history C = record { leader_log = λ u. []; candidacy = λ u c. None; leader = λ u. None; vote = λ u v. None; acked = λ u v. 0 }
-
-pub first_sound : (C : Type 0) (m : ℕ) → IsSoundWorld m (first_world C) (first_history C)
+pub first_sound : (C : Type 0) (m : ℕ) → IsSoundWorld m (first_world C) (empty_history C)
 first_sound C m = record {
-  past = record {
-    descend = λ u. empty;
-    terms = λ u n. omega arith;
-    none = λ u e. refl;
-    reach = λ u v. omega arith;
-    candidacies = λ u c l e. absurd (cc (e));
-    elections = λ u c e. absurd (cc (e));
-  };
+  past = empty_is_sound C m;
   node = λ i. follower_sound (first_node C) kept (inl refl) (omega arith) refl;
   sent = λ p i. absurd i;
 }
   where
-    empty : Descends (first_history C) []
-    empty = record { at = λ n le. record { eq = refl } }
-
-    kept : {i : ℕ} → IsSoundKept (first_history C) i 0 None []
+    kept : {i : ℕ} → IsSoundKept (empty_history C) i 0 None []
     kept = record {
-      descend = empty;
+      descend = (empty_is_sound C m).descend 0;
       terms = λ n. omega arith;
       past = λ t n a. absurd (omega (arith, a.pos, a.has));
       acks = λ t n a. absurd (omega (arith, a.pos, a.has));

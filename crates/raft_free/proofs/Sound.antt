@@ -1,6 +1,7 @@
 -- What always holds of nodes and packets, by a history of the run; it holds of them when more was noted.
 use Rattle.std.proofs.Common.{◌≡◌, ℕ, ◌≤◌, true, false, Some, sym, ◌∙◌, arith}
-use Rattle.raft_histories.specs.Histories.{Aside, Asked, Grows, History, IsCommitted, IsSoundHistory, IsSoundKept, Leads, Replicated, Stands}
+use Rattle.raft_histories.specs.Histories.{History, IsCommitted, IsSoundHistory}
+use Rattle.raft_histories.proofs.Bookkeeping.{Aside, Asked, Grows, IsSoundKept, Leads, Replicated, Stands}
 use Rattle.raft_histories.proofs.Growing.{committed_front, committed_grow, follows_grow, kept_grow}
 use Rattle.raft_free.specs.Events.{In}
 use Rattle.raft_free.specs.Nodes.{Append, Appended, Candidate, FreeWorld, Leader, Message, NodeState, Packet, RequestVote, Vote}

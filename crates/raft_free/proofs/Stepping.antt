@@ -2,7 +2,8 @@
 use Rattle.std.proofs.Common.{◌≢◌, ℕ, Option, List, [], ◌∷◌, ◌++◌, ◌⊎◌, inl, inr, refl, arith}
 use Rattle.std.proofs.lemmas.Bool.Decides.{eqb_tells}
 use Rattle.vst_base.specs.declared.entry.Entry.{Entry}
-use Rattle.raft_histories.specs.Histories.{Aside, Grows, History, Noted}
+use Rattle.raft_histories.specs.Histories.{History}
+use Rattle.raft_histories.proofs.Bookkeeping.{Aside, Grows, Noted}
 use Rattle.raft_histories.proofs.Logs.{front_self}
 use Rattle.raft_free.specs.Events.{Event, In, actor, becomes, effect, put, says}
 use Rattle.raft_free.specs.Nodes.{FreeWorld, NodeState, Packet}

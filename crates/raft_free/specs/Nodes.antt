@@ -8,7 +8,8 @@ pub data Role : Type 0 where
   Candidate : Role
   Leader : Role
 
--- a node that is down still has its fields: a reboot keeps its term, vote and log, and may lower its commit and what it has applied
+-- a node that is down still has its fields: a reboot keeps its term, vote and log, may lower its commit, and sets what it
+-- has applied to anything up to that
 pub record NodeState (C : Type 0) : Type 0 where
   pub is_up : Bool
   pub term : ℕ

@@ -1,7 +1,8 @@
 -- The safety of Raft with free choices (the Raft paper, Figure 3), over every run and any two moments of it.
-use Rattle.std.specs.Prelude.{◌≡◌, ◌≢◌, ℕ, ◌<◌, ◌≤◌, List, [], ◌∷◌, ◌++◌, length, take, IsFalse}
+use Rattle.std.specs.Prelude.{◌≡◌, ◌≢◌, ℕ, ◌<◌, ◌≤◌, List, [], ◌∷◌, ◌++◌, length, take, IsFalse, IsTrue}
 use Rattle.vst_base.specs.declared.entry.Entry.{Entry}
-use Rattle.vst_base.specs.Logs.{has_conflict, term_at}
+use Rattle.vst_base.specs.declared.what.What.TheVariants.{Request}
+use Rattle.vst_base.specs.Logs.{has_conflict, matches, term_at}
 use Rattle.raft_free.specs.Nodes.{Append, FreeWorld, Leader, first_world}
 use Rattle.raft_free.specs.Events.{Allowed, Comes, Commit, Event, In, Propose, effect}
 use Rattle.raft_free.specs.Runs.{Moments, Reached, Run}
@@ -72,14 +73,21 @@ NoCommittedConflict C =
     (nodes : ℕ) (w : FreeWorld C) (i l prev prev_t commit : ℕ) (es : List (Entry C)) → Reached C nodes w →
     Comes w.sent (w.node i) l i (Append prev prev_t es commit) → IsFalse (has_conflict (w.node i).log (w.node i).commit prev es)
 
+-- entries of a node's own term that were sent to it, to stand after an index up to its commit, match its log there
+abbrev pub MatchesBelowCommit : Type 0 → Type 0
+MatchesBelowCommit C =
+    (nodes : ℕ) (w : FreeWorld C) (i l prev prev_t commit : ℕ) (es : List (Entry C)) → Reached C nodes w →
+    Comes w.sent (w.node i) l i (Append prev prev_t es commit) → prev ≤ (w.node i).commit → IsTrue (matches (w.node i).log prev prev_t)
+
 -- each entry of a log was proposed in the run
 abbrev pub NothingInvented : Type 0 → Type 0
 NothingInvented C =
     (nodes : ℕ) (w : FreeWorld C) (events : List (Event C)) (i : ℕ) (e : Entry C) → Run nodes (first_world C) events w →
     In e (w.node i).log → (j : ℕ) × In (Propose j e) events
 
--- the laws above are not empty: each command can come to be committed and applied at two nodes of three
+-- the laws above are not empty: each request of a command can come to be committed and applied at two nodes of three
 abbrev pub Possible : Type 0 → Type 0
 Possible C =
-    (cmd : C) → (w : FreeWorld C) × (e : Entry C) × Reached C 3 w × (e.cmd ≡ cmd) × ((w.node 0).role ≡ Leader)
+    (client request origin : ℕ) (cmd : C) → (w : FreeWorld C) × (e : Entry C) × Reached C 3 w
+    × (e.what ≡ Request client request origin cmd) × ((w.node 0).role ≡ Leader)
     × ((w.node 0).log ≡ e ∷ []) × ((w.node 0).commit ≡ 1) × ((w.node 0).applied ≡ 1) × ((w.node 1).log ≡ e ∷ []) × ((w.node 1).applied ≡ 1)

@@ -1,8 +1,9 @@
 -- Runs that the definitions are computed on, of three nodes where no other number is said.
-use Rattle.std.specs.Prelude.{◌≡◌, ℕ, None, Some, false, true, List, [], ◌∷◌, ◌++◌}
+use Rattle.std.specs.Prelude.{◌≡◌, ℕ, None, Some, false, true, List, [], ◌∷◌, ◌++◌, replicate, IsTrue}
 use Rattle.vst_base.specs.declared.entry.Entry.{Entry}
-use Rattle.raft_free.specs.Nodes.{Append, Appended, Candidate, Follower, FreeWorld, Leader, RequestVote, Vote, first_world}
-use Rattle.raft_free.specs.Events.{Accept, Allowed, Apply, Ask, Comes, Commit, Count, Crash, Event, Grant, Lead, Learn, Match, Propose, Reboot, Refuse, Replicate, StepDown, Timeout, actor, effect}
+use Rattle.vst_base.specs.declared.what.What.TheVariants.{Request}
+use Rattle.raft_free.specs.Nodes.{Append, Appended, Candidate, Follower, FreeWorld, Leader, Message, RequestVote, Vote, first_node, first_world}
+use Rattle.raft_free.specs.Events.{Accept, Allowed, Apply, Ask, Comes, Commit, Count, Crash, Event, Grant, IsRefusal, Lead, Learn, Match, Propose, Reboot, Refuse, Replicate, StepDown, Timeout, actor, effect}
 use Rattle.raft_free.specs.Runs.{Run}
 
 -- the world after these events
@@ -17,12 +18,16 @@ after {C = C} events = after_from (first_world C) events
 abbrev pub Happens : (C : Type 0) → List (Event C) → Type 0
 Happens C events = Run 3 (first_world C) events (after events)
 
+-- the event is allowed in the world after these events
+abbrev pub IsAllowedAfter : (C : Type 0) → List (Event C) → Event C → Type 0
+IsAllowedAfter C events e = Allowed 3 (after events).sent ((after events).node (actor e)) e
+
 -- the event is not allowed in the world after these events
 abbrev pub IsRefusedAfter : (C : Type 0) → List (Event C) → Event C → Type 0
 IsRefusedAfter C events e = Allowed 3 (after events).sent ((after events).node (actor e)) e → ⊥
 
 abbrev pub entry : {C : Type 0} → ℕ → C → Entry C
-entry term cmd = record { term = term; client = 7; request = 1; origin = 0; cmd = cmd }
+entry term cmd = record { term = term; what = Request 7 1 0 cmd }
 
 -- node 0 is elected in term 1 by the vote of node 1
 abbrev pub elected : {C : Type 0} → List (Event C)
@@ -277,3 +282,124 @@ abbrev pub DoneIsNotDoneAgain : Type 0 → Type 0
 DoneIsNotDoneAgain C =
     (c : C) → IsRefusedAfter C (committed c) (Timeout 0) × IsRefusedAfter C (committed c) (Match 0 1 1)
     × IsRefusedAfter C (committed c) (Apply 0 0) × IsRefusedAfter C (committed c) (Reboot 1 0 0)
+
+-- node 1, which had committed and applied a command, starts again with this commit and so much applied
+abbrev pub rebooted : {C : Type 0} → C → ℕ → ℕ → List (Event C)
+rebooted c commit applied = committed c ++ Crash 1 ∷ Reboot 1 commit applied ∷ []
+
+-- it keeps both, the commit alone, or neither; nor may it have applied more than it knows to be committed
+abbrev pub RebootMayKeep : Type 0 → Type 0
+RebootMayKeep C =
+    (c : C) → Happens C (rebooted c 1 1) × Happens C (rebooted c 1 0) × Happens C (rebooted c 0 0)
+    × (((after (rebooted c 1 1)).node 1).commit ≡ 1) × (((after (rebooted c 1 1)).node 1).applied ≡ 1)
+    × (((after (rebooted c 1 0)).node 1).commit ≡ 1) × (((after (rebooted c 1 0)).node 1).applied ≡ 0)
+    × (((after (rebooted c 0 0)).node 1).commit ≡ 0) × (((after (rebooted c 0 0)).node 1).log ≡ entry 1 c ∷ [])
+    × IsRefusedAfter C (committed c ++ Crash 1 ∷ []) (Reboot 1 0 1)
+
+-- the leader has two entries, and knows that node 1 has both
+abbrev pub two_on_both : {C : Type 0} → C → C → List (Event C)
+two_on_both c d =
+    elected
+    ++ Propose 0 (entry 1 c) ∷ Propose 0 (entry 1 d) ∷ Replicate 0 1 0 2 0 ∷ Accept 1 0 0 0 (entry 1 c ∷ entry 1 d ∷ []) 0
+    ∷ Match 0 1 2 ∷ []
+
+-- it commits the first alone
+abbrev pub one_committed : {C : Type 0} → C → C → List (Event C)
+one_committed c d = two_on_both c d ++ Commit 0 1 ∷ []
+
+-- which it may, and both at once too
+abbrev pub LessMayBeCommitted : Type 0 → Type 0
+LessMayBeCommitted C =
+    (c d : C) → IsAllowedAfter C (two_on_both c d) (Commit 0 2)
+    × Happens C (one_committed c d) × (((after (one_committed c d)).node 0).commit ≡ 1)
+
+-- then it commits the second too, and applies the first alone
+abbrev pub one_applied : {C : Type 0} → C → C → List (Event C)
+one_applied c d = one_committed c d ++ Commit 0 2 ∷ Apply 0 1 ∷ []
+
+-- which it may, and both at once too
+abbrev pub LessMayBeApplied : Type 0 → Type 0
+LessMayBeApplied C =
+    (c d : C) → IsAllowedAfter C (one_committed c d ++ Commit 0 2 ∷ []) (Apply 0 2)
+    × Happens C (one_applied c d) × (((after (one_applied c d)).node 0).commit ≡ 2) × (((after (one_applied c d)).node 0).applied ≡ 1)
+
+-- it sends node 1 both again, none after the first, and none after the last, each time with a commit below its own
+abbrev pub resent : {C : Type 0} → C → C → List (Event C)
+resent c d = one_applied c d ++ Replicate 0 1 0 2 0 ∷ Replicate 0 1 1 0 1 ∷ Replicate 0 1 2 0 1 ∷ Accept 1 0 2 1 [] 1 ∷ []
+
+-- node 1, which took the last of these, knows that one is committed, though two are
+abbrev pub AnyEntriesMayBeSent : Type 0 → Type 0
+AnyEntriesMayBeSent C =
+    (c d : C) → Happens C (resent c d) × (((after (resent c d)).node 0).matched 1 ≡ 2)
+    × (((after (resent c d)).node 0).commit ≡ 2) × (((after (resent c d)).node 1).commit ≡ 1)
+    × ((after (resent c d)).sent
+    ≡ record { source = 1; destination = 0; term = 1; message = Appended true 2 }
+    ∷ record { source = 0; destination = 1; term = 1; message = Append 2 1 [] 1 }
+    ∷ record { source = 0; destination = 1; term = 1; message = Append 1 1 [] 1 }
+    ∷ record { source = 0; destination = 1; term = 1; message = Append 0 0 (entry 1 c ∷ entry 1 d ∷ []) 0 }
+    ∷ (after (one_applied c d)).sent)
+
+-- the leader sends nine entries at once
+abbrev pub nine_at_once : {C : Type 0} → C → List (Event C)
+nine_at_once c =
+    elected
+    ++ replicate 9 (Propose 0 (entry 1 c))
+    ++ Replicate 0 1 0 9 0 ∷ Accept 1 0 0 0 (replicate 9 (entry 1 c)) 0 ∷ Match 0 1 9 ∷ Commit 0 9 ∷ []
+
+-- node 1 takes all nine, and they are committed
+abbrev pub ManyAtOnce : Type 0 → Type 0
+ManyAtOnce C =
+    (c : C) → Happens C (nine_at_once c) × (((after (nine_at_once c)).node 1).log ≡ replicate 9 (entry 1 c))
+    × (((after (nine_at_once c)).node 0).commit ≡ 9)
+
+-- node 3, past the last of three, votes for node 0
+abbrev pub outside_vote : {C : Type 0} → List (Event C)
+outside_vote =
+    Timeout 0 ∷ Ask 0 3 ∷ Learn 3 (record { source = 0; destination = 3; term = 1; message = RequestVote 0 0 }) ∷ Grant 3 0 0 0
+    ∷ Count 0 3 ∷ []
+
+-- node 0 leads by the vote of node 1, and node 3 takes its entry
+abbrev pub outside_holder : {C : Type 0} → C → List (Event C)
+outside_holder c =
+    outside_vote
+    ++ Ask 0 1 ∷ Learn 1 (record { source = 0; destination = 1; term = 1; message = RequestVote 0 0 }) ∷ Grant 1 0 0 0 ∷ Count 0 1
+    ∷ Lead 0 ∷ Propose 0 (entry 1 c) ∷ Replicate 0 3 0 1 0 ∷ Accept 3 0 0 0 (entry 1 c ∷ []) 0 ∷ Match 0 3 1 ∷ []
+
+-- it acts as the others do, but its vote elects nobody, and its log commits nothing
+abbrev pub OutsidersCountForNothing : Type 0 → Type 0
+OutsidersCountForNothing C =
+    (c : C) → Happens C (outside_holder c)
+    × (((after {C = C} outside_vote).node 0).votes 3 ≡ true) × IsRefusedAfter C outside_vote (Lead 0)
+    × (((after (outside_holder c)).node 3).log ≡ entry 1 c ∷ []) × (((after (outside_holder c)).node 0).matched 3 ≡ 1)
+    × IsRefusedAfter C (outside_holder c) (Commit 0 1)
+
+-- node 3 stands itself, and has the vote of node 0; then that of node 1 too
+abbrev pub outside_candidate : {C : Type 0} → List (Event C)
+outside_candidate =
+    Timeout 3 ∷ Ask 3 0 ∷ Learn 0 (record { source = 3; destination = 0; term = 1; message = RequestVote 0 0 }) ∷ Grant 0 3 0 0
+    ∷ Count 3 0 ∷ []
+
+abbrev pub outside_leader : {C : Type 0} → List (Event C)
+outside_leader =
+    outside_candidate
+    ++ Ask 3 1 ∷ Learn 1 (record { source = 3; destination = 1; term = 1; message = RequestVote 0 0 }) ∷ Grant 1 3 0 0 ∷ Count 3 1
+    ∷ Lead 3 ∷ []
+
+-- it may lead, by the votes of two of three: its own does not count
+abbrev pub OutsiderMayLead : Type 0 → Type 0
+OutsiderMayLead C =
+    Happens C outside_leader × (((after {C = C} outside_leader).node 3).role ≡ Leader) × IsRefusedAfter C outside_candidate (Lead 3)
+
+-- a follower that was asked nothing says no, in both ways
+abbrev pub unasked : {C : Type 0} → List (Event C)
+unasked = Refuse 2 0 (Vote false) ∷ Refuse 2 1 (Appended false 5) ∷ []
+
+-- each node that is up may say no, at any time and whatever it knows, and changes nothing else
+abbrev pub AnyoneMayRefuse : Type 0 → Type 0
+AnyoneMayRefuse C =
+    ((nodes : ℕ) (w : FreeWorld C) (i j : ℕ) (m : Message C) → IsTrue (w.node i).is_up → IsRefusal m →
+    Allowed nodes w.sent (w.node i) (Refuse i j m))
+    × Happens C unasked × ((after {C = C} unasked).node 2 ≡ first_node C)
+    × ((after {C = C} unasked).sent
+    ≡ record { source = 2; destination = 1; term = 0; message = Appended false 5 }
+    ∷ record { source = 2; destination = 0; term = 0; message = Vote false } ∷ [])

@@ -7,4 +7,4 @@ mod safety;
 mod stories;
 
 pub use safety::{commits_are_possible, entries_are_proposed, refusals_never_come, safety_of_raft};
-pub use stories::worked_runs;
+pub use stories::{worked_freedoms, worked_runs};

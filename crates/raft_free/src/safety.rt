@@ -1,4 +1,4 @@
-ghost use Rattle.raft_free.specs.Safety.{CommittedKept, CommittedKeptBefore, ElectionSafety, LeaderAppendOnly, LeaderCompleteness, LeaderCompletenessBefore, LogMatching, NoCommittedConflict, NoRivalAppends, NothingInvented, Possible, StateMachineSafety};
+ghost use Rattle.raft_free.specs.Safety.{CommittedKept, CommittedKeptBefore, ElectionSafety, LeaderAppendOnly, LeaderCompleteness, LeaderCompletenessBefore, LogMatching, MatchesBelowCommit, NoCommittedConflict, NoRivalAppends, NothingInvented, Possible, StateMachineSafety};
 
 /// The five safety properties of Raft, for any number of nodes and commands of any type, over every run
 /// and any two moments of it.
@@ -25,11 +25,13 @@ pub fn safety_of_raft<C>()
     ensures state_machine_safety { StateMachineSafety C }
 {}
 
-/// Two answers of a node to entries that never come: no leader is sent entries of its own term, and no
-/// entries of a node's own term that are sent to it conflict with what it knows to be committed.
+/// Three answers of a node to entries that never come: no leader is sent entries of its own term, and no
+/// entries of a node's own term that are sent to it conflict with what it knows to be committed, or fail to
+/// match its log at an index up to its commit.
 pub fn refusals_never_come<C>()
     ensures no_rival_appends { NoRivalAppends C }
     ensures no_committed_conflict { NoCommittedConflict C }
+    ensures matches_below_commit { MatchesBelowCommit C }
 {}
 
 /// Each entry of a log was proposed in the run.
@@ -37,7 +39,7 @@ pub fn entries_are_proposed<C>()
     ensures { NothingInvented C }
 {}
 
-/// The laws are not empty: each command can come to be committed and applied.
+/// The laws are not empty: each request of a command can come to be committed and applied.
 pub fn commits_are_possible<C>()
     ensures { Possible C }
 {}

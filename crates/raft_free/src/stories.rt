@@ -1,4 +1,4 @@
-ghost use Rattle.raft_free.specs.Stories.{BehindGetsNoVote, CandidateStepsDown, CommitOfWhatCame, DoneIsNotDoneAgain, DownDoesNothing, HalfElectsNobody, LateAppendCutsNothing, LaterLeaderHasIt, LeadersBeginAnew, LongerGetsNoVote, NoTermIsLearnedTwice, NothingBehindAnother, OldTermWaits, OverreachIsRefused, SecondCandidateFails, TwoOfThreeCommit, UncommittedIsNotApplied, UncommittedIsReplaced};
+ghost use Rattle.raft_free.specs.Stories.{AnyEntriesMayBeSent, AnyoneMayRefuse, BehindGetsNoVote, CandidateStepsDown, CommitOfWhatCame, DoneIsNotDoneAgain, DownDoesNothing, HalfElectsNobody, LateAppendCutsNothing, LaterLeaderHasIt, LeadersBeginAnew, LessMayBeApplied, LessMayBeCommitted, LongerGetsNoVote, ManyAtOnce, NoTermIsLearnedTwice, NothingBehindAnother, OldTermWaits, OutsiderMayLead, OutsidersCountForNothing, OverreachIsRefused, RebootMayKeep, SecondCandidateFails, TwoOfThreeCommit, UncommittedIsNotApplied, UncommittedIsReplaced};
 
 /// Runs, event by event, of three nodes and one of four. So there are runs in which entries are committed and applied, and
 /// events that are not allowed.
@@ -21,4 +21,16 @@ pub fn worked_runs<C>()
     ensures longer_gets_no_vote { LongerGetsNoVote C }
     ensures half_elects_nobody { HalfElectsNobody C }
     ensures no_term_is_learned_twice { NoTermIsLearnedTwice C }
+{}
+
+/// What is left free: a node may do each of these, and need not.
+pub fn worked_freedoms<C>()
+    ensures reboot_may_keep { RebootMayKeep C }
+    ensures less_may_be_committed { LessMayBeCommitted C }
+    ensures less_may_be_applied { LessMayBeApplied C }
+    ensures any_entries_may_be_sent { AnyEntriesMayBeSent C }
+    ensures many_at_once { ManyAtOnce C }
+    ensures outsiders_count_for_nothing { OutsidersCountForNothing C }
+    ensures outsider_may_lead { OutsiderMayLead C }
+    ensures anyone_may_refuse { AnyoneMayRefuse C }
 {}

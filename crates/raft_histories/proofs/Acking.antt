@@ -7,9 +7,10 @@ use Rattle.vst_base.specs.declared.entry.Entry.{Entry}
 use Rattle.vst_base.specs.Committing.{holders, learned_commit, may_commit}
 use Rattle.vst_base.specs.Elections.{is_majority}
 use Rattle.vst_base.specs.Logs.{accepted, term_at}
-use Rattle.raft_histories.specs.Histories.{Acked, Aside, CommittedBy, Descends, Election, Grows, HasOrLost, History, IsCommitted, IsSoundHistory, IsSoundKept, Leads, Noted, Replicated}
+use Rattle.raft_histories.specs.Histories.{Acked, CommittedBy, Descends, Election, HasOrLost, History, IsCommitted, IsSoundHistory}
 use Rattle.raft_histories.specs.Prefixes.{Agree, Same, Took}
 use Rattle.raft_histories.proofs.Accepting.{took}
+use Rattle.raft_histories.proofs.Bookkeeping.{Aside, Grows, IsSoundKept, Leads, Noted, Replicated}
 use Rattle.raft_histories.proofs.Completing.{agree, committed_leader}
 use Rattle.raft_histories.proofs.Growing.{candidacy_grow, cast_grow, committed_less, descends_grow, election_grow, has_or_lost_grow}
 use Rattle.raft_histories.proofs.Logs.{front_self, front_term, same_length, same_less, same_refl, same_take, same_term, same_trans, term_in}

@@ -6,8 +6,9 @@ use Rattle.vst_base.specs.declared.entry.Entry.{Entry}
 use Rattle.vst_base.specs.Elections.{Shared, is_up_to_date}
 use Rattle.vst_base.specs.Logs.{last_term, term_at}
 use Rattle.raft_histories.specs.Claims.{CommittedAgree, MajorityIsKept}
-use Rattle.raft_histories.specs.Histories.{Acked, CommittedBy, Descends, Election, HasOrLost, History, IsCandidacy, IsSoundHistory, IsSoundKept, OnMajority}
+use Rattle.raft_histories.specs.Histories.{Acked, CommittedBy, Descends, Election, HasOrLost, History, IsCandidacy, IsSoundHistory, OnMajority}
 use Rattle.raft_histories.specs.Prefixes.{Agree, Same}
+use Rattle.raft_histories.proofs.Bookkeeping.{IsSoundKept}
 use Rattle.raft_histories.proofs.Growing.{majority_in}
 use Rattle.raft_histories.proofs.Logs.{front_same, front_term, same_length, same_less, same_refl, same_sym, same_term, same_trans, term_in, term_index}
 use Rattle.vst_base.proofs.Majorities.{majorities_meet}

@@ -2,9 +2,10 @@
 use Rattle.std.proofs.Common.{ℕ, suc, ◌<◌, ◌≤◌, Option, List, ◌++◌, length, drop, inl, inr, sym, ap, ◌∙◌, arith, append_assoc}
 use Rattle.vst_base.specs.declared.entry.Entry.{Entry}
 use Rattle.vst_base.specs.Logs.{term_at}
-use Rattle.raft_histories.specs.Histories.{Acked, Apart, Cast, CommittedBy, Descends, Election, Grows, HasOrLost, History, IsCandidacy, IsCommitted, IsSoundHistory, IsSoundKept, Lost, OnMajority}
+use Rattle.raft_histories.specs.Histories.{Acked, CommittedBy, Descends, Election, HasOrLost, History, IsCandidacy, IsCommitted, IsSoundHistory, Lost, OnMajority}
 use Rattle.raft_histories.specs.Prefixes.{Follows, Front}
 use Rattle.raft_histories.proofs.Accepting.{follows_fits}
+use Rattle.raft_histories.proofs.Bookkeeping.{Apart, Cast, Grows, IsSoundKept}
 use Rattle.raft_histories.proofs.Logs.{front_rest, front_same, front_term, front_trans, same_length, same_less, same_sym, same_trans, term_in}
 
 pub descends_grow : {C : Type 0} {g h : History C} {log : List (Entry C)} → Grows g h → Descends g log → Descends h log

@@ -4,8 +4,9 @@ use Rattle.vst_base.specs.Elections.{Shared, is_majority}
 use Rattle.vst_base.specs.Logs.{term_at}
 use Rattle.vst_base.specs.declared.entry.Entry.{Entry}
 use Rattle.vst_base.proofs.Majorities.{majorities_meet}
-use Rattle.raft_histories.specs.Histories.{Acked, Apart, Aside, Cast, Descends, Election, Grows, HasOrLost, History, IsSoundHistory, IsSoundKept, Leads, Lost, Noted, Stands}
+use Rattle.raft_histories.specs.Histories.{Acked, Descends, Election, HasOrLost, History, IsSoundHistory, Lost}
 use Rattle.raft_histories.specs.Prefixes.{Same}
+use Rattle.raft_histories.proofs.Bookkeeping.{Apart, Aside, Cast, Grows, IsSoundKept, Leads, Noted, Stands}
 use Rattle.raft_histories.proofs.Growing.{acked_back, candidacy_grow, cast_grow, descends_grow, election_grow, has_or_lost_grow, kept_grow}
 use Rattle.raft_histories.proofs.Logs.{front_append, front_length, front_nil, front_self, same_append, same_refl, same_sym, same_trans, term_append_end, term_append_in, term_append_one, term_in}
 use Rattle.raft_histories.proofs.Putting.{put1, put1_at, put1_cases}

@@ -1,8 +1,10 @@
 pub mod Accepting
 pub mod Acking
+pub mod Bookkeeping
 pub mod Completing
 pub mod Growing
 pub mod Leading
 pub mod Logs
 pub mod Putting
 pub mod Voting
+pub mod Worked

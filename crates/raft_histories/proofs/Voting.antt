@@ -4,7 +4,8 @@ use Rattle.std.proofs.lemmas.Bool.{eqb-true}
 use Rattle.vst_base.specs.Elections.{is_free_for, is_up_to_date, nobody, with_node}
 use Rattle.vst_base.specs.Logs.{last_term}
 use Rattle.vst_base.specs.declared.entry.Entry.{Entry}
-use Rattle.raft_histories.specs.Histories.{Acked, Aside, Asked, Cast, Grows, HasOrLost, History, IsCandidacy, IsSoundHistory, IsSoundKept, Noted, Stands, Voted}
+use Rattle.raft_histories.specs.Histories.{Acked, HasOrLost, History, IsCandidacy, IsSoundHistory}
+use Rattle.raft_histories.proofs.Bookkeeping.{Aside, Asked, Cast, Grows, IsSoundKept, Noted, Stands, Voted}
 use Rattle.raft_histories.proofs.Completing.{up_to_date}
 use Rattle.raft_histories.proofs.Growing.{acked_back, candidacy_grow, cast_grow, descends_grow, election_grow, has_or_lost_grow}
 use Rattle.raft_histories.proofs.Logs.{front_self}

@@ -1,3 +1,4 @@
 pub mod Claims
 pub mod Histories
+pub mod HistoryExamples
 pub mod Prefixes

@@ -3,6 +3,8 @@
 //! nodes by their numbers alone, and no packets or events.
 #![tactic(auto)]
 
+mod examples;
 mod keeping;
 
+pub use examples::worked_histories;
 pub use keeping::{accepted_logs, committed_logs};

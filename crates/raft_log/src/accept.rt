@@ -32,7 +32,7 @@ impl<C: Drop> Log<C> {
     /// Takes a leader's entries for the places behind the index prev (section 5.3 of the Raft paper): the
     /// log is cut at the first that differs in term from the leader's, and the missing ones are added. Where
     /// none differs nothing is cut, since the message may be an old one. None is taken where one differs
-    /// from an entry up to commit. A leader adds its own entry behind its last.
+    /// from an entry up to commit.
     ///
     /// It looks at the entries that come and at the places that they are for. An `Err` changes nothing. Where
     /// none is taken, or the log has them all, it takes no memory.

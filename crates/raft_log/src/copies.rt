@@ -1,7 +1,31 @@
 ghost use Rattle.std.specs.Prelude.{◌≡◌, IfOk};
 
 use std::alloc::{AllocError, Global};
-use vst_base::{Entry, Machine};
+use vst_base::{Entry, Machine, What};
+
+// The same content of an entry. The machine copies the command.
+fn copy_what<M: Machine>(
+    alloc: Global,
+    machine: &M,
+    what: &What<M::Cmd>,
+) -> Result<What<M::Cmd>, AllocError>
+    ensures { IfOk result (λ copy. copy ≡ what.now) }
+{
+    match what {
+        What::Noop => Ok(What::Noop),
+        What::Request {
+            client,
+            request,
+            origin,
+            cmd,
+        } => Ok(What::Request {
+            client: *client,
+            request: *request,
+            origin: *origin,
+            cmd: machine.copy_cmd(alloc, cmd)?,
+        }),
+    }
+}
 
 /// An equal entry. The machine copies the command.
 pub fn copy_entry<M: Machine>(
@@ -11,14 +35,8 @@ pub fn copy_entry<M: Machine>(
 ) -> Result<Entry<M::Cmd>, AllocError>
     ensures { IfOk result (λ copy. copy ≡ entry.now) }
 {
-    let cmd = machine.copy_cmd(alloc, entry.cmd())?;
-    Ok(Entry::new(
-        entry.term(),
-        entry.client(),
-        entry.request(),
-        entry.origin(),
-        cmd,
-    ))
+    let what = copy_what(alloc, machine, entry.what())?;
+    Ok(Entry::new(entry.term(), what))
 }
 
 /// Equal entries, in order.

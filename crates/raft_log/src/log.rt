@@ -1,4 +1,4 @@
-ghost use Rattle.std.specs.Prelude.{◌≡◌, ◌+◌, ◌≤◌, ◌++◌, length, take, nat_le, Some, None, IfSome, OnErr, OnOk, if◌then◌else◌};
+ghost use Rattle.std.specs.Prelude.{◌≡◌, ◌+◌, ◌<◌, ◌≤◌, [], ◌∷◌, ◌++◌, length, take, nat_le, Some, None, IfSome, OnErr, OnOk, if◌then◌else◌};
 ghost use Rattle.vst_base.specs.Elections.{is_up_to_date};
 ghost use Rattle.vst_base.specs.Logs.{last_term, matches, term_at};
 ghost use Rattle.vst_base.specs.declared.entry.TheConstants.{MAX_TERM};
@@ -54,6 +54,16 @@ impl<C: Drop> Log<C> {
         ensures { result ≡ entries.items }
     {
         Log { entries }
+    }
+
+    /// Adds an entry behind its last, as a leader does with one of its own. An `Err` changes nothing.
+    pub fn push(&mut self, entry: Entry<C>) -> Result<(), AllocError>
+        requires { length self.old < MAX_INDEX }
+        ensures ok { OnOk result (self.new ≡ self.old ++ entry ∷ []) }
+        ensures err { OnErr result (self.new ≡ self.old) }
+    {
+        self.entries.push(entry)?;
+        Ok(())
     }
 
     /// Its entries, from index 1 on.

@@ -3,7 +3,7 @@ use raft_types::MAX_INDEX;
 use std::alloc::{AllocError, Global};
 use std::process::Abort;
 use std::test::Fail;
-use vst_base::{ClientId, Entry, MAX_TERM, Machine, Node, ReqId};
+use vst_base::{ClientId, Entry, MAX_TERM, Machine, Node, ReqId, What};
 
 // A machine that keeps the last command.
 #[derive(Drop)]
@@ -60,7 +60,14 @@ fn entries(alloc: Global, terms: &[u64], cmd: u8) -> Result<Vec<Entry<u8>>, Fail
         if *term == 0 || *term > MAX_TERM {
             return Err(Fail::from("a term of an entry"));
         }
-        made.push(Entry::new(*term, ClientId::new(7), ReqId::new(1), origin, cmd))?;
+        let (client, request) = (ClientId::new(7), ReqId::new(1));
+        let what = What::Request {
+            client,
+            request,
+            origin,
+            cmd,
+        };
+        made.push(Entry::new(*term, what))?;
     }
     Ok(made)
 }
@@ -93,8 +100,29 @@ fn is_of(rt: &impl Abort, log: &Log<u8>, terms: &[u64], kept: usize) {
     assert_eq!(rt; log.entries().len(), terms.len());
     for (place, (entry, term)) in log.entries().iter().zip(terms).enumerate() {
         assert_eq!(rt; entry.term(), *term);
-        assert_eq!(rt; *entry.cmd(), if place < kept { 0 } else { 9 });
+        let wanted = if place < kept { 0 } else { 9 };
+        assert!(rt; matches!(entry.what(), What::Request { cmd, .. } if *cmd == wanted));
     }
+}
+
+// A leader adds an entry of its own to its log, and a follower takes both from it.
+#[test]
+fn a_leaders_own_entry_is_taken_with_the_others(rt: HostRuntime) -> Result<(), Fail> {
+    let alloc = rt.alloc();
+    let mut leader = log(alloc, &[1], 9)?;
+    if leader.last().0 == MAX_INDEX {
+        return Err(Fail::from("a short log"));
+    }
+    leader.push(Entry::new(2, What::Noop))?;
+    let mut follower = Log::new(Vec::new(alloc));
+    let taken = accept(alloc, &Last, &mut follower, 0, leader.entries(), 0)?;
+    assert_eq!(rt; taken, Accept::Taken(2));
+    assert!(rt; follower.entries() == leader.entries());
+    assert_eq!(rt;
+        *follower.entries().last().ok_or("an entry")?.what(),
+        What::Noop
+    );
+    Ok(())
 }
 
 // What the log answers to entries of these terms behind the index `prev`.

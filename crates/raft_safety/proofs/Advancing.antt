@@ -1,11 +1,15 @@
--- What a node does with the machine: it applies the entries that its log has behind those that it had applied, and
+-- What a node does with the machine: it applies the entries that its log has after those that it had applied, and
 -- tells its clients what these are answered.
-use Rattle.std.proofs.Common.{◌≡◌, ℕ, ◌-◌, ◌≤◌, Bool, true, false, List, [], ◌∷◌, take, drop, eqb, cond, inl, inr, refl, arith}
+use Rattle.std.proofs.Common.{◌≡◌, ℕ, ◌-◌, ◌≤◌, Bool, true, false, List, [], ◌∷◌, take, drop, eqb, cond, Some, inl, inr, ap, refl, arith}
 use Rattle.vst_base.specs.Machines.{MachineMeaning}
 use Rattle.vst_base.specs.declared.entry.Entry.{Entry}
+use Rattle.vst_base.specs.declared.what.What.{What}
+use Rattle.vst_base.specs.declared.what.What.TheVariants.{Noop, Request}
+use Rattle.raft_clients.specs.Requests.{asked_by, request_of}
 use Rattle.raft_clients.specs.Sessions.{AppliedAll, applied_all}
 use Rattle.raft_free.specs.Events.{In}
 use Rattle.raft_free.proofs.Stepping.{in_append}
+use Rattle.raft_types.specs.declared.client.RaftInput.{RaftInput}
 use Rattle.raft_types.specs.declared.client.RaftOut.{RaftOut}
 use Rattle.raft_types.specs.declared.client.RaftOut.TheVariants as told
 use Rattle.raft_xform.specs.Applying.{replies, reply}
@@ -15,8 +19,10 @@ use Rattle.raft_xform.specs.Nodes.{RaftEffect, RaftView}
 pub record Tells {C O : Type 0} (answers : List (Entry C × O)) (client request : ℕ) (output : O) : Type 0 where
   pub answer : Entry C × O
   pub one : In answer answers
-  pub whom : answer.0.client ≡ client
-  pub what : answer.0.request ≡ request
+  pub asked : RaftInput C
+  pub by : request_of answer.0 ≡ Some asked
+  pub whom : asked.client ≡ client
+  pub number : asked.request ≡ request
   pub with_it : answer.1 ≡ output
 
 abbrev pub IsAnswer : {C O : Type 0} → List (Entry C × O) → RaftOut O → Type 0
@@ -28,23 +34,30 @@ module _ {C O : Type 0} where
   pub silent : (answers : List (Entry C × O)) (x : RaftOut O) → In x [] → IsAnswer answers x
   silent answers x h = absurd h
 
-  reply_answers : (me : ℕ) (e : Entry C) (output : O) (rest : List (Entry C × O)) (x : RaftOut O) → In x (reply me e output) → IsAnswer ((e, output) ∷ rest) x
-  reply_answers me e output rest x = go (eqb e.origin me)
+  reply_answers : (me : ℕ) (e : Entry C) (output : O) (rest : List (Entry C × O)) (x : RaftOut O) → In x (reply me e.what output) → IsAnswer ((e, output) ∷ rest) x
+  reply_answers me e output rest x = by_what e.what refl
     where
-      go : (b : Bool) → In x (cond b (told.Reply e.client e.request output ∷ []) []) → IsAnswer ((e, output) ∷ rest) x
-      go true (inl q) = rw q (record { answer = (e, output); one = inl refl; whom = refl; what = refl; with_it = refl })
-      go true (inr h) = absurd h
-      go false h = absurd h
+      by_what : (w : What C) → e.what ≡ w → In x (reply me w output) → IsAnswer ((e, output) ∷ rest) x
+      by_what Noop is h = absurd h
+      by_what (Request client request origin cmd) is h = go (eqb origin me) h
+        where
+          asked : RaftInput C
+          asked = record { client = client; request = request; cmd = cmd }
+
+          go : (b : Bool) → In x (cond b (told.Reply client request output ∷ []) []) → IsAnswer ((e, output) ∷ rest) x
+          go true (inl q) = rw q (record { answer = (e, output); one = inl refl; asked = asked; by = ap asked_by is; whom = refl; number = refl; with_it = refl })
+          go true (inr h) = absurd h
+          go false h = absurd h
 
   answers_more : (a : Entry C × O) (rest : List (Entry C × O)) (x : RaftOut O) → IsAnswer rest x → IsAnswer (a ∷ rest) x
-  answers_more a rest (told.Reply client request output) t = record { answer = t.answer; one = inr t.one; whom = t.whom; what = t.what; with_it = t.with_it }
+  answers_more a rest (told.Reply client request output) t = record { answer = t.answer; one = inr t.one; asked = t.asked; by = t.by; whom = t.whom; number = t.number; with_it = t.with_it }
   answers_more a rest (told.NotLeader client request) t = tt
   answers_more a rest (told.Full client request) t = tt
 
   pub replies_answer : (me : ℕ) (answers : List (Entry C × O)) (x : RaftOut O) → In x (replies me answers) → IsAnswer answers x
   replies_answer me [] x h = absurd h
   replies_answer me (a ∷ rest) x h =
-      elim (in_append x (reply me a.0 a.1) (replies me rest) h) [ inl q ↦ reply_answers me a.0 a.1 rest x q | inr q ↦ answers_more a rest x (replies_answer me rest x q) ]
+      elim (in_append x (reply me a.0.what a.1) (replies me rest) h) [ inl q ↦ reply_answers me a.0 a.1 rest x q | inr q ↦ answers_more a rest x (replies_answer me rest x q) ]
 
 module _ {S C O : Type 0} where
   -- what a node that had applied so much applies, once it is in this state

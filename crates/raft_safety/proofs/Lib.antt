@@ -2,6 +2,7 @@ pub mod Acting
 pub mod Advancing
 pub mod Computing
 pub mod Explaining
+pub mod Freed
 pub mod Growing
 pub mod Listing
 pub mod Longest
@@ -11,6 +12,7 @@ pub mod Peers
 pub mod Refining
 pub mod Refusing
 pub mod Remembering
+pub mod Rising
 pub mod Safe
 pub mod Sending
 pub mod Told

@@ -9,9 +9,10 @@ use Rattle.raft_free.specs.Runs.{Moments, Run}
 use Rattle.raft_free.proofs.Applied.{state_machine_safety}
 use Rattle.raft_histories.proofs.Logs.{front_rest, front_self, front_trans, same_less, same_sym, same_take, same_trans}
 use Rattle.raft_histories.specs.Prefixes.{Front, Same}
-use Rattle.raft_safety.specs.Applied.{IsBeginning, applied_list, longer, longest}
+use Rattle.raft_safety.specs.Applied.{IsBeginning, applied_list, applied_lists, longer, longest}
 use Rattle.raft_safety.specs.Runs.{RaftWorld}
 use Rattle.raft_safety.specs.Mirrors.{Mirrors}
+use Rattle.raft_safety.proofs.Freed.{node_is}
 use Rattle.raft_safety.proofs.Mirroring.{run_then}
 
 -- what a node has applied
@@ -115,16 +116,16 @@ best_more {S = S} {C = C} {O = O} P n w v mirrors k x best b = record {
 }
   where
     l : Longer n v best (applied_list (w.state k)) (longer best (applied_list (w.state k)))
-    l = rw (mirrors.node k) at (longer_was n v best k b.was)
+    l = rw (node_is mirrors k) at (longer_was n v best k b.was)
 
     at : (i : ℕ) → (i < k) ⊎ (k ≤ i) → i < suc k → Front (applied_list (w.state i)) (longer best (applied_list (w.state k)))
     at i (inl less) h = front_trans (b.each i less) l.first
     at i (inr le) h = let e : i ≡ k = omega arith in rw e l.second
 
 pub longest_is_best : {S C O : Type 0} (P : Entry C → Type 0) (n : ℕ) (w : RaftWorld S C O) (v : FreeWorld C) → Mirrors w v → (x : List (Entry C)) → WasApplied n v x → (k : ℕ) →
-    Best P n w v k x (longest k w x)
+    Best P n w v k x (longest k (applied_lists w) x)
 longest_is_best P n w v mirrors x was zero = record { was = was; front = front_self x; each = λ i h. absurd (omega arith); all = λ p q e h. p e h }
-longest_is_best P n w v mirrors x was (suc k) = best_more P n w v mirrors k x (longest k w x) (longest_is_best P n w v mirrors x was k)
+longest_is_best P n w v mirrors x was (suc k) = best_more P n w v mirrors k x (longest k (applied_lists w) x) (longest_is_best P n w v mirrors x was k)
 
 pub beginning : {A : Type 0} (x y : List A) → Front x y → IsBeginning x y
 beginning x y f = (drop (length x) y, front_rest f)

@@ -15,10 +15,11 @@ use Rattle.vst_base.specs.declared.step.Step.{Step}
 use Rattle.vst_base.specs.declared.step.Step.TheVariants as step
 use Rattle.raft_election.proofs.Sets.{votes_are_sets}
 use Rattle.raft_free.specs.Events as events
-use Rattle.raft_free.specs.Events.{In, actor, becomes, effect}
+use Rattle.raft_free.specs.Events.{In, becomes, effect}
 use Rattle.raft_free.specs.Nodes as free
 use Rattle.raft_free.specs.Runs.{Run}
 use Rattle.raft_free.proofs.Stepping.{in_append}
+use Rattle.raft_clients.specs.Requests.{request_of}
 use Rattle.raft_types.specs.Ranges.{IsClusterSize}
 use Rattle.raft_types.specs.declared.client.RaftInput.{RaftInput}
 use Rattle.raft_types.specs.declared.client.RaftOut.{RaftOut}
@@ -27,15 +28,15 @@ use Rattle.raft_xform.specs.Nodes.{RaftView, started_with}
 use Rattle.raft_xform.specs.Raft.{raft, raft_recovery}
 use Rattle.raft_xform.specs.Sound.{IsSoundNode}
 use Rattle.raft_xform.proofs.Sounding.{sound_started}
-use Rattle.raft_safety.specs.Applied.{request_of}
 use Rattle.raft_safety.specs.Runs.{RaftWorld}
 use Rattle.linearizability.specs.Linearizable.{HasInput, Seen}
-use Rattle.raft_safety.specs.Mirrors.{Mirrors, free_node, free_packet}
+use Rattle.raft_safety.specs.Mirrors.{Mirrors, free_packet}
 use Rattle.raft_safety.proofs.Acting.{Does, Proposes, Reaches, steps_reach}
+use Rattle.raft_safety.proofs.Freed.{free_node, mirrored, node_is}
 use Rattle.raft_safety.proofs.Peers.{matched_new}
 use Rattle.raft_safety.proofs.Refining.{up}
 use Rattle.raft_safety.proofs.Sending.{IsGood}
-use Rattle.raft_safety.proofs.Turning.{IsTaken, Stands, Turn, WasPutIn, taken_crash, taken_reboot, turn}
+use Rattle.raft_safety.proofs.Turning.{IsTaken, Stands, Turn, WasAsked, WasPutIn, taken_crash, taken_reboot, turn}
 
 pub puts : {A : Type 0} (P : ℕ → A → Type 0) (f : ℕ → A) (i : ℕ) (x : A) → P i x → ((j : ℕ) → j ≢ i → P j (f j)) → (j : ℕ) → P j (put f i x j)
 puts P f i x p q j = elim (eqb_tells j i) [ inl t ↦ rw (t.0, t.1) p | inr t ↦ rw (t.0) (q j t.1) ]
@@ -45,6 +46,11 @@ put_in [] ys q h = absurd h
 put_in (item.Input node j ∷ xs) ys q (inl e) = inl e
 put_in (item.Input node j ∷ xs) ys q (inr h) = inr (put_in xs ys q h)
 put_in (item.Output node o ∷ xs) ys q h = put_in xs ys q h
+
+-- what was asked for stays
+pub asked_more : {C O : Type 0} (seen more : Seen C O) (o : Option (RaftInput C)) → WasAsked seen o → WasAsked (seen ++ more) o
+asked_more seen more None h = tt
+asked_more seen more (Some r) h = put_in seen more r h
 
 pub proposes_weaker : {C : Type 0} (P Q : Entry C → Type 0) → ((x : Entry C) → P x → Q x) → (e : events.Event C) → Proposes P e → Proposes Q e
 proposes_weaker P Q f (events.Timeout i) p = tt
@@ -119,10 +125,9 @@ module _ {S C O : Type 0} (m : MachineMeaning S C O) (n : ℕ) where
     late = d.events;
     world = reach.world;
     run = reach.run;
-    mirrors = record {
-      node = puts (λ k s. reach.world.node k ≡ free_node (w.is_up k) s) w.state i e.effect.state (rw (t.is_up) reach.node) (λ k ne. reach.others k ne ∙ mirrors.node k);
-      sent = λ p h. elim (in_append p ps (sent_by i e.effect.sends) h) [ inl q ↦ old_packet p (like p q) | inr q ↦ new_packet p (sent_is i e.effect.sends p q) ];
-    };
+    mirrors = mirrored
+        (puts (λ k s. reach.world.node k ≡ free_node (w.is_up k) s) w.state i e.effect.state (rw (t.is_up) reach.node) (λ k ne. reach.others k ne ∙ node_is mirrors k))
+        (λ p h. elim (in_append p ps (sent_by i e.effect.sends) h) [ inl q ↦ old_packet p (like p q) | inr q ↦ new_packet p (sent_is i e.effect.sends p q) ]);
     stands = record {
       sound = puts (λ k s. k < n → IsSoundNode n k s) w.state i e.effect.state (λ _. t.sound) (λ k ne. stands.sound k);
       kept = puts (λ k s. w.kept k ≡ cond (w.is_up k) None (Some ((raft_recovery m).keep s))) w.state i e.effect.state nothing_kept (λ k ne. stands.kept k);
@@ -134,7 +139,7 @@ module _ {S C O : Type 0} (m : MachineMeaning S C O) (n : ℕ) where
       ];
     };
     proposed = λ x h. proposes_weaker (WasPutIn (seen ++ input_item i e.input)) (WasPutIn (seen ++ items_of_event (Some e)))
-        (λ y p. rw (append_assoc seen (input_item i e.input) (outputs)) at (put_in (seen ++ input_item i e.input) outputs (request_of y) p)) x (d.proposed x h);
+        (λ y p. rw (append_assoc seen (input_item i e.input) outputs) at (asked_more (seen ++ input_item i e.input) outputs (request_of y) p)) x (d.proposed x h);
   }
     where
       i : ℕ
@@ -147,7 +152,7 @@ module _ {S C O : Type 0} (m : MachineMeaning S C O) (n : ℕ) where
       d = t.refined.does
 
       reach : Reaches n i v d.events d.new (up e.effect.state)
-      reach = steps_reach n i d.events v d.new (up e.effect.state) (rw (mirrors.node i, t.is_up) d.steps)
+      reach = steps_reach n i d.events v d.new (up e.effect.state) (rw (node_is mirrors i, t.is_up) d.steps)
 
       nothing_kept : w.kept i ≡ cond (w.is_up i) None (Some ((raft_recovery m).keep e.effect.state))
       nothing_kept = rw (t.is_up) at (stands.kept i) ∙ rw (t.is_up) refl
@@ -195,11 +200,8 @@ module _ {S C O : Type 0} (m : MachineMeaning S C O) (n : ℕ) where
   crash_goes w v seen mirrors stands i is_up = record {
     late = events.Crash i ∷ [];
     world = effect v (events.Crash i);
-    run = (rw (mirrors.node i) is_up, refl);
-    mirrors = record {
-      node = λ k. elim (eqb_tells k i) [ inl t ↦ rw (t.0, t.1, mirrors.node i) refl | inr t ↦ rw (t.0) (mirrors.node k) ];
-      sent = mirrors.sent;
-    };
+    run = (rw (node_is mirrors i) is_up, refl);
+    mirrors = mirrored (λ k. elim (eqb_tells k i) [ inl t ↦ rw (t.0, t.1, node_is mirrors i) refl | inr t ↦ rw (t.0) (node_is mirrors k) ]) mirrors.sent;
     stands = record {
       sound = stands.sound;
       kept = λ k. elim (eqb_tells k i) [ inl t ↦ rw (t.0, t.1) refl | inr t ↦ rw (t.0) (stands.kept k) ];
@@ -214,11 +216,8 @@ module _ {S C O : Type 0} (m : MachineMeaning S C O) (n : ℕ) where
   reboot_goes w v seen mirrors stands i below down = rw (kept) (record {
     late = events.Reboot i 0 0 ∷ [];
     world = effect v (events.Reboot i 0 0);
-    run = (rw (mirrors.node i) (down, omega arith, omega arith), refl);
-    mirrors = record {
-      node = λ k. elim (eqb_tells k i) [ inl t ↦ rw (t.0, mirrors.node i) (sym starts) | inr t ↦ rw (t.0) (mirrors.node k) ];
-      sent = mirrors.sent;
-    };
+    run = (rw (node_is mirrors i) (down, omega arith, omega arith), refl);
+    mirrors = mirrored (λ k. elim (eqb_tells k i) [ inl t ↦ rw (t.0, node_is mirrors i) (sym starts) | inr t ↦ rw (t.0) (node_is mirrors k) ]) mirrors.sent;
     stands = record {
       sound = λ k. elim (eqb_tells k i) [ inl t ↦ rw (t.0, t.1) (λ _. sound) | inr t ↦ rw (t.0) (stands.sound k) ];
       kept = λ k. elim (eqb_tells k i) [ inl t ↦ rw (t.0) refl | inr t ↦ rw (t.0) (stands.kept k) ];
@@ -279,7 +278,7 @@ first_taken m n w s ss e = place_and_why-none (refusal_of net.Fail (raft n m) w 
 module _ {S C O : Type 0} (m : MachineMeaning S C O) (n : ℕ) where
   -- what was noted of proposals stays
   later : (seen more : Seen C O) (e : events.Event C) → Proposes (WasPutIn seen) e → Proposes (WasPutIn (seen ++ more)) e
-  later seen more e p = proposes_weaker (WasPutIn seen) (WasPutIn (seen ++ more)) (λ x h. put_in seen more (request_of x) h) e p
+  later seen more e p = proposes_weaker (WasPutIn seen) (WasPutIn (seen ++ more)) (λ x h. asked_more seen more (request_of x) h) e p
 
   pub goes_then : {u : free.FreeWorld C} {v w : RaftWorld S C O} (seen more : Seen C O) → (a : Goes m n u v seen) → Goes m n a.world w (seen ++ more) → Goes m n u w (seen ++ more)
   goes_then {u = u} seen more a b = record {
@@ -301,7 +300,7 @@ module _ {S C O : Type 0} (m : MachineMeaning S C O) (n : ℕ) where
       (run_goes (next (raft n m) (raft_recovery m) w s) a.world (seen ++ items_of (raft n m) w s) a.mirrors a.stands ss t.1))
 
   pub first_mirror : Mirrors (first_world (raft n m)) (free.first_world C)
-  first_mirror = record { node = λ i. sym starts; sent = λ p h. absurd h }
+  first_mirror = mirrored (λ i. sym starts) (λ p h. absurd h)
     where
       starts : up (started_with m 0 None []) ≡ free.first_node C
       starts = ap (λ f. record (up (started_with m 0 None [])) { votes = f }) votes_are_sets.none ∙ ap (λ f. record (up (started_with m 0 None [])) { votes = nobody; matched = f }) (matched_new 0 0)

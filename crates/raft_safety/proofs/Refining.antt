@@ -1,20 +1,22 @@
 -- What a node does by each rule is a list of events with free choices.
-use Rattle.std.proofs.Common.{◌≡◌, ◌≢◌, ℕ, zero, suc, ◌+◌, ◌-◌, ◌<◌, ◌≤◌, Bool, true, false, not, ◌&&◌, Some, None, List, [], ◌∷◌, length, eqb, ltb, leb, cond, replicate, set, ◌⊎◌, inl, inr, refl, sym, ap, ◌∙◌, arith}
+use Rattle.std.proofs.Common.{◌≡◌, ◌≢◌, ℕ, zero, suc, ◌+◌, ◌-◌, ◌<◌, ◌≤◌, Bool, true, false, not, ◌&&◌, Some, None, List, [], ◌∷◌, length, eqb, ltb, leb, cond, set, ◌⊎◌, inl, inr, refl, sym, ap, ◌∙◌, arith}
 use Rattle.std.proofs.lemmas.Bool.{and_parts, eqb-true, false≢true, leb-true, ltb-false, ltb-true, not-true}
-use Rattle.std.proofs.lemmas.List.{get_or-map, length-replicate}
-use Rattle.std.proofs.lemmas.List.Elements.{All-get_or, All-replicate}
+use Rattle.std.proofs.lemmas.List.{get_or-map}
+use Rattle.std.proofs.lemmas.List.Elements.{All-get_or}
 use Rattle.vst_base.specs.declared.entry.Entry.{Entry}
 use Rattle.vst_base.specs.Committing.{advance, may_commit}
 use Rattle.vst_base.specs.Elections.{is_free_for, with_node}
 use Rattle.vst_base.specs.Logs.{has_conflict, matches}
 use Rattle.vst_base.specs.Machines.{MachineMeaning}
+use Rattle.vst_base.specs.declared.what.What.{What}
+use Rattle.vst_base.specs.declared.what.What.TheVariants.{Noop, Request}
 use Rattle.raft_commit.specs.Peers.{PeerView, is_news, is_refusal, matched_of, new_peer, peer_behind}
 use Rattle.raft_commit.specs.declared.peer.Moved.{Moved}
 use Rattle.raft_commit.specs.declared.peer.Moved.TheVariants as moves
 use Rattle.raft_election.specs.Ballots.{grants, may_start}
 use Rattle.raft_election.specs.Votes.{no_votes}
 use Rattle.raft_election.proofs.Sets.{votes_are_sets}
-use Rattle.raft_free.specs.Events.{Accept, Apply, Ask, Comes, Commit, Count, Grant, In, Lead, Learn, Match, Propose, Refuse, Replicate, StepDown, Timeout, becomes}
+use Rattle.raft_free.specs.Events.{Accept, Apply, Ask, Comes, Commit, Count, Grant, In, Lead, Learn, Match, Propose, Refuse, Replicate, StepDown, Timeout}
 use Rattle.raft_free.specs.Nodes as free
 use Rattle.raft_types.specs.Messages.{AppendView, AppendedView, RequestVoteView, VoteView}
 use Rattle.raft_types.specs.Terms.{term_of}
@@ -27,15 +29,17 @@ use Rattle.raft_types.specs.declared.msg.RaftMsg.TheVariants as msg
 use Rattle.raft_xform.specs.declared.role.Role.{Role}
 use Rattle.raft_xform.specs.declared.role.Role.TheVariants as role
 use Rattle.raft_xform.specs.Applying.{committed, settled}
-use Rattle.raft_xform.specs.Electing.{campaign, candidate, has_won, heard, lead, led, on_request, on_vote, sees_up_to_date, tick, voted}
+use Rattle.raft_xform.specs.Electing.{campaign, candidate, has_won, heard, on_request, on_vote, sees_up_to_date, tick, vote, voted}
+use Rattle.raft_xform.specs.Leading.{lead, led, spreads, with_entry}
 use Rattle.raft_xform.specs.Nodes.{RaftEffect, RaftView, is_candidate, is_leader, peer_at, sending, stays}
 use Rattle.raft_xform.specs.Raft.{by_message, on_message}
-use Rattle.raft_xform.specs.Replicating.{answer, known, may_take, moved_by, on_append, on_appended, on_input, on_moved, proposed, proposes, taken, takes, telling}
+use Rattle.raft_xform.specs.Replicating.{answer, follower, known, last_new, may_take, moved_by, on_append, on_appended, on_input, on_moved, proposed, proposes, taken, takes, telling}
 use Rattle.raft_xform.specs.Sending.{append, append_rest, appends, request, to_others}
 use Rattle.raft_xform.specs.Sound.{ArePeers, IsPeer}
-use Rattle.raft_safety.specs.Mirrors.{free_node, free_packet, free_role}
+use Rattle.raft_safety.specs.Mirrors.{free_packet, free_role}
 use Rattle.raft_safety.proofs.Acting.{Does, does_each, does_nothing, does_one, does_say, does_then}
 use Rattle.raft_safety.proofs.Advancing.{Advances, IsAnswer, advances_none, replies_answer, silent}
+use Rattle.raft_safety.proofs.Freed.{free_node}
 use Rattle.raft_safety.proofs.Peers.{matched_new, matched_same, matched_set}
 
 leads_true : (r : Role) → is_leader r ≡ true → free_role r ≡ free.Leader
@@ -61,15 +65,25 @@ up s = free_node true s
 abbrev pub Knows : {S C O : Type 0} → ℕ → RaftView S C O → Type 0
 Knows n s = is_leader s.role ≡ true → ArePeers n (length s.log) s.peers
 
+-- where a leader's commit rises, it may commit so much by the rule
+abbrev pub Rises : {S C O : Type 0} → ℕ → ℕ → RaftView S C O → RaftView S C O → Type 0
+Rises n i s t = s.commit < t.commit → may_commit n i (matched_of t.peers) t.log t.ballot.term s.commit t.commit ≡ true
+
 -- a node's turn, by free choices, and with the machine
 pub record Refined {S C O : Type 0} (m : MachineMeaning S C O) (n i : ℕ) (P : Entry C → Type 0) (sent : List (free.Packet C)) (s : RaftView S C O) (e : RaftEffect S C O) : Type 0 where
   pub does : Does n i P sent (up s) (up e.state) e.sends
   pub advances : Advances m s e
+  pub rises : is_leader e.state.role ≡ true → Rises n i s e.state
 
 next_in : (peers : List PeerView) (n len j : ℕ) → ArePeers n len peers → j < n → (peer_at peers j).next ≤ suc len
 next_in peers n len j ps below = (All-get_or (IsPeer len) peers j (new_peer 0) (omega (arith, ps.each)) ps.within).1
 
-module _ {S C O : Type 0} (m : MachineMeaning S C O) (n i : ℕ) (P : Entry C → Type 0) where
+module _ {S C O : Type 0} (m : MachineMeaning S C O) (n i : ℕ) (P : Entry C → Type 0) (idle : (term : ℕ) → P (record { term = term; what = Noop })) where
+  -- the commit stays, and the machine with what is applied
+  still : {sent : List (free.Packet C)} {s : RaftView S C O} {e : RaftEffect S C O} → Does n i P sent (up s) (up e.state) e.sends → e.state.commit ≡ s.commit → Advances m s e →
+      Refined m n i P sent s e
+  still d c a = record { does = d; advances = a; rises = λ l less. absurd (omega (arith, c, less)) }
+
   append_one : (s : RaftView S C O) → is_leader s.role ≡ true → Knows n s → (j : ℕ) → j < n → j ≢ i → (sent : List (free.Packet C)) → Does n i P sent (up s) (up s) ((j, append s j) ∷ [])
   append_one s l ok j below ne sent =
       let fits = next_in s.peers n (length s.log) j (ok l) below in
@@ -80,49 +94,6 @@ module _ {S C O : Type 0} (m : MachineMeaning S C O) (n i : ℕ) (P : Entry C �
 
   ask_all : (s : RaftView S C O) → is_candidate s.role ≡ true → (sent : List (free.Packet C)) → Does n i P sent (up s) (up s) (to_others n i (λ _. request s))
   ask_all s c sent = does_each (λ _. request s) (λ j below ne more. does_say (Ask i j) j (request s) refl (refl, stands_true _ c) tt refl refl) n (omega arith) sent
-
-  new_peers : (len : ℕ) → ArePeers n len (replicate n (new_peer len))
-  new_peers len = record {
-    each = length-replicate n (new_peer len);
-    within = All-replicate (IsPeer len) n (new_peer len) (omega arith, omega arith);
-  }
-
-  lead_does : (s : RaftView S C O) → is_candidate s.role ≡ true → has_won n s ≡ true → (sent : List (free.Packet C)) → Does n i P sent (up s) (up (led n s)) (lead n i s).sends
-  lead_does s c won sent =
-      does_then (does_one (Lead i) refl (refl, stands_true _ c, won) tt begins) (λ mid old. append_all (led n s) refl (λ _. new_peers (length s.log)) mid)
-    where
-      begins : up (led n s) ≡ becomes (up s) (Lead i)
-      begins = ap (λ f. record (up (led n s)) { matched = f }) (matched_new n (length s.log))
-
-  campaign_does : (s : RaftView S C O) → is_candidate s.role ≡ true → (sent : List (free.Packet C)) → Does n i P sent (up s) (up (campaign n i s).state) (campaign n i s).sends
-  campaign_does s c sent = go (has_won n s) refl
-    where
-      go : (b : Bool) → has_won n s ≡ b →
-          Does n i P sent (up s) (up (cond b (lead n i s) (sending s (to_others n i (λ _. request s)))).state)
-          (cond b (lead n i s) (sending s (to_others n i (λ _. request s)))).sends
-      go true e = lead_does s c e sent
-      go false e = ask_all s c sent
-
-  pub tick_refined : (s : RaftView S C O) → Knows n s → (sent : List (free.Packet C)) → Refined m n i P sent s (tick n i s)
-  tick_refined s ok sent = go (is_leader s.role) refl
-    where
-      votes_for_itself : up (candidate i s) ≡ becomes (up s) (Timeout i)
-      votes_for_itself = ap (λ f. record (up (candidate i s)) { votes = f }) (votes_are_sets.one_more i no_votes ∙ ap (with_node i) votes_are_sets.none)
-
-      begins : is_leader s.role ≡ false → Does n i P sent (up s) (up (candidate i s)) []
-      begins e = does_one (Timeout i) refl (refl, leads_false _ e) tt votes_for_itself
-
-      won : (c : Bool) → Advances m s (cond c (lead n i (candidate i s)) (sending (candidate i s) (to_others n i (λ _. request (candidate i s)))))
-      won true = advances_none m s _ refl refl refl silent
-      won false = advances_none m s _ refl refl refl silent
-
-      may : (c : Bool) → is_leader s.role ≡ false → Refined m n i P sent s (cond c (campaign n i (candidate i s)) (stays s))
-      may true e = record { does = does_then (begins e) (λ mid old. campaign_does (candidate i s) refl mid); advances = won (has_won n (candidate i s)) }
-      may false e = record { does = does_nothing refl; advances = advances_none m s (stays s) refl refl refl silent }
-
-      go : (b : Bool) → is_leader s.role ≡ b → Refined m n i P sent s (cond b (sending s (appends n i s)) (cond (may_start s.ballot) (campaign n i (candidate i s)) (stays s)))
-      go true e = record { does = append_all s e ok sent; advances = advances_none m s (sending s (appends n i s)) refl refl refl silent }
-      go false e = may (may_start s.ballot) e
 
   -- what a leader finds that it may commit
   finds : (s : RaftView S C O) (k : ℕ) →
@@ -161,26 +132,110 @@ module _ {S C O : Type 0} (m : MachineMeaning S C O) (n i : ℕ) (P : Entry C �
   settles_no_less : (s : RaftView S C O) → s.applied ≤ s.commit → s.applied ≤ (committed n i s).commit
   settles_no_less s fits = elim (finds s (length s.log)) [ inl e ↦ omega arith | inr f ↦ omega (arith, f.2) ]
 
+  -- the commit of a leader that settles rises by the rule
+  settles_by_the_rule : (s : RaftView S C O) → s.commit < (settled m n i s).state.commit →
+      may_commit n i (matched_of s.peers) s.log s.ballot.term s.commit (settled m n i s).state.commit ≡ true
+  settles_by_the_rule s less = elim (finds s (length s.log)) [ inl e ↦ absurd (omega (arith, e, less)) | inr f ↦ f.0 ]
+
+  -- a leader spreads its log
+  spread_does : (s : RaftView S C O) → is_leader s.role ≡ true → s.applied ≤ s.commit → Knows n (spreads m n i s).state → (sent : List (free.Packet C)) →
+      Does n i P sent (up s) (up (spreads m n i s).state) (spreads m n i s).sends
+  spread_does s l fits known sent = does_then {out = []} (settle s l fits sent) (λ mid old. append_all (spreads m n i s).state l known mid)
+
+  spread_advances : (s : RaftView S C O) → s.applied ≤ s.commit → Advances m s (spreads m n i s)
+  spread_advances s fits = record { no_less = settles_no_less s fits; machine = refl; sessions = refl; told = λ x h. replies_answer i _ x h }
+
+  -- a leader adds an entry
+  add_does : (s : RaftView S C O) (what : What C) → is_leader s.role ≡ true → P (record { term = s.ballot.term; what = what }) → (sent : List (free.Packet C)) →
+      Does n i P sent (up s) (up (with_entry s what)) []
+  add_does s what l p sent = does_one (Propose i (record { term = s.ballot.term; what = what })) refl (refl, leads_true _ l, refl) p refl
+
+  -- a candidate that has won leads, adds a no-op where its log has room, and spreads it
+  lead_refined : (s : RaftView S C O) → is_candidate s.role ≡ true → has_won n s ≡ true → s.applied ≤ s.commit → Knows n (lead m n i s).state → (sent : List (free.Packet C)) →
+      Refined m n i P sent s (lead m n i s)
+  lead_refined s c won fits known sent = go (ltb (length s.log) MAX_INDEX) known
+    where
+      starts : Does n i P sent (up s) (up (led n s)) []
+      starts = does_one (Lead i) refl (refl, stands_true _ c, won) tt (ap (λ f. record (up (led n s)) { matched = f }) (matched_new n (length s.log)))
+
+      go : (b : Bool) → Knows n (spreads m n i (cond b (with_entry (led n s) Noop) (led n s))).state → Refined m n i P sent s (spreads m n i (cond b (with_entry (led n s) Noop) (led n s)))
+      go true knows =
+          let t = with_entry (led n s) Noop in
+          let a = spread_advances t fits in
+          record {
+            does = does_then {out = []} starts (λ more old. does_then {out = []} (add_does (led n s) Noop refl (idle s.ballot.term) more) (λ mid old. spread_does t refl fits knows mid));
+            advances = record { no_less = a.no_less; machine = a.machine; sessions = a.sessions; told = a.told };
+            rises = λ l less. settles_by_the_rule t less;
+          }
+      go false knows =
+          let a = spread_advances (led n s) fits in
+          record {
+            does = does_then {out = []} starts (λ mid old. spread_does (led n s) refl fits knows mid);
+            advances = record { no_less = a.no_less; machine = a.machine; sessions = a.sessions; told = a.told };
+            rises = λ l less. settles_by_the_rule (led n s) less;
+          }
+
+  -- what leads on to a node, and what it does then
+  after_it : {sent : List (free.Packet C)} {s t : RaftView S C O} {e : RaftEffect S C O} → Does n i P sent (up s) (up t) [] → t.commit ≡ s.commit →
+      (Advances m t e → Advances m s e) → ((mid : List (free.Packet C)) → ((p : free.Packet C) → In p sent → In p mid) → Refined m n i P mid t e) → Refined m n i P sent s e
+  after_it {sent = sent} {s = s} {t = t} {e = e} d c advances then = record {
+    does = does_then d (λ mid old. (then mid old).does);
+    advances = advances (then d.new d.old).advances;
+    rises = λ l. rw c at ((then d.new d.old).rises l);
+  }
+
+  -- what was applied is the same
+  on_from : (s t : RaftView S C O) (e : RaftEffect S C O) → t.applied ≡ s.applied → t.machine ≡ s.machine → t.sessions ≡ s.sessions → Advances m t e → Advances m s e
+  on_from s t e p q r a = record { no_less = rw p at a.no_less; machine = rw (p, q, r) at a.machine; sessions = rw (p, q, r) at a.sessions; told = rw (p, q, r) at a.told }
+
+  campaign_refined : (s : RaftView S C O) → is_candidate s.role ≡ true → s.applied ≤ s.commit → Knows n (campaign m n i s).state → (sent : List (free.Packet C)) →
+      Refined m n i P sent s (campaign m n i s)
+  campaign_refined s c fits known sent = go (has_won n s) refl known
+    where
+      asks : RaftEffect S C O
+      asks = sending s (to_others n i (λ _. request s))
+
+      go : (b : Bool) → has_won n s ≡ b → Knows n (cond b (lead m n i s) asks).state → Refined m n i P sent s (cond b (lead m n i s) asks)
+      go true e knows = lead_refined s c e fits knows sent
+      go false e knows = still (ask_all s c sent) refl (advances_none m s asks refl refl refl silent)
+
+  pub tick_refined : (s : RaftView S C O) → Knows n s → Knows n (tick m n i s).state → s.applied ≤ s.commit → (sent : List (free.Packet C)) → Refined m n i P sent s (tick m n i s)
+  tick_refined s ok after fits sent = go (is_leader s.role) refl after
+    where
+      starts : is_leader s.role ≡ false → Does n i P sent (up s) (up (candidate i s)) []
+      starts e =
+          does_one (Timeout i) refl (refl, leads_false _ e) tt
+          (ap (λ f. record (up (candidate i s)) { votes = f }) (votes_are_sets.one_more i no_votes ∙ ap (with_node i) votes_are_sets.none))
+
+      may : (c : Bool) → is_leader s.role ≡ false → Knows n (cond c (campaign m n i (candidate i s)) (stays s)).state → Refined m n i P sent s (cond c (campaign m n i (candidate i s)) (stays s))
+      may true e knows = after_it (starts e) refl (on_from s (candidate i s) _ refl refl refl) (λ mid old. campaign_refined (candidate i s) refl fits knows mid)
+      may false e knows = still (does_nothing refl) refl (advances_none m s (stays s) refl refl refl silent)
+
+      go : (b : Bool) → is_leader s.role ≡ b → Knows n (cond b (sending s (appends n i s)) (cond (may_start s.ballot) (campaign m n i (candidate i s)) (stays s))).state →
+          Refined m n i P sent s (cond b (sending s (appends n i s)) (cond (may_start s.ballot) (campaign m n i (candidate i s)) (stays s)))
+      go true e knows = still (append_all s e ok sent) refl (advances_none m s (sending s (appends n i s)) refl refl refl silent)
+      go false e knows = may (may_start s.ballot) e knows
+
   pub input_refined : (s : RaftView S C O) (q : RaftInput C) → Knows n s → Knows n (on_input m n i s q).state → s.applied ≤ s.commit →
-      P (record { term = s.ballot.term; client = q.client; request = q.request; origin = i; cmd = q.cmd }) → (sent : List (free.Packet C)) → Refined m n i P sent s (on_input m n i s q)
+      P (record { term = s.ballot.term; what = Request q.client q.request i q.cmd }) → (sent : List (free.Packet C)) → Refined m n i P sent s (on_input m n i s q)
   input_refined s q ok after fits p sent = go (is_leader s.role) refl (eqb (length s.log) MAX_INDEX) after
     where
-      refuses : (answers : List (Entry C × O)) (o : RaftOut O) → IsAnswer answers o → (x : RaftOut O) → In x (o ∷ []) → IsAnswer answers x
-      refuses answers o a x (inl e) = rw e a
-      refuses answers o a x (inr h) = absurd h
+      only : (answers : List (Entry C × O)) (o : RaftOut O) → IsAnswer answers o → (x : RaftOut O) → In x (o ∷ []) → IsAnswer answers x
+      only answers o a x (inl e) = rw e a
+      only answers o a x (inr h) = absurd h
 
       takes_it : is_leader s.role ≡ true → Knows n (proposes m n i s q).state → Refined m n i P sent s (proposes m n i s q)
       takes_it l known = record {
-        does = does_then {out = []} (does_one {y = up (proposed i s q)} (Propose i (record { term = s.ballot.term; client = q.client; request = q.request; origin = i; cmd = q.cmd })) refl (refl, leads_true _ l, refl) p refl)
-            (λ more old. does_then {out = []} (settle (proposed i s q) l fits more) (λ mid old. append_all (proposes m n i s q).state l known mid));
-        advances = record { no_less = settles_no_less (proposed i s q) fits; machine = refl; sessions = refl; told = λ x h. replies_answer i _ x h };
+        does = does_then {out = []} (add_does s (Request q.client q.request i q.cmd) l p sent) (λ mid old. spread_does (proposed i s q) l fits known mid);
+        advances = on_from s (proposed i s q) _ refl refl refl (spread_advances (proposed i s q) fits);
+        rises = λ _ less. settles_by_the_rule (proposed i s q) less;
       }
 
       go : (b : Bool) → is_leader s.role ≡ b → (c : Bool) →
           Knows n (cond (not b) (telling s (told.NotLeader q.client q.request)) (cond c (telling s (told.Full q.client q.request)) (proposes m n i s q))).state →
           Refined m n i P sent s (cond (not b) (telling s (told.NotLeader q.client q.request)) (cond c (telling s (told.Full q.client q.request)) (proposes m n i s q)))
-      go false e c known = record { does = does_nothing refl; advances = advances_none m s _ refl refl refl (λ answers x h. refuses answers (told.NotLeader q.client q.request) tt x h) }
-      go true e true known = record { does = does_nothing refl; advances = advances_none m s _ refl refl refl (λ answers x h. refuses answers (told.Full q.client q.request) tt x h) }
+      go false e c known = still (does_nothing refl) refl (advances_none m s _ refl refl refl (λ answers x h. only answers (told.NotLeader q.client q.request) tt x h))
+      go true e true known = still (does_nothing refl) refl (advances_none m s _ refl refl refl (λ answers x h. only answers (told.Full q.client q.request) tt x h))
       go true e false known = takes_it e known
 
   -- a message as it came, of this term
@@ -190,40 +245,43 @@ module _ {S C O : Type 0} (m : MachineMeaning S C O) (n i : ℕ) (P : Entry C �
   request_refined : (s : RaftView S C O) (from : ℕ) (r : RequestVoteView) (sent : List (free.Packet C)) → Came sent from (msg.RequestVote r) → Refined m n i P sent s (on_request s from r)
   request_refined s from r sent came = go (grants s.ballot r.term from (sees_up_to_date s r)) refl
     where
-      grant : grants s.ballot r.term from (sees_up_to_date s r) ≡ true → Does n i P sent (up s) (up (record s { ballot = record s.ballot { voted = Some from } })) ((from, msg.Vote (record { term = s.ballot.term; granted = true })) ∷ [])
+      votes : RaftView S C O
+      votes = record s { ballot = record s.ballot { voted = Some from } }
+
+      grant : grants s.ballot r.term from (sees_up_to_date s r) ≡ true → Does n i P sent (up s) (up votes) (vote votes true from).sends
       grant e =
           let a = and_parts (eqb s.ballot.term r.term && is_free_for s.ballot.voted from) (sees_up_to_date s r) e in
           let b = and_parts (eqb s.ballot.term r.term) (is_free_for s.ballot.voted from) a.0 in
           let t : s.ballot.term ≡ r.term = eqb-true _ _ b.0 in
           does_say (Grant i from r.last_index r.last_term) from (msg.Vote (record { term = s.ballot.term; granted = true })) refl (refl, rw t came, b.1, a.1) tt refl refl
 
-      go : (b : Bool) → grants s.ballot r.term from (sees_up_to_date s r) ≡ b →
-          Refined m n i P sent s (cond b (sending (record s { ballot = record s.ballot { voted = Some from } }) ((from, msg.Vote (record { term = s.ballot.term; granted = true })) ∷ []))
-          (sending s ((from, msg.Vote (record { term = s.ballot.term; granted = false })) ∷ [])))
-      go true e = record { does = grant e; advances = advances_none m s _ refl refl refl silent }
-      go false e = record {
-        does = does_say (Refuse i from (free.Vote false)) from (msg.Vote (record { term = s.ballot.term; granted = false })) refl (refl, refl) tt refl refl;
-        advances = advances_none m s _ refl refl refl silent;
-      }
+      go : (b : Bool) → grants s.ballot r.term from (sees_up_to_date s r) ≡ b → Refined m n i P sent s (cond b (vote votes true from) (vote s false from))
+      go true e = still (grant e) refl (advances_none m s _ refl refl refl silent)
+      go false e =
+          still (does_say (Refuse i from (free.Vote false)) from (msg.Vote (record { term = s.ballot.term; granted = false })) refl (refl, refl) tt refl refl) refl
+          (advances_none m s _ refl refl refl silent)
 
-  vote_refined : (s : RaftView S C O) (from : ℕ) (v : VoteView) (sent : List (free.Packet C)) → Came sent from (msg.Vote v) → Refined m n i P sent s (on_vote n i s from v)
-  vote_refined s from v sent came = go (is_candidate s.role && eqb v.term s.ballot.term && v.granted) refl
+  vote_refined : (s : RaftView S C O) (from : ℕ) (v : VoteView) → s.applied ≤ s.commit → Knows n (on_vote m n i s from v).state → (sent : List (free.Packet C)) → Came sent from (msg.Vote v) →
+      Refined m n i P sent s (on_vote m n i s from v)
+  vote_refined s from v fits after sent came = go (is_candidate s.role && eqb v.term s.ballot.term && v.granted) refl after
     where
       counts : is_candidate s.role ≡ true → v.term ≡ s.ballot.term → v.granted ≡ true → Does n i P sent (up s) (up (voted s from)) []
       counts c t g =
           does_one (Count i from) refl (refl, rw (← t, ← g) came, stands_true _ c) tt (ap (λ f. record (up (voted s from)) { votes = f }) (votes_are_sets.one_more from s.ballot.votes))
 
-      more : (b : Bool) → has_won n (voted s from) ≡ b → is_candidate s.role ≡ true → Does n i P sent (up s) (up (voted s from)) [] → Refined m n i P sent s (cond b (lead n i (voted s from)) (stays (voted s from)))
-      more true e c d = record { does = does_then d (λ mid old. lead_does (voted s from) c e mid); advances = advances_none m s _ refl refl refl silent }
-      more false e c d = record { does = d; advances = advances_none m s _ refl refl refl silent }
+      more : (b : Bool) → has_won n (voted s from) ≡ b → is_candidate s.role ≡ true → Does n i P sent (up s) (up (voted s from)) [] →
+          Knows n (cond b (lead m n i (voted s from)) (stays (voted s from))).state → Refined m n i P sent s (cond b (lead m n i (voted s from)) (stays (voted s from)))
+      more true e c d knows = after_it d refl (on_from s (voted s from) _ refl refl refl) (λ mid old. lead_refined (voted s from) c e fits knows mid)
+      more false e c d knows = still d refl (advances_none m s _ refl refl refl silent)
 
       go : (b : Bool) → (is_candidate s.role && eqb v.term s.ballot.term && v.granted) ≡ b →
-          Refined m n i P sent s (cond b (cond (has_won n (voted s from)) (lead n i (voted s from)) (stays (voted s from))) (stays s))
-      go false e = record { does = does_nothing refl; advances = advances_none m s _ refl refl refl silent }
-      go true e =
+          Knows n (cond b (cond (has_won n (voted s from)) (lead m n i (voted s from)) (stays (voted s from))) (stays s)).state →
+          Refined m n i P sent s (cond b (cond (has_won n (voted s from)) (lead m n i (voted s from)) (stays (voted s from))) (stays s))
+      go false e knows = still (does_nothing refl) refl (advances_none m s _ refl refl refl silent)
+      go true e knows =
           let a = and_parts (is_candidate s.role && eqb v.term s.ballot.term) v.granted e in
           let b = and_parts (is_candidate s.role) (eqb v.term s.ballot.term) a.0 in
-          more (has_won n (voted s from)) refl b.0 (counts b.0 (eqb-true _ _ b.1) a.1)
+          more (has_won n (voted s from)) refl b.0 (counts b.0 (eqb-true _ _ b.1) a.1) knows
 
   append_refined : (s : RaftView S C O) (from : ℕ) (a : AppendView C) → s.applied ≤ s.commit → a.term ≤ s.ballot.term → (sent : List (free.Packet C)) → Came sent from (msg.Append a) →
       Refined m n i P sent s (on_append m i s from a)
@@ -240,30 +298,29 @@ module _ {S C O : Type 0} (m : MachineMeaning S C O) (n i : ℕ) (P : Entry C �
       takes_it e l may =
           let p = and_parts (matches s.log a.prev_index a.prev_term) (not (has_conflict s.log s.commit a.prev_index a.entries)) may in
           record {
-            does = does_then {out = answer s true (a.prev_index + length a.entries) from}
+            does = does_then {out = answer s true (last_new a) from}
                 (does_say {y = up (taken s a)} (Accept i from a.prev_index a.prev_term a.entries a.commit) from (msg.Appended (record { term = s.ballot.term; ok = true; index = a.prev_index + length a.entries }))
                 refl (refl, comes e, leads_false _ l, p.0, not-true _ p.1) tt refl refl)
                 (λ mid old. does_one (Apply i (taken s a).commit) refl (refl, omega (arith, fits), omega arith) tt refl);
             advances = record { no_less = omega (arith, fits); machine = refl; sessions = refl; told = λ x h. replies_answer i _ x h };
+            rises = λ l. absurd (false≢true l);
           }
 
       refuses : (b : Bool) → may_take s a ≡ b → ltb a.term s.ballot.term ≡ false → is_leader s.role ≡ false →
-          Refined m n i P sent s (cond b (takes m i s from a) (sending (record s { role = role.Follower }) (answer s false a.prev_index from)))
+          Refined m n i P sent s (cond b (takes m i s from a) (sending (follower s) (answer s false a.prev_index from)))
       refuses true may e l = takes_it e l may
-      refuses false may e l = record {
-        does = does_then (does_one {y = up (record s { role = role.Follower })} (StepDown i from a.prev_index a.prev_term a.entries a.commit) refl (refl, comes e, leads_false _ l) tt refl)
-            (λ mid old. no (record s { role = role.Follower }) refl mid);
-        advances = advances_none m s _ refl refl refl silent;
-      }
+      refuses false may e l =
+          still (does_then (does_one {y = up (follower s)} (StepDown i from a.prev_index a.prev_term a.entries a.commit) refl (refl, comes e, leads_false _ l) tt refl) (λ mid old. no (follower s) refl mid))
+          refl (advances_none m s _ refl refl refl silent)
 
       follows : (b : Bool) → is_leader s.role ≡ b → ltb a.term s.ballot.term ≡ false →
-          Refined m n i P sent s (cond b (stays s) (cond (may_take s a) (takes m i s from a) (sending (record s { role = role.Follower }) (answer s false a.prev_index from))))
-      follows true l e = record { does = does_nothing refl; advances = advances_none m s _ refl refl refl silent }
+          Refined m n i P sent s (cond b (stays s) (cond (may_take s a) (takes m i s from a) (sending (follower s) (answer s false a.prev_index from))))
+      follows true l e = still (does_nothing refl) refl (advances_none m s _ refl refl refl silent)
       follows false l e = refuses (may_take s a) refl e l
 
       go : (b : Bool) → ltb a.term s.ballot.term ≡ b → Refined m n i P sent s (cond b (sending s (answer s false a.prev_index from))
-          (cond (is_leader s.role) (stays s) (cond (may_take s a) (takes m i s from a) (sending (record s { role = role.Follower }) (answer s false a.prev_index from)))))
-      go true e = record { does = no s refl sent; advances = advances_none m s _ refl refl refl silent }
+          (cond (is_leader s.role) (stays s) (cond (may_take s a) (takes m i s from a) (sending (follower s) (answer s false a.prev_index from)))))
+      go true e = still (no s refl sent) refl (advances_none m s _ refl refl refl silent)
       go false e = follows (is_leader s.role) refl e
 
   -- a leader with what it learned of a node
@@ -311,17 +368,16 @@ module _ {S C O : Type 0} (m : MachineMeaning S C O) (n i : ℕ) (P : Entry C �
             does = does_then {out = []} (notes ok (ltb-true _ _ h.0) (leb-true _ _ h.1)) (λ more old.
                 does_then {out = []} (settle (known_by moves.Raised) l fits more) (λ mid old. rest (settled m n i (known_by moves.Raised)).state l later mid));
             advances = record { no_less = settles_no_less (known_by moves.Raised) fits; machine = refl; sessions = refl; told = λ x h. replies_answer i _ x h };
+            rises = λ _ less. settles_by_the_rule (known_by moves.Raised) less;
           }
-      raised false e ok later = record { does = same moves.Nothing refl; advances = advances_none m s _ refl refl refl silent }
+      raised false e ok later = still (same moves.Nothing refl) refl (advances_none m s _ refl refl refl silent)
 
       back : (b : Bool) → is_refusal p a.index ≡ b →
           Knows n (on_moved m n i (known_by (cond b moves.Back moves.Nothing)) from (cond b moves.Back moves.Nothing)).state →
           Refined m n i P sent s (on_moved m n i (known_by (cond b moves.Back moves.Nothing)) from (cond b moves.Back moves.Nothing))
-      back true e later = record {
-        does = does_then {out = []} (same moves.Back refl) (λ mid old. append_one (known_by moves.Back) l later from below ne mid);
-        advances = advances_none m s _ refl refl refl silent;
-      }
-      back false e later = record { does = same moves.Nothing refl; advances = advances_none m s _ refl refl refl silent }
+      back true e later =
+          still (does_then {out = []} (same moves.Back refl) (λ mid old. append_one (known_by moves.Back) l later from below ne mid)) refl (advances_none m s _ refl refl refl silent)
+      back false e later = still (same moves.Nothing refl) refl (advances_none m s _ refl refl refl silent)
 
       by_answer : (ok : Bool) → a.ok ≡ ok → Refined m n i P sent s (on_moved m n i (known s from a) from (moved_by s from a))
       by_answer true e = rw e (raised (is_news p a.index (length s.log)) refl e (rw e at after))
@@ -336,12 +392,12 @@ module _ {S C O : Type 0} (m : MachineMeaning S C O) (n i : ℕ) (P : Entry C �
       go true e later =
           let p = and_parts (is_leader s.role) (eqb a.term s.ballot.term) e in
           moved_refined s from a below ne p.0 (ok p.0) fits later sent (eqb-true _ _ p.1) came
-      go false e later = record { does = does_nothing refl; advances = advances_none m s _ refl refl refl silent }
+      go false e later = still (does_nothing refl) refl (advances_none m s _ refl refl refl silent)
 
   by_message_refined : (s : RaftView S C O) (from : ℕ) (message : RaftMsg C) → from < n → from ≢ i → Knows n s → s.applied ≤ s.commit → term_of message ≤ s.ballot.term →
       Knows n (by_message m n i s from message).state → (sent : List (free.Packet C)) → Came sent from message → Refined m n i P sent s (by_message m n i s from message)
   by_message_refined s from (msg.RequestVote r) below ne ok fits le after sent came = request_refined s from r sent came
-  by_message_refined s from (msg.Vote v) below ne ok fits le after sent came = vote_refined s from v sent came
+  by_message_refined s from (msg.Vote v) below ne ok fits le after sent came = vote_refined s from v fits after sent came
   by_message_refined s from (msg.Append a) below ne ok fits le after sent came = append_refined s from a fits le sent came
   by_message_refined s from (msg.Appended a) below ne ok fits le after sent came = appended_refined s from a below ne ok fits after sent came
 
@@ -381,5 +437,4 @@ module _ {S C O : Type 0} (m : MachineMeaning S C O) (n i : ℕ) (P : Entry C �
       (sent : List (free.Packet C)) → Came sent from message → Refined m n i P sent s (on_message m n i s from message)
   message_refined s from message below ne ok fits after sent came =
       let h = hears s from message ok fits sent came in
-      let r = λ (mid : List (free.Packet C)) (c : Came mid from message). by_message_refined (heard (term_of message) s) from message below ne h.knows h.fits h.reached after mid c in
-      record { does = does_then h.does (λ mid old. (r mid (old _ came)).does); advances = h.advances _ (r sent came).advances }
+      after_it h.does h.commit (h.advances _) (λ mid old. by_message_refined (heard (term_of message) s) from message below ne h.knows h.fits h.reached after mid (old _ came))

@@ -19,6 +19,7 @@ use Rattle.raft_safety.specs.Runs.{IsReached, RaftWorld, seen}
 use Rattle.raft_safety.specs.Mirrors.{Mirrors, free_packet, free_role}
 use Rattle.raft_safety.specs.Safety.{NoCommittedConflict, NoRivalAppends}
 use Rattle.raft_safety.proofs.Acting.{Reaches, steps_reach}
+use Rattle.raft_safety.proofs.Freed.{node_is}
 use Rattle.raft_safety.proofs.Mirroring.{Goes, run_then}
 use Rattle.raft_safety.proofs.Refining.{Hears, hears, up}
 use Rattle.raft_safety.proofs.Safe.{goes_to}
@@ -42,11 +43,11 @@ record Meets {S C O : Type 0} (n : ℕ) (s : RaftView S C O) (i from : ℕ) (a :
 module _ {S C O : Type 0} (m : MachineMeaning S C O) (n : ℕ) where
   -- a node that is up hears of the term of a message that came
   hears_it : {w : RaftWorld S C O} {v : free.FreeWorld C} → Mirrors w v → Stands m n w → (p : Packet (RaftMsg C)) (a : AppendView C) → In p w.packets → p.content ≡ msg.Append a →
-      Hears m n p.destination (λ _. Unit {0}) v.sent (w.state p.destination) a.term (heard a.term (w.state p.destination))
+      Hears m n p.destination (λ _. Unit {0}) (λ _. tt) v.sent (w.state p.destination) a.term (heard a.term (w.state p.destination))
   hears_it {w = w} {v = v} mirrors stands p a here is =
       let k = stands.sound p.destination (stands.good p here).below in
       let came : In (free_packet p.source p.destination (msg.Append a)) v.sent = subst (λ x. In (free_packet p.source p.destination x) v.sent) is (mirrors.sent p here) in
-      hears m n p.destination (λ _. Unit {0}) (w.state p.destination) p.source (msg.Append a) k.peers k.applied v.sent came
+      hears m n p.destination (λ _. Unit {0}) (λ _. tt) (w.state p.destination) p.source (msg.Append a) k.peers k.applied v.sent came
 
   meets : (w : RaftWorld S C O) → IsReached m n w → (p : Packet (RaftMsg C)) (a : AppendView C) → In p w.packets → p.content ≡ msg.Append a → w.is_up p.destination ≡ true →
       (heard a.term (w.state p.destination)).ballot.term ≡ a.term → Meets n (heard a.term (w.state p.destination)) p.destination p.source a
@@ -60,14 +61,14 @@ module _ {S C O : Type 0} (m : MachineMeaning S C O) (n : ℕ) where
       g : Goes m n (free.first_world C) w (seen m n r.steps)
       g = goes_to m n w r
 
-      h : Hears m n p.destination (λ _. Unit {0}) g.world.sent (w.state p.destination) a.term (heard a.term (w.state p.destination))
+      h : Hears m n p.destination (λ _. Unit {0}) (λ _. tt) g.world.sent (w.state p.destination) a.term (heard a.term (w.state p.destination))
       h = hears_it g.mirrors g.stands p a here is
 
       came : In (free_packet p.source p.destination (msg.Append a)) g.world.sent
       came = subst (λ x. In (free_packet p.source p.destination x) g.world.sent) is (g.mirrors.sent p here)
 
       reach : Reaches n p.destination g.world h.does.events h.does.new (up (heard a.term (w.state p.destination)))
-      reach = steps_reach n p.destination h.does.events g.world h.does.new (up (heard a.term (w.state p.destination))) (rw (g.mirrors.node p.destination, is_up) h.does.steps)
+      reach = steps_reach n p.destination h.does.events g.world h.does.new (up (heard a.term (w.state p.destination))) (rw (node_is g.mirrors p.destination, is_up) h.does.steps)
 
 pub run_no_rival_appends : (S C O : Type 0) → NoRivalAppends S C O
 run_no_rival_appends S C O m n w p a r c =

@@ -12,7 +12,8 @@ use Rattle.vst_base.specs.declared.step.Step.{Step}
 use Rattle.vst_base.specs.declared.step.Step.TheVariants as step
 use Rattle.raft_clients.proofs.Once.{applied-answers}
 use Rattle.raft_clients.specs.Executed.{executed}
-use Rattle.raft_clients.specs.Executions.{IsAnswered, executions}
+use Rattle.raft_clients.specs.Executions.{IsAnswered, IsExecution, executions}
+use Rattle.raft_clients.specs.Requests.{request_of, requests}
 use Rattle.raft_free.specs.Events as events
 use Rattle.raft_free.specs.Events.{In}
 use Rattle.raft_free.specs.Nodes as free
@@ -30,21 +31,22 @@ use Rattle.raft_types.specs.declared.client.RaftOut.TheVariants as told
 use Rattle.raft_types.specs.declared.msg.RaftMsg.{RaftMsg}
 use Rattle.raft_xform.specs.Nodes.{RaftView}
 use Rattle.raft_xform.specs.Raft.{raft, raft_recovery}
-use Rattle.raft_safety.specs.Applied.{applied_from, applied_list, longest, request_of}
+use Rattle.raft_safety.specs.Applied.{applied_list, applied_lists, longest, longest_from}
 use Rattle.raft_safety.specs.Runs.{RaftWorld, seen}
 use Rattle.linearizability.specs.Linearizable.{HasInput, Seen, Told, told_behind}
 use Rattle.raft_safety.specs.Mirrors.{Mirrors}
 use Rattle.raft_safety.proofs.Acting.{Proposes}
 use Rattle.raft_safety.proofs.Advancing.{Tells, news}
 use Rattle.raft_safety.proofs.Computing.{Computes, GoesOn, all_of, goes_on}
-use Rattle.raft_safety.proofs.Explaining.{IsExplained, explained_more, in_executed}
+use Rattle.raft_safety.proofs.Explaining.{IsAsked, IsExplained, explained_more, in_executed, in_requests, requests_front}
+use Rattle.raft_safety.proofs.Freed.{node_is}
 use Rattle.raft_safety.proofs.Listing.{all_in, got_in, in_take}
 use Rattle.raft_safety.proofs.Longest.{Best, WasApplied, longest_is_best, was_later}
-use Rattle.raft_safety.proofs.Mirroring.{AreTaken, Goes, first_mirror, first_stands, first_taken, proposes_weaker, put_in, puts, run_then, step_goes}
+use Rattle.raft_safety.proofs.Mirroring.{AreTaken, Goes, asked_more, first_mirror, first_stands, first_taken, proposes_weaker, puts, run_then, step_goes}
 use Rattle.raft_safety.proofs.Told.{IsTold, told_behind-append, told_outputs}
-use Rattle.raft_safety.proofs.Turning.{IsTaken, Stands, Turn, WasPutIn, turn}
+use Rattle.raft_safety.proofs.Turning.{IsTaken, Stands, Turn, WasAsked, WasPutIn, turn}
 
--- of a cluster behind what clients have seen, where this is the longest list that was applied
+-- of a cluster after what clients have seen, where this is the longest list that was applied
 pub record Sofar {S C O : Type 0} (m : MachineMeaning S C O) (n : ℕ) (w : RaftWorld S C O) (seen : Seen C O) (best : List (Entry C)) : Type 0 where
   pub world : free.FreeWorld C
   pub past : List (events.Event C)
@@ -56,7 +58,7 @@ pub record Sofar {S C O : Type 0} (m : MachineMeaning S C O) (n : ℕ) (w : Raft
   pub each : (i : ℕ) → i < n → Front (applied_list (w.state i)) best
   pub computes : (i : ℕ) → Computes m (w.state i)
   pub put_in : (x : Entry C) → In x best → WasPutIn seen x
-  pub told : (t : Told C O) → In t (told_behind [] seen) → IsExplained m best t
+  pub told : (t : Told C O) → In t (told_behind [] seen) → IsExplained m (requests best) t
 
 -- the same later, where what was applied has only grown
 pub record Further {S C O : Type 0} (m : MachineMeaning S C O) (n : ℕ) (w : RaftWorld S C O) (seen : Seen C O) (old new : List (Entry C)) : Type 0 where
@@ -67,7 +69,7 @@ pub record Further {S C O : Type 0} (m : MachineMeaning S C O) (n : ℕ) (w : Ra
 pub record IsExplainedAt {S C O : Type 0} (m : MachineMeaning S C O) (n : ℕ) (w : RaftWorld S C O) (t : Told C O) : Type 0 where
   pub node : ℕ
   pub below : node < n
-  pub explained : IsExplained m (applied_list (w.state node)) t
+  pub explained : IsExplained m (requests (applied_list (w.state node))) t
 
 -- no output is an input
 no_input : {I O : Type 0} (node : ℕ) (outputs : List O) (q : I) → HasInput {I = I} {O = O} (map (λ o. item.Output node o) outputs) q → ⊥
@@ -80,12 +82,20 @@ without_outputs (item.Input i r ∷ xs) node outputs q (inl e) = inl e
 without_outputs (item.Input i r ∷ xs) node outputs q (inr h) = inr (without_outputs xs node outputs q h)
 without_outputs (item.Output i o ∷ xs) node outputs q h = without_outputs xs node outputs q h
 
+execution_of : {C O : Type 0} {xs : List (RaftInput C × O)} {client who request number : ℕ} {output told : O} → client ≡ who → request ≡ number → output ≡ told →
+    IsExecution xs client request output → IsExecution xs who number told
+execution_of c r o e = record { place = e.place; executed = e.executed; there = e.there ∙ ap (λ o. Some (e.executed, o)) o; client = e.client ∙ c; request = e.request ∙ r }
+
+asked_without : {C O : Type 0} (xs : Seen C O) (node : ℕ) (outputs : List (RaftOut O)) (o : Option (RaftInput C)) → WasAsked (xs ++ map (λ o. item.Output node o) outputs) o → WasAsked xs o
+asked_without xs node outputs None h = tt
+asked_without xs node outputs (Some r) h = without_outputs xs node outputs r h
+
 module _ {S C O : Type 0} (m : MachineMeaning S C O) (n : ℕ) where
   all_proposed : {w v : RaftWorld S C O} {seen : Seen C O} {best : List (Entry C)} (more : Seen C O) (sf : Sofar m n w seen best) (g : Goes m n sf.world v (seen ++ more)) →
       (e : events.Event C) → In e (sf.past ++ g.late) → Proposes (WasPutIn (seen ++ more)) e
   all_proposed {seen = seen} more sf g e h =
       elim (in_append e sf.past g.late h)
-      [ inl q ↦ proposes_weaker (WasPutIn seen) (WasPutIn (seen ++ more)) (λ x p. put_in seen more (request_of x) p) e (sf.proposed e q) | inr q ↦ g.proposed e q ]
+      [ inl q ↦ proposes_weaker (WasPutIn seen) (WasPutIn (seen ++ more)) (λ x p. asked_more seen more (request_of x) p) e (sf.proposed e q) | inr q ↦ g.proposed e q ]
 
   whole_run : {w v : RaftWorld S C O} {seen : Seen C O} {best : List (Entry C)} (more : Seen C O) (sf : Sofar m n w seen best) (g : Goes m n sf.world v (seen ++ more)) →
       Run n (free.first_world C) (sf.past ++ g.late) g.world
@@ -95,18 +105,18 @@ module _ {S C O : Type 0} (m : MachineMeaning S C O) (n : ℕ) where
   from_log : {w v : RaftWorld S C O} {seen : Seen C O} {best : List (Entry C)} (more : Seen C O) (sf : Sofar m n w seen best) (g : Goes m n sf.world v (seen ++ more)) →
       (i : ℕ) (x : Entry C) → In x (v.state i).log → WasPutIn (seen ++ more) x
   from_log {v = v} more sf g i x h =
-      let o = nothing_invented C n g.world (sf.past ++ g.late) i x (whole_run more sf g) (rw (g.mirrors.node i) h) in
+      let o = nothing_invented C n g.world (sf.past ++ g.late) i x (whole_run more sf g) (rw (node_is g.mirrors i) h) in
       all_proposed more sf g (events.Propose o.0 x) o.1
 
   -- what a node has applied stays in its log, unless it starts again
   stays : {w v : RaftWorld S C O} {seen : Seen C O} {best : List (Entry C)} (more : Seen C O) (sf : Sofar m n w seen best) (g : Goes m n sf.world v (seen ++ more)) →
       (i : ℕ) → (w.state i).applied ≤ (v.state i).applied → take (w.state i).applied (w.state i).log ≡ take (w.state i).applied (v.state i).log
   stays {w = w} {v = v} more sf g i le =
-      let s = rw (sf.mirrors.node i, g.mirrors.node i) at (state_machine_safety C n sf.world g.world i i (w.state i).applied (record { early = sf.past; late = g.late; before = sf.run; after = g.run })) in
+      let s = rw (node_is sf.mirrors i, node_is g.mirrors i) at (state_machine_safety C n sf.world g.world i i (w.state i).applied (record { early = sf.past; late = g.late; before = sf.run; after = g.run })) in
       (s (omega arith) le).0.1
 
   sofar_on : {w v : RaftWorld S C O} {seen : Seen C O} {best : List (Entry C)} (more : Seen C O) (sf : Sofar m n w seen best) (g : Goes m n sf.world v (seen ++ more)) →
-      ((i : ℕ) → Computes m (v.state i)) → ((t : Told C O) → In t (told_behind seen more) → IsExplainedAt m n v t) → Further m n v (seen ++ more) best (longest n v best)
+      ((i : ℕ) → Computes m (v.state i)) → ((t : Told C O) → In t (told_behind seen more) → IsExplainedAt m n v t) → Further m n v (seen ++ more) best (longest n (applied_lists v) best)
   sofar_on {w = w} {v = v} {seen = seen} {best = best} more sf g computes explained = record {
     sofar = record {
       world = g.world;
@@ -118,16 +128,16 @@ module _ {S C O : Type 0} (m : MachineMeaning S C O) (n : ℕ) where
       was = b.was;
       each = b.each;
       computes = computes;
-      put_in = b.all (λ x h. put_in seen more (request_of x) (sf.put_in x h)) (λ i x h. from_log more sf g i x (in_take x (v.state i).applied (v.state i).log h));
+      put_in = b.all (λ x h. asked_more seen more (request_of x) (sf.put_in x h)) (λ i x h. from_log more sf g i x (in_take x (v.state i).applied (v.state i).log h));
       told = λ t h. elim (in_append t (told_behind [] seen) (told_behind seen more) (rw (told_behind-append [] seen more) at h)) [
-        | inl q ↦ explained_more m best (longest n v best) t b.front (sf.told t q)
-        | inr q ↦ (let x = explained t q in explained_more m (applied_list (v.state x.node)) (longest n v best) t (b.each x.node x.below) x.explained)
+        | inl q ↦ explained_more m (requests best) (requests (longest n (applied_lists v) best)) t (requests_front b.front) (sf.told t q)
+        | inr q ↦ (let x = explained t q in explained_more m (requests (applied_list (v.state x.node))) (requests (longest n (applied_lists v) best)) t (requests_front (b.each x.node x.below)) x.explained)
       ];
     };
     front = b.front;
   }
     where
-      b : Best (WasPutIn (seen ++ more)) n v g.world n best (longest n v best)
+      b : Best (WasPutIn (seen ++ more)) n v g.world n best (longest n (applied_lists v) best)
       b = longest_is_best (WasPutIn (seen ++ more)) n v g.world g.mirrors best (was_later g.late g.run sf.was) n
 
   told_input : (before : Seen C O) (node : ℕ) (i : Option (RaftInput C)) (t : Told C O) → In t (told_behind before (input_item node i)) → ⊥
@@ -136,10 +146,10 @@ module _ {S C O : Type 0} (m : MachineMeaning S C O) (n : ℕ) where
 
   event_on : {w : RaftWorld S C O} {seen : Seen C O} {best : List (Entry C)} (sf : Sofar m n w seen best) (e : Event (RaftView S C O) (RaftInput C) (RaftOut O) (RaftMsg C)) → Turn m n w sf.world seen e →
       (ps : List (Packet (RaftMsg C))) → Goes m n sf.world (after_event (with_packets w ps) (Some e)) (seen ++ items_of_event (Some e)) →
-      Further m n (after_event (with_packets w ps) (Some e)) (seen ++ items_of_event (Some e)) best (longest n (after_event (with_packets w ps) (Some e)) best)
+      Further m n (after_event (with_packets w ps) (Some e)) (seen ++ items_of_event (Some e)) best (longest n (applied_lists (after_event (with_packets w ps) (Some e))) best)
   event_on {w = w} {seen = seen} {best = best} sf e t ps g =
       sofar_on (items_of_event (Some e)) sf g (puts (λ k s. Computes m s) w.state i e.effect.state on.computes (λ k ne. sf.computes k))
-      (λ x h. record { node = i; below = t.below; explained = rw here (explained x (behind x h)) })
+      (λ x h. record { node = i; below = t.below; explained = rw here (explained x (told_now x h)) })
     where
       i : ℕ
       i = e.node
@@ -159,41 +169,45 @@ module _ {S C O : Type 0} (m : MachineMeaning S C O) (n : ℕ) where
       outputs : Seen C O
       outputs = map (λ o. item.Output i o) e.effect.outputs
 
-      behind : (x : Told C O) → In x (told_behind seen (items_of_event (Some e))) → IsTold (seen ++ input_item i e.input) e.effect.outputs x
-      behind x h =
+      told_now : (x : Told C O) → In x (told_behind seen (items_of_event (Some e))) → IsTold (seen ++ input_item i e.input) e.effect.outputs x
+      told_now x h =
           elim (in_append x (told_behind seen (input_item i e.input)) (told_behind (seen ++ input_item i e.input) outputs) (rw (told_behind-append seen (input_item i e.input) outputs) at h))
           [ inl q ↦ absurd (told_input seen i e.input x q) | inr q ↦ told_outputs (seen ++ input_item i e.input) i e.effect.outputs x q ]
 
-      was_put_in : (x : Entry C) → In x e.effect.state.log → HasInput (seen ++ input_item i e.input) (request_of x)
+      was_put_in : (x : Entry C) → In x e.effect.state.log → WasPutIn (seen ++ input_item i e.input) x
       was_put_in x h =
-          without_outputs (seen ++ input_item i e.input) i e.effect.outputs (request_of x)
+          asked_without (seen ++ input_item i e.input) i e.effect.outputs (request_of x)
           (rw (append_assoc seen (input_item i e.input) outputs) (from_log (items_of_event (Some e)) sf g i x (rw here h)))
 
-      explained : (x : Told C O) → IsTold (seen ++ input_item i e.input) e.effect.outputs x → IsExplained m (applied_list e.effect.state) x
-      explained x told_it = record {
-        place = a.place;
-        entry = a.entry;
-        there = a.there ∙ ap (λ o. Some (a.entry, o)) tells.with_it;
-        client = a.client ∙ tells.whom;
-        request = a.request ∙ tells.what;
-        in_time = λ k y le at. told_it.behind (request_of y)
-            (was_put_in y (in_take y e.effect.state.applied e.effect.state.log (in_executed y (applied_list e.effect.state) (got_in (executed (applied_list e.effect.state)) k y at))));
-      }
+      rs : List (RaftInput C)
+      rs = requests (applied_list e.effect.state)
+
+      explained : (x : Told C O) → IsTold (seen ++ input_item i e.input) e.effect.outputs x → IsExplained m rs x
+      explained x told_it = record { execution = execution; in_time = λ k y le at. told_it.later y (in_time y (in_requests y (applied_list e.effect.state) (in_executed y rs (got_in (executed rs) k y at)))) }
         where
           tells : Tells (news m (w.state i) e.effect.state).answers x.client x.request x.output
           tells = t.refined.advances.told (told.Reply x.client x.request x.output) told_it.one
 
-          a : IsAnswered (executions m (applied_list e.effect.state)) tells.answer
-          a = all_in (IsAnswered (executions m (applied_list e.effect.state))) (all_of m (applied_list e.effect.state)).answers tells.answer (applied-answers m (applied_list e.effect.state)) (on.answers tells.answer tells.one)
+          a : IsAnswered (executions m rs) tells.answer
+          a = all_in (IsAnswered (executions m rs)) (all_of m (applied_list e.effect.state)).answers tells.answer (applied-answers m (applied_list e.effect.state)) (on.answers tells.answer tells.one)
+
+          same : a.asked ≡ tells.asked
+          same = let both : Some a.asked ≡ Some tells.asked = sym a.by ∙ tells.by in cc (both)
+
+          execution : IsExecution (executions m rs) x.client x.request x.output
+          execution = execution_of (ap (λ r. r.client) same ∙ tells.whom) (ap (λ r. r.request) same ∙ tells.number) tells.with_it a.execution
+
+          in_time : (y : RaftInput C) → IsAsked y (applied_list e.effect.state) → HasInput (seen ++ input_item i e.input) y
+          in_time y q = rw (q.by) at (was_put_in q.entry (in_take q.entry e.effect.state.applied e.effect.state.log q.one))
 
   -- nothing happens at a node
   quiet_on : {w v : RaftWorld S C O} {seen : Seen C O} {best : List (Entry C)} (sf : Sofar m n w seen best) → ((i : ℕ) → Computes m (v.state i)) → Goes m n sf.world v (seen ++ []) →
-      Further m n v (seen ++ []) best (longest n v best)
+      Further m n v (seen ++ []) best (longest n (applied_lists v) best)
   quiet_on sf computes g = sofar_on [] sf g computes (λ t h. absurd h)
 
   -- a step that the network takes
   step_on : {w : RaftWorld S C O} {seen : Seen C O} {best : List (Entry C)} (sf : Sofar m n w seen best) (s : Step (RaftInput C)) → IsTaken m n w s →
-      Further m n (next (raft n m) (raft_recovery m) w s) (seen ++ items_of (raft n m) w s) best (longest n (next (raft n m) (raft_recovery m) w s) best)
+      Further m n (next (raft n m) (raft_recovery m) w s) (seen ++ items_of (raft n m) w s) best (longest n (applied_lists (next (raft n m) (raft_recovery m) w s)) best)
   step_on {w = w} {seen = seen} sf (step.In i q) taken =
       event_on sf _ (turn m n w sf.world seen sf.mirrors sf.stands (step.In i q) taken _ refl) w.packets (step_goes m n w sf.world seen sf.mirrors sf.stands (step.In i q) taken)
   step_on {w = w} {seen = seen} sf (step.Tick i) taken =
@@ -202,7 +216,7 @@ module _ {S C O : Type 0} (m : MachineMeaning S C O) (n : ℕ) where
     where
       by_event : (o : Option (Event (RaftView S C O) (RaftInput C) (RaftOut O) (RaftMsg C))) → event_of (raft n m) w (step.Deliver k) ≡ o →
           Goes m n sf.world (after_event (with_packets w (change_at one_less k w.packets)) o) (seen ++ items_of_event o) →
-          Further m n (after_event (with_packets w (change_at one_less k w.packets)) o) (seen ++ items_of_event o) best (longest n (after_event (with_packets w (change_at one_less k w.packets)) o) best)
+          Further m n (after_event (with_packets w (change_at one_less k w.packets)) o) (seen ++ items_of_event o) best (longest n (applied_lists (after_event (with_packets w (change_at one_less k w.packets)) o)) best)
       by_event None at g = quiet_on sf sf.computes g
       by_event (Some e) at g = event_on sf e (turn m n w sf.world seen sf.mirrors sf.stands (step.Deliver k) taken e at) (change_at one_less k w.packets) g
   step_on {w = w} {seen = seen} sf (step.Dup k) taken = quiet_on sf sf.computes (step_goes m n w sf.world seen sf.mirrors sf.stands (step.Dup k) taken)
@@ -215,7 +229,7 @@ module _ {S C O : Type 0} (m : MachineMeaning S C O) (n : ℕ) where
       rebooted_computes (Some kept) k = puts (λ j s. Computes m s) w.state i ((raft_recovery m).reboot i kept) (record { machine = refl; sessions = refl }) (λ j ne. sf.computes j) k
 
   pub run_on : (ss : List (Step (RaftInput C))) {w : RaftWorld S C O} {seen : Seen C O} {best : List (Entry C)} (sf : Sofar m n w seen best) → AreTaken m n w ss →
-      Further m n (run_from (raft n m) (raft_recovery m) w ss) (seen ++ trace_from (raft n m) (raft_recovery m) w ss) best (applied_from m n w best ss)
+      Further m n (run_from (raft n m) (raft_recovery m) w ss) (seen ++ trace_from (raft n m) (raft_recovery m) w ss) best (longest_from applied_lists m n w best ss)
   run_on [] {seen = seen} {best = best} sf taken = rw (append-nil seen) (record { sofar = sf; front = front_self best })
   run_on (s ∷ ss) {w = w} {seen = seen} {best = best} sf taken =
       let t = first_taken m n w s ss taken in

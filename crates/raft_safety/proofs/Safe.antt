@@ -21,8 +21,9 @@ use Rattle.raft_xform.specs.Nodes.{is_leader}
 use Rattle.raft_xform.specs.Raft.{raft, raft_recovery}
 use Rattle.raft_safety.specs.Runs.{AreMoments, IsReached, IsRun, Leads, RaftWorld, log_at, log_of, seen, world_after}
 use Rattle.linearizability.specs.Linearizable.{Seen}
-use Rattle.raft_safety.specs.Mirrors.{free_node, free_role}
-use Rattle.raft_safety.specs.Safety.{AppliedIsThere, ElectionSafety, FirstIsFree, IsFree, LeaderAppendOnly, LeaderCompleteness, LeaderCompletenessBefore, LogMatching, StateMachineSafety, StepIsFree}
+use Rattle.raft_safety.specs.Mirrors.{free_role}
+use Rattle.raft_safety.specs.Safety.{AppliedIsThere, CommittedKept, CommittedKeptBefore, ElectionSafety, FirstIsFree, IsFree, LeaderAppendOnly, LeaderCompleteness, LeaderCompletenessBefore, LogMatching, StateMachineSafety, StepIsFree}
+use Rattle.raft_safety.proofs.Freed.{free_node, node_is}
 use Rattle.raft_safety.proofs.Longest.{did_fits}
 use Rattle.raft_safety.proofs.Mirroring.{AreTaken, Goes, first_mirror, first_stands, first_taken, run_goes, step_goes}
 use Rattle.raft_safety.proofs.Turning.{Stands}
@@ -62,7 +63,7 @@ module _ {S C O : Type 0} (m : MachineMeaning S C O) (n : ℕ) where
       let p = parts (next (raft n m) (raft_recovery m) w s) early late t.1 in
       (rw (t.0, p.0) refl, p.1)
 
-  goes : (ss : List (Step (RaftInput C))) → IsRun m n ss → Goes m n (free.first_world C) (world_after m n ss) (seen m n ss)
+  pub goes : (ss : List (Step (RaftInput C))) → IsRun m n ss → Goes m n (free.first_world C) (world_after m n ss) (seen m n ss)
   goes ss r = run_goes m n (first_world (raft n m)) (free.first_world C) [] (first_mirror m n) (first_stands m n r.size) ss r.allowed
 
   -- a run comes to the cluster
@@ -104,35 +105,42 @@ step_is_free S C O m n ss s x r mirrors =
 pub run_election_safety : (S C O : Type 0) → ElectionSafety S C O
 run_election_safety S C O m n v w i j term a li lj =
     let t = moment m n v w a in
-    (rw (t.before.mirrors.node i, t.after.mirrors.node j) at (election_safety C n t.before.world t.after.world i j (times t)))
+    (rw (node_is t.before.mirrors i, node_is t.after.mirrors j) at (election_safety C n t.before.world t.after.world i j (times t)))
     (free_leads v i term li) (free_leads w j term lj) (li.term ∙ sym lj.term)
 
 pub run_leader_append_only : (S C O : Type 0) → LeaderAppendOnly S C O
 run_leader_append_only S C O m n v w i term a li lj =
     let t = moment m n v w a in
     rw (log_is m n v t.before.stands i, log_is m n w t.after.stands i)
-    ((rw (t.before.mirrors.node i, t.after.mirrors.node i) at (leader_append_only C n t.before.world t.after.world i (times t)))
+    ((rw (node_is t.before.mirrors i, node_is t.after.mirrors i) at (leader_append_only C n t.before.world t.after.world i (times t)))
     (free_leads v i term li) (free_leads w i term lj) (li.term ∙ sym lj.term))
 
 pub run_log_matching : (S C O : Type 0) → LogMatching S C O
 run_log_matching S C O m n v w i j k a =
     let t = moment m n v w a in
     rw (log_is m n v t.before.stands i, log_is m n w t.after.stands j)
-    (rw (t.before.mirrors.node i, t.after.mirrors.node j) at (log_matching C n t.before.world t.after.world i j k (times t)))
+    (rw (node_is t.before.mirrors i, node_is t.after.mirrors j) at (log_matching C n t.before.world t.after.world i j k (times t)))
 
-pub run_leader_completeness : (S C O : Type 0) → LeaderCompleteness S C O
-run_leader_completeness S C O m n v w i j k term a le lt l =
+pub run_committed_kept : (S C O : Type 0) → CommittedKept S C O
+run_committed_kept S C O m n v w i j k term a le lt l =
     let t = moment m n v w a in
     rw (log_is m n v t.before.stands i, log_is m n w t.after.stands j)
-    ((rw (t.before.mirrors.node i, t.after.mirrors.node j) at (committed_kept C n t.before.world t.after.world i j k (times t)))
+    ((rw (node_is t.before.mirrors i, node_is t.after.mirrors j) at (committed_kept C n t.before.world t.after.world i j k (times t)))
     le (free_leads w j term l) (rw (l.term) lt))
 
-pub run_leader_completeness_before : (S C O : Type 0) → LeaderCompletenessBefore S C O
-run_leader_completeness_before S C O m n v w i j k term a le lt l =
+pub run_committed_kept_before : (S C O : Type 0) → CommittedKeptBefore S C O
+run_committed_kept_before S C O m n v w i j k term a le lt l =
     let t = moment m n v w a in
     rw (log_is m n v t.before.stands j, log_is m n w t.after.stands i)
-    ((rw (t.before.mirrors.node j, t.after.mirrors.node i) at (committed_kept_before C n t.before.world t.after.world i j k (times t)))
+    ((rw (node_is t.before.mirrors j, node_is t.after.mirrors i) at (committed_kept_before C n t.before.world t.after.world i j k (times t)))
     le (free_leads v j term l) (rw (l.term) lt))
+
+-- what a leader commits by the rule it knows to be committed, in the term in which it commits
+pub run_leader_completeness : (S C O : Type 0) → LeaderCompleteness S C O
+run_leader_completeness S C O m n v w i j k early late a c l lt = run_committed_kept S C O m n v w i j k late a c.up_to (rw (c.leads.term) lt) l
+
+pub run_leader_completeness_before : (S C O : Type 0) → LeaderCompletenessBefore S C O
+run_leader_completeness_before S C O m n v w i j k early late a c l lt = run_committed_kept_before S C O m n v w i j k late a c.up_to (rw (c.leads.term) lt) l
 
 within : {A : Type 0} (k a : ℕ) (xs : List A) → k ≤ length (take a xs) → k ≤ a
 within k a xs h = omega (arith, length-take a xs)
@@ -144,11 +152,11 @@ run_state_machine_safety S C O m n v w i j k a le lf =
     let y = w.state j in
     let p = within k x.applied x.log le in
     let q = within k y.applied y.log lf in
-    let h = (rw (t.before.mirrors.node i, t.after.mirrors.node j) at (state_machine_safety C n t.before.world t.after.world i j k (times t))) p q in
+    let h = (rw (node_is t.before.mirrors i, node_is t.after.mirrors j) at (state_machine_safety C n t.before.world t.after.world i j k (times t))) p q in
     (same_less k p (same_take x.applied x.log)).eq ∙ (h.0.1 ∙ sym (same_less k q (same_take y.applied y.log)).eq)
 
 pub applied_is_there : (S C O : Type 0) → AppliedIsThere S C O
 applied_is_there S C O m n w i r =
     let g = goes_to m n w r in
-    let fits : (w.state i).applied ≤ length (w.state i).log = rw (g.mirrors.node i) at (did_fits i (record { early = g.late; late = []; before = g.run; after = refl })) in
+    let fits : (w.state i).applied ≤ length (w.state i).log = rw (node_is g.mirrors i) at (did_fits i (record { early = g.late; late = []; before = g.run; after = refl })) in
     length-take-le (w.state i).applied (w.state i).log fits

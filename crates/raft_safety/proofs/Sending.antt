@@ -5,6 +5,7 @@ use Rattle.std.proofs.lemmas.Bool.Decides.{eqb_tells}
 use Rattle.std.proofs.lemmas.List.{length-drop}
 use Rattle.std.proofs.lemmas.List.Elements.{All-get_or}
 use Rattle.vst_base.specs.Machines.{MachineMeaning}
+use Rattle.vst_base.specs.declared.what.What.TheVariants.{Noop}
 use Rattle.raft_commit.specs.Peers.{new_peer}
 use Rattle.raft_commit.specs.declared.peer.Moved.{Moved}
 use Rattle.raft_commit.specs.declared.peer.Moved.TheVariants as moves
@@ -18,9 +19,10 @@ use Rattle.raft_types.specs.declared.limits.TheConstants.{MAX_BATCH, MAX_INDEX}
 use Rattle.raft_types.specs.declared.msg.RaftMsg.{RaftMsg}
 use Rattle.raft_types.specs.declared.msg.RaftMsg.TheVariants as msg
 use Rattle.raft_xform.specs.Electing.{campaign, candidate, has_won, heard, on_request, on_vote, sees_up_to_date, tick, voted}
+use Rattle.raft_xform.specs.Leading.{lead, led, spreads, with_entry}
 use Rattle.raft_xform.specs.Nodes.{RaftEffect, RaftView, is_candidate, is_leader, peer_at, sending}
 use Rattle.raft_xform.specs.Raft.{by_message, on_message}
-use Rattle.raft_xform.specs.Replicating.{answer, known, may_take, moved_by, on_append, on_appended, on_input, on_moved}
+use Rattle.raft_xform.specs.Replicating.{answer, known, may_take, moved_by, on_append, on_appended, on_input, on_moved, proposed}
 use Rattle.raft_xform.specs.Sending.{append, appends, to_others}
 use Rattle.raft_xform.specs.Sound.{IsInRange, IsPeer, IsSoundNode}
 
@@ -72,10 +74,20 @@ module _ {S C O : Type 0} (m : MachineMeaning S C O) (n i : ℕ) where
   good_appends : (s : RaftView S C O) → is_leader s.role ≡ true → IsSoundNode n i s → AreGood n i (appends n i s)
   good_appends s l k = good_each n i (append s) (append_range s k l) n (omega arith)
 
-  good_campaign : (s : RaftView S C O) → SendsGood n i (campaign n i s)
-  good_campaign s = either (has_won n s) (λ e. record { good = λ k. good_appends _ refl k }) (λ e. record { good = λ k. good_each n i _ (λ j below. k.term) n (omega arith) })
+  good_spread : (s : RaftView S C O) → is_leader s.role ≡ true → SendsGood n i (spreads m n i s)
+  good_spread s l = record { good = λ k. good_appends (spreads m n i s).state l k }
 
-  pub good_tick : (s : RaftView S C O) → SendsGood n i (tick n i s)
+  good_lead : (s : RaftView S C O) → SendsGood n i (lead m n i s)
+  good_lead s = go (ltb (length s.log) MAX_INDEX)
+    where
+      go : (b : Bool) → SendsGood n i (spreads m n i (cond b (with_entry (led n s) Noop) (led n s)))
+      go true = good_spread (with_entry (led n s) Noop) refl
+      go false = good_spread (led n s) refl
+
+  good_campaign : (s : RaftView S C O) → SendsGood n i (campaign m n i s)
+  good_campaign s = either (has_won n s) (λ e. good_lead s) (λ e. record { good = λ k. good_each n i _ (λ j below. k.term) n (omega arith) })
+
+  pub good_tick : (s : RaftView S C O) → SendsGood n i (tick m n i s)
   good_tick s =
       either (is_leader s.role) (λ e. record { good = λ k. good_appends s e k })
       (λ e. either (may_start s.ballot) (λ _. good_campaign (candidate i s)) (λ _. record { good = λ k. good_none n i }))
@@ -85,17 +97,17 @@ module _ {S C O : Type 0} (m : MachineMeaning S C O) (n i : ℕ) where
     where
       by_role : (b : Bool) → is_leader s.role ≡ b → SendsGood n i (on_input m n i s q)
       by_role false e = rw e (record { good = λ k. good_none n i })
-      by_role true e = rw e (either (eqb (length s.log) MAX_INDEX) (λ _. record { good = λ k. good_none n i }) (λ _. record { good = λ k. good_appends _ e k }))
+      by_role true e = rw e (either (eqb (length s.log) MAX_INDEX) (λ _. record { good = λ k. good_none n i }) (λ _. good_spread (proposed i s q) e))
 
   good_request : (s : RaftView S C O) (from : ℕ) (r : RequestVoteView) → from < n → from ≢ i → SendsGood n i (on_request s from r)
   good_request s from r below ne =
       either (grants s.ballot r.term from (sees_up_to_date s r)) (λ _. record { good = λ k. good_one n i from _ (record { below = below; other = ne; range = k.term }) })
       (λ _. record { good = λ k. good_one n i from _ (record { below = below; other = ne; range = k.term }) })
 
-  good_vote : (s : RaftView S C O) (from : ℕ) (v : VoteView) → SendsGood n i (on_vote n i s from v)
+  good_vote : (s : RaftView S C O) (from : ℕ) (v : VoteView) → SendsGood n i (on_vote m n i s from v)
   good_vote s from v =
       either (is_candidate s.role && eqb v.term s.ballot.term && v.granted)
-      (λ _. either (has_won n (voted s from)) (λ _. record { good = λ k. good_appends _ refl k }) (λ _. record { good = λ k. good_none n i }))
+      (λ _. either (has_won n (voted s from)) (λ _. good_lead (voted s from)) (λ _. record { good = λ k. good_none n i }))
       (λ _. record { good = λ k. good_none n i })
 
   good_append : (s : RaftView S C O) (from : ℕ) (a : AppendView C) → from < n → from ≢ i → SendsGood n i (on_append m i s from a)

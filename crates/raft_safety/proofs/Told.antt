@@ -20,13 +20,13 @@ module _ {C O : Type 0} where
       ap (λ ts. told_by before x ++ ts) (told_behind-append (before ++ x ∷ []) xs ys ∙ ap (λ b. told_behind (before ++ x ∷ []) xs ++ told_behind b ys) (append_assoc before (x ∷ []) xs))
       ∙ sym (append_assoc (told_by before x) (told_behind (before ++ x ∷ []) xs) (told_behind (before ++ x ∷ xs) ys))
 
-  -- one of these outputs of a node is told, behind all that clients had seen
+  -- one of these outputs of a node is told, after all that clients had seen
   pub record IsTold (before : Seen C O) (outputs : List (RaftOut O)) (t : Told C O) : Type 0 where
     pub one : In (told.Reply t.client t.request t.output) outputs
-    pub behind : (q : RaftInput C) → HasInput before q → HasInput t.before q
+    pub later : (q : RaftInput C) → HasInput before q → HasInput t.before q
 
   told_now : (before : Seen C O) (node : ℕ) (o : RaftOut O) (t : Told C O) → In t (told_by before (item.Output node o)) → IsTold before (o ∷ []) t
-  told_now before node (told.Reply client request output) t (inl e) = rw e (record { one = inl refl; behind = λ q h. h })
+  told_now before node (told.Reply client request output) t (inl e) = rw e (record { one = inl refl; later = λ q h. h })
   told_now before node (told.Reply client request output) t (inr h) = absurd h
   told_now before node (told.NotLeader client request) t h = absurd h
   told_now before node (told.Full client request) t h = absurd h
@@ -35,8 +35,8 @@ module _ {C O : Type 0} where
   told_outputs before node [] t h = absurd h
   told_outputs before node (o ∷ outputs) t h =
       elim (in_append t (told_by before (item.Output node o)) (told_behind (before ++ item.Output node o ∷ []) (map (λ o. item.Output node o) outputs)) h) [
-        | inl q ↦ (let n = told_now before node o t q in record { one = in_one _ o outputs n.one; behind = n.behind })
+        | inl q ↦ (let n = told_now before node o t q in record { one = in_one _ o outputs n.one; later = n.later })
         | inr q ↦
             (let n = told_outputs (before ++ item.Output node o ∷ []) node outputs t q in
-            record { one = inr n.one; behind = λ r b. n.behind r (put_in before (item.Output node o ∷ []) r b) })
+            record { one = inr n.one; later = λ r b. n.later r (put_in before (item.Output node o ∷ []) r b) })
       ]

@@ -14,6 +14,7 @@ use Rattle.vst_base.specs.declared.step.Step.{Step}
 use Rattle.vst_base.specs.declared.step.Step.TheVariants as step
 use Rattle.raft_free.specs.Events.{In}
 use Rattle.raft_free.specs.Nodes as free
+use Rattle.raft_clients.specs.Requests.{request_of}
 use Rattle.raft_types.specs.declared.client.RaftInput.{RaftInput}
 use Rattle.raft_types.specs.declared.client.RaftOut.{RaftOut}
 use Rattle.raft_types.specs.declared.msg.RaftMsg.{RaftMsg}
@@ -21,7 +22,6 @@ use Rattle.raft_xform.specs.Nodes.{RaftView}
 use Rattle.raft_xform.specs.Raft.{raft, raft_recovery}
 use Rattle.raft_xform.specs.Sound.{IsSoundNode}
 use Rattle.raft_xform.proofs.Keeping.{keeps_input, keeps_message, keeps_tick}
-use Rattle.raft_safety.specs.Applied.{request_of}
 use Rattle.raft_safety.specs.Runs.{RaftWorld}
 use Rattle.linearizability.specs.Linearizable.{HasInput, Seen}
 use Rattle.raft_safety.specs.Mirrors.{Mirrors}
@@ -36,9 +36,14 @@ pub record Stands {S C O : Type 0} (m : MachineMeaning S C O) (n : ℕ) (w : Raf
   pub sources : (p : Packet (RaftMsg C)) → In p w.packets → p.source < n
   pub good : (p : Packet (RaftMsg C)) → In p w.packets → IsGood n p.source p.destination p.content
 
+-- clients put the request in, if there is one
+abbrev pub WasAsked : {C O : Type 0} → Seen C O → Option (RaftInput C) → Type 0
+WasAsked seen None = Unit {0}
+WasAsked seen (Some r) = HasInput seen r
+
 -- clients put in what the entry asks for
 abbrev pub WasPutIn : {C O : Type 0} → Seen C O → Entry C → Type 0
-WasPutIn seen e = HasInput seen (request_of e)
+WasPutIn seen e = WasAsked seen (request_of e)
 
 -- of an event at a node that is up: the node's turn, from what clients had seen before
 pub record Turn {S C O : Type 0} (m : MachineMeaning S C O) (n : ℕ) (w : RaftWorld S C O) (v : free.FreeWorld C) (seen : Seen C O)
@@ -109,7 +114,7 @@ module _ {S C O : Type 0} (m : MachineMeaning S C O) (n : ℕ) (w : RaftWorld S 
   turn v seen mirrors stands (step.In i q) taken e is = rw (← same) (record {
     below = t.0;
     is_up = t.1;
-    refined = input_refined m n i (WasPutIn (seen ++ input_item i (Some q))) (w.state i) q k.peers after.peers k.applied (last_input seen i q) v.sent;
+    refined = input_refined m n i (WasPutIn (seen ++ input_item i (Some q))) (λ _. tt) (w.state i) q k.peers after.peers k.applied (last_input seen i q) v.sent;
     sound = after;
     good = (good_input m n i (w.state i) q).good after;
   })
@@ -128,7 +133,7 @@ module _ {S C O : Type 0} (m : MachineMeaning S C O) (n : ℕ) (w : RaftWorld S 
   turn v seen mirrors stands (step.Tick i) taken e is = rw (← same) (record {
     below = t.0;
     is_up = t.1;
-    refined = tick_refined m n i (WasPutIn (seen ++ input_item i None)) (w.state i) k.peers v.sent;
+    refined = tick_refined m n i (WasPutIn (seen ++ input_item i None)) (λ _. tt) (w.state i) k.peers after.peers k.applied v.sent;
     sound = after;
     good = (good_tick m n i (w.state i)).good after;
   })
@@ -143,7 +148,7 @@ module _ {S C O : Type 0} (m : MachineMeaning S C O) (n : ℕ) (w : RaftWorld S 
       k = stands.sound i t.0
 
       after : IsSoundNode n i ((raft n m).timeout i (w.state i)).state
-      after = (keeps_tick k).sound
+      after = (keeps_tick k m).sound
   turn v seen mirrors stands (step.Deliver k) taken e is = by_packet (slice_get w.packets k) refl is
     where
       by_packet : (o : Option (Packet (RaftMsg C))) → slice_get w.packets k ≡ o → delivery (raft n m) w o ≡ Some e → Turn m n w v seen e
@@ -151,7 +156,7 @@ module _ {S C O : Type 0} (m : MachineMeaning S C O) (n : ℕ) (w : RaftWorld S 
       by_packet (Some p) at it = rw (← same) (record {
         below = g.below;
         is_up = taken_deliver k taken p at;
-        refined = message_refined m n p.destination (WasPutIn (seen ++ input_item p.destination None)) (w.state p.destination) p.source p.content from (λ f. g.other (sym f))
+        refined = message_refined m n p.destination (WasPutIn (seen ++ input_item p.destination None)) (λ _. tt) (w.state p.destination) p.source p.content from (λ f. g.other (sym f))
             before.peers before.applied after.peers v.sent (mirrors.sent p here);
         sound = after;
         good = (good_message m n p.destination (w.state p.destination) p.source p.content from (λ f. g.other (sym f))).good after;

@@ -1,6 +1,7 @@
 -- When a world of Raft with free choices mirrors a world of a cluster.
-use Rattle.std.specs.Prelude.{◌≡◌, ℕ, Bool, if◌then◌else◌}
+use Rattle.std.specs.Prelude.{◌≡◌, ℕ, Bool, List, if◌then◌else◌}
 use Rattle.net_semantics.specs.Worlds.{Packet}
+use Rattle.vst_base.specs.declared.entry.Entry.{Entry}
 use Rattle.raft_commit.specs.Peers.{matched_of}
 use Rattle.raft_election.specs.Votes.{has_vote}
 use Rattle.raft_free.specs.Events.{In}
@@ -18,19 +19,21 @@ free_role role.Follower = free.Follower
 free_role role.Candidate = free.Candidate
 free_role role.Leader = free.Leader
 
--- a node that is down has its fields, and follows
-abbrev pub free_node : {S C O : Type 0} → Bool → RaftView S C O → free.NodeState C
-free_node is_up s = record {
-  is_up = is_up;
-  term = s.ballot.term;
-  voted = s.ballot.voted;
-  log = s.log;
-  role = if is_up then free_role s.role else free.Follower;
-  votes = has_vote s.ballot.votes;
-  matched = matched_of s.peers;
-  commit = s.commit;
-  applied = s.applied;
-}
+-- the free node has the whole log: this node's, as long as nodes keep all of theirs
+abbrev pub MirrorsLog : {C : Type 0} → List (Entry C) → List (Entry C) → Type 0
+MirrorsLog log whole = whole ≡ log
+
+-- a node, which is up or not, and a free one are the same. One that is down has its fields, and follows
+pub record MirrorsNode {S C O : Type 0} (is_up : Bool) (s : RaftView S C O) (x : free.NodeState C) : Type 0 where
+  pub up : x.is_up ≡ is_up
+  pub term : x.term ≡ s.ballot.term
+  pub voted : x.voted ≡ s.ballot.voted
+  pub log : MirrorsLog s.log x.log
+  pub role : x.role ≡ (if is_up then free_role s.role else free.Follower)
+  pub votes : (node : ℕ) → x.votes node ≡ has_vote s.ballot.votes node
+  pub matched : (node : ℕ) → x.matched node ≡ matched_of s.peers node
+  pub commit : x.commit ≡ s.commit
+  pub applied : x.applied ≡ s.applied
 
 abbrev pub free_message : {C : Type 0} → RaftMsg C → free.Message C
 free_message (msg.RequestVote r) = free.RequestVote r.last_index r.last_term
@@ -45,5 +48,5 @@ free_packet source destination message =
 
 -- each node is the same, and each packet that was sent was sent there too
 pub record Mirrors {S C O : Type 0} (w : RaftWorld S C O) (v : free.FreeWorld C) : Type 0 where
-  pub node : (i : ℕ) → v.node i ≡ free_node (w.is_up i) (w.state i)
+  pub node : (i : ℕ) → MirrorsNode (w.is_up i) (w.state i) (v.node i)
   pub sent : (p : Packet (RaftMsg C)) → In p w.packets → In (free_packet p.source p.destination p.content) v.sent

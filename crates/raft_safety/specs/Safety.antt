@@ -4,7 +4,11 @@ use Rattle.net_semantics.specs.Worlds.{Packet}
 use Rattle.vst_base.specs.Machines.{MachineMeaning, state_after}
 use Rattle.vst_base.specs.Logs.{has_conflict, term_at}
 use Rattle.vst_base.specs.declared.step.Step.{Step}
-use Rattle.raft_clients.specs.Executed.{commands, executed}
+use Rattle.vst_base.specs.Committing.{holders}
+use Rattle.vst_base.specs.Elections.{is_majority}
+use Rattle.raft_clients.specs.Executed.{executed, executed_entries}
+use Rattle.raft_clients.specs.Requests.{commands, requests}
+use Rattle.raft_commit.specs.Peers.{matched_of}
 use Rattle.raft_free.specs.Events.{Event, In}
 use Rattle.raft_free.specs.Nodes.{FreeWorld, first_world}
 use Rattle.raft_free.specs.Runs.{Moments, Run}
@@ -43,6 +47,14 @@ pub record ComesInItsTerm {S C O : Type 0} (w : RaftWorld S C O) (p : Packet (Ra
   pub up : IsTrue (w.is_up p.destination)
   pub term : (heard a.term (w.state p.destination)).ballot.term ≡ a.term
 
+-- a leader has committed up to the index by the rule in this term (the Raft paper, section 5.4.2): its entry at its commit
+-- is of this term, and it knows most nodes to have it
+pub record CommitsByTheRule {S C O : Type 0} (nodes : ℕ) (w : RaftWorld S C O) (i term index : ℕ) : Type 0 where
+  pub leads : Leads w i term
+  pub own : term_at (w.state i).log (w.state i).commit ≡ term
+  pub most : IsTrue (is_majority nodes (holders i (matched_of (w.state i).peers) (w.state i).commit))
+  pub up_to : index ≤ (w.state i).commit
+
 module _ (S C O : Type 0) where
   -- a cluster does nothing that free choices don't allow: two moments of a run of theirs mirror any two moments of it
   abbrev pub IsFree : Type 0
@@ -78,17 +90,38 @@ module _ (S C O : Type 0) where
       k ≤ length (log_at v i) → k ≤ length (log_at w j) → term_at (log_at v i) k ≡ term_at (log_at w j) k →
       take k (log_at v i) ≡ take k (log_at w j)
 
-  -- what a node has committed, or knows to be, with all before it, is in the log of each leader of a term over the
-  -- node's: of one that leads later. A leader that commits by the rule (the Raft paper, section 5.4.2) knows it from then on,
-  -- and in the term in which it commits
+  -- what a leader commits by the rule in its term, and all before it, is in the log of each leader of a greater term: of
+  -- one that leads later
   abbrev pub LeaderCompleteness : Type 0
   LeaderCompleteness =
-      (m : MachineMeaning S C O) (nodes : ℕ) (v w : RaftWorld S C O) (i j k term : ℕ) → AreMoments m nodes v w →
-      k ≤ (v.state i).commit → (v.state i).ballot.term < term → Leads w j term → Has (log_at w j) k (log_at v i)
+      (m : MachineMeaning S C O) (nodes : ℕ) (v w : RaftWorld S C O) (i j k early late : ℕ) → AreMoments m nodes v w →
+      CommitsByTheRule nodes v i early k → Leads w j late → early < late → Has (log_at w j) k (log_at v i)
 
   -- and of one that led before
   abbrev pub LeaderCompletenessBefore : Type 0
   LeaderCompletenessBefore =
+      (m : MachineMeaning S C O) (nodes : ℕ) (v w : RaftWorld S C O) (i j k early late : ℕ) → AreMoments m nodes v w →
+      CommitsByTheRule nodes w i early k → Leads v j late → early < late → Has (log_at v j) k (log_at w i)
+
+  -- where a step raises the commit of a node that leads after it, it does so by the rule
+  abbrev pub CommitsRiseByTheRule : Type 0
+  CommitsRiseByTheRule =
+      (m : MachineMeaning S C O) (nodes : ℕ) (ss : List (Step (RaftInput C))) (s : Step (RaftInput C)) (i term : ℕ) →
+      let before = world_after m nodes ss in
+      let after = world_after m nodes (ss ++ s ∷ []) in
+      IsRun m nodes (ss ++ s ∷ []) → Leads after i term → (before.state i).commit < (after.state i).commit →
+      CommitsByTheRule nodes after i term (after.state i).commit
+
+  -- what any node knows to be committed, with all before it, is in the log of each leader of a term over the node's: of
+  -- one that leads later
+  abbrev pub CommittedKept : Type 0
+  CommittedKept =
+      (m : MachineMeaning S C O) (nodes : ℕ) (v w : RaftWorld S C O) (i j k term : ℕ) → AreMoments m nodes v w →
+      k ≤ (v.state i).commit → (v.state i).ballot.term < term → Leads w j term → Has (log_at w j) k (log_at v i)
+
+  -- and of one that led before
+  abbrev pub CommittedKeptBefore : Type 0
+  CommittedKeptBefore =
       (m : MachineMeaning S C O) (nodes : ℕ) (v w : RaftWorld S C O) (i j k term : ℕ) → AreMoments m nodes v w →
       k ≤ (w.state i).commit → (w.state i).ballot.term < term → Leads v j term → Has (log_at v j) k (log_at w i)
 
@@ -105,7 +138,7 @@ module _ (S C O : Type 0) where
       (m : MachineMeaning S C O) (nodes : ℕ) (w : RaftWorld S C O) (i : ℕ) → IsReached m nodes w →
       length (applied_list (w.state i)) ≡ (w.state i).applied
 
-  -- a leader's AppendEntries of a node's own term that may come to it: it does not lead
+  -- a leader's AppendEntries of a node's own term, or of one that it goes on to by it, may come to it: it does not lead
   abbrev pub NoRivalAppends : Type 0
   NoRivalAppends =
       (m : MachineMeaning S C O) (nodes : ℕ) (w : RaftWorld S C O) (p : Packet (RaftMsg C)) (a : AppendView C) → IsReached m nodes w →
@@ -129,6 +162,12 @@ module _ (S C O : Type 0) where
       (m : MachineMeaning S C O) (nodes : ℕ) (early late : List (Step (RaftInput C))) → IsRun m nodes (early ++ late) →
       IsBeginning (executed_by m nodes early) (executed_by m nodes (early ++ late))
 
+  -- and the entries of it that hold these, each with its term and the node that took it
+  abbrev pub ExecutedEntriesGrow : Type 0
+  ExecutedEntriesGrow =
+      (m : MachineMeaning S C O) (nodes : ℕ) (early late : List (Step (RaftInput C))) → IsRun m nodes (early ++ late) →
+      IsBeginning (executed_entries (applied_by m nodes early)) (executed_entries (applied_by m nodes (early ++ late)))
+
   -- each node has applied a beginning of it
   abbrev pub EachHasABeginning : Type 0
   EachHasABeginning =
@@ -139,7 +178,7 @@ module _ (S C O : Type 0) where
   abbrev pub EachMachineFollows : Type 0
   EachMachineFollows =
       (m : MachineMeaning S C O) (nodes : ℕ) (ss : List (Step (RaftInput C))) (i : ℕ) → IsRun m nodes ss →
-      ((world_after m nodes ss).state i).machine ≡ state_after m m.init (commands (executed (applied_list ((world_after m nodes ss).state i))))
+      ((world_after m nodes ss).state i).machine ≡ state_after m m.init (commands (executed (requests (applied_list ((world_after m nodes ss).state i)))))
 
   -- one machine, which takes the executed requests in their order, explains what clients see
   abbrev pub RunsAreLinearizable : Type 0

@@ -1,12 +1,12 @@
 ghost use Rattle.raft_free.specs.Safety as free;
-ghost use Rattle.raft_safety.specs.Safety.{AppliedGrows, AppliedIsThere, EachHasABeginning, EachMachineFollows, ElectionSafety, ExecutedGrows, FirstIsFree, IsFree, LeaderAppendOnly, LeaderCompleteness, LeaderCompletenessBefore, LogMatching, NoCommittedConflict, NoRivalAppends, RunsAreLinearizable, StateMachineSafety, StepIsFree};
+ghost use Rattle.raft_safety.specs.Safety.{AppliedGrows, AppliedIsThere, CommitsRiseByTheRule, CommittedKept, CommittedKeptBefore, EachHasABeginning, EachMachineFollows, ElectionSafety, ExecutedEntriesGrow, ExecutedGrows, FirstIsFree, IsFree, LeaderAppendOnly, LeaderCompleteness, LeaderCompletenessBefore, LogMatching, NoCommittedConflict, NoRivalAppends, RunsAreLinearizable, StateMachineSafety, StepIsFree};
 
 use vst_base::Machine;
 
 /// Raft keeps the five safety properties of the Raft paper's Figure 3 (Ongaro and Ousterhout 2014), and what clients
 /// see of a cluster is linearizable (Herlihy and Wing 1990). The clauses of the first group are of Raft with free
 /// choices, on any number of nodes. All others are of the handlers `Raft`, for every record of a machine over the types
-/// of `M`, and not for the meaning of `M` alone, on every cluster of 1 to 5 nodes and every schedule that a network
+/// of `M`, and not for the meaning of `M` alone, on every cluster of 1 to 9 nodes and every schedule that a network
 /// allows which loses, copies and reorders packets and stops and starts nodes. Properties of two moments are of
 /// any two moments of a run. A node that is down has the log that it kept.
 pub fn laws<M: Machine>()
@@ -36,11 +36,16 @@ pub fn laws<M: Machine>()
     // Logs with equal terms at an index agree up to it.
     ensures log_matching { LogMatching M.State M.Cmd M.Out }
 
-    // What a node knows to be committed, with all before it, is in the log of each leader of a greater term,
-    // whether it leads later or led before. A leader that commits by the rule knows it from then on, and in the term
-    // in which it commits.
+    // What a leader commits by the rule in its term, with all before it, is in the log of each leader of a greater
+    // term, whether it leads later or led before. A leader's commit rises by the rule alone: to an entry of its term
+    // that it knows most nodes to have.
     ensures leader_completeness { LeaderCompleteness M.State M.Cmd M.Out }
     ensures leader_completeness_before { LeaderCompletenessBefore M.State M.Cmd M.Out }
+    ensures commits_rise_by_the_rule { CommitsRiseByTheRule M.State M.Cmd M.Out }
+
+    // What any node knows to be committed, with all before it, is in the log of each leader of a term over the node's.
+    ensures committed_kept { CommittedKept M.State M.Cmd M.Out }
+    ensures committed_kept_before { CommittedKeptBefore M.State M.Cmd M.Out }
 
     // What any two nodes have applied up to an index is the same, and a node has in its log all that it
     // has applied.
@@ -53,10 +58,12 @@ pub fn laws<M: Machine>()
     ensures no_committed_conflict { NoCommittedConflict M.State M.Cmd M.Out }
 
     // The longest list of entries that a node has applied at any moment of a schedule only grows at its end as
-    // further steps are taken, and so do the requests of it that are executed. Each node has applied a beginning of it, and
-    // its machine is as one machine that takes the executed commands of that beginning.
+    // further steps are taken, and so do the requests of it that are executed, and the entries that hold these, with
+    // the node that took each. Each node has applied a beginning of it, and its machine is as one machine that takes
+    // the executed commands of that beginning.
     ensures applied_grows { AppliedGrows M.State M.Cmd M.Out }
     ensures executed_grows { ExecutedGrows M.State M.Cmd M.Out }
+    ensures executed_entries_grow { ExecutedEntriesGrow M.State M.Cmd M.Out }
     ensures each_node_has_a_beginning { EachHasABeginning M.State M.Cmd M.Out }
     ensures each_machine_follows { EachMachineFollows M.State M.Cmd M.Out }
 

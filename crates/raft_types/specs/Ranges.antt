@@ -1,7 +1,8 @@
 -- What the numbers of a Raft cluster range over.
 use Rattle.std.specs.Prelude.{ℕ, ◌≤◌}
 use Rattle.vst_base.specs.declared.entry.TheConstants.{MAX_TERM}
-use Rattle.raft_types.specs.declared.limits.TheConstants.{MAX_INDEX, MAX_NODES}
+use Rattle.vst_base.specs.declared.node.TheConstants.{MAX_NODES}
+use Rattle.raft_types.specs.declared.limits.TheConstants.{MAX_INDEX}
 
 -- a cluster has so many nodes
 abbrev pub IsClusterSize : ℕ → Type 0

@@ -6,9 +6,9 @@ ghost use Rattle.raft_types.specs.declared.msg.RaftMsg.TheVariants as msg;
 /// The borders of the ranges.
 pub fn worked_ranges()
     ensures one_node { IsClusterSize 1 }
-    ensures five_nodes { IsClusterSize 5 }
+    ensures nine_nodes { IsClusterSize 9 }
     ensures no_node { ¬ IsClusterSize 0 }
-    ensures six_nodes { ¬ IsClusterSize 6 }
+    ensures ten_nodes { ¬ IsClusterSize 10 }
 
     ensures before_the_first_election { IsTerm 0 }
     ensures greatest_term { IsTerm 9223372036854775807 }

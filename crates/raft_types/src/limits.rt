@@ -1,6 +1,3 @@
-/// The greatest number of nodes in a cluster.
-pub const MAX_NODES: u8 = 5;
-
 /// The greatest index of a log, and so the greatest number of its entries.
 pub const MAX_INDEX: u32 = 1_000_000;
 

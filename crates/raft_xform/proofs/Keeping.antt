@@ -5,6 +5,7 @@ use Rattle.vst_base.specs.declared.entry.TheConstants.{MAX_TERM}
 use Rattle.handler_trait.specs.Gathering.{Gathered}
 use Rattle.handler_trait.specs.Handling.{Does}
 use Rattle.vst_base.specs.Machines.{MachineMeaning}
+use Rattle.vst_base.specs.declared.what.What.TheVariants.{Request}
 use Rattle.raft_commit.specs.declared.peer.Moved.{Moved}
 use Rattle.raft_commit.specs.declared.peer.Moved.TheVariants as moves
 use Rattle.raft_election.specs.Ballots.{grants, may_start}
@@ -18,11 +19,12 @@ use Rattle.raft_types.specs.Terms.{term_of}
 use Rattle.raft_xform.specs.declared.role.Role.{Role}
 use Rattle.raft_xform.specs.declared.role.Role.TheVariants as role
 use Rattle.raft_xform.specs.Electing.{campaign, has_won, on_request, on_vote, sees_up_to_date, tick, voted}
+use Rattle.raft_xform.specs.Leading.{lead}
 use Rattle.raft_xform.specs.Nodes.{RaftEffect, RaftView, is_candidate, is_leader}
 use Rattle.raft_xform.specs.Raft.{by_message, on_message}
 use Rattle.raft_xform.specs.Replicating.{last_new, may_take, moved_by, on_append, on_appended, on_input, on_moved}
 use Rattle.raft_xform.specs.Sound.{HasTerm, IsInRange, IsSoundNode}
-use Rattle.raft_xform.proofs.Sounding.{sound_candidate, sound_caught_up, sound_committed, sound_follower, sound_granted, sound_heard, sound_known, sound_led, sound_proposed, sound_taken, sound_voted}
+use Rattle.raft_xform.proofs.Sounding.{sound_candidate, sound_caught_up, sound_follower, sound_granted, sound_heard, sound_known, sound_led, sound_spread, sound_taken, sound_voted, sound_with_entry, sound_with_noop}
 
 pub candidate_in_a_term : (r : Role) (term : ℕ) → is_candidate r ≡ true → HasTerm r term → 1 ≤ term
 candidate_in_a_term role.Follower term e h = absurd (false≢true e)
@@ -38,7 +40,7 @@ term_in_range (msg.Vote v) range = range
 term_in_range (msg.Append a) range = range.0
 term_in_range (msg.Appended a) range = range
 
--- the state behind an effect keeps to it
+-- the state after an effect keeps to it
 pub record Keeps {S C O : Type 0} (nodes me : ℕ) (e : RaftEffect S C O) : Type 0 where
   pub sound : IsSoundNode nodes me e.state
 
@@ -54,21 +56,24 @@ sound_done (Ok x) new before after k h = rw (h.state) (k.sound)
 sound_done (Err x) new before after k h = tt
 
 module _ {S C O : Type 0} {nodes me : ℕ} where
-  keeps_campaign : {s : RaftView S C O} → IsSoundNode nodes me s → 1 ≤ s.ballot.term → Keeps nodes me (campaign nodes me s)
-  keeps_campaign {s} k t = keeps_either (has_won nodes s) (λ _. record { sound = sound_led k t }) (λ _. record { sound = k })
+  keeps_lead : {s : RaftView S C O} → IsSoundNode nodes me s → 1 ≤ s.ballot.term → (m : MachineMeaning S C O) → Keeps nodes me (lead m nodes me s)
+  keeps_lead k t m = record { sound = sound_spread (sound_with_noop (sound_led k t)) m }
 
-  pub keeps_tick : {s : RaftView S C O} → IsSoundNode nodes me s → Keeps nodes me (tick nodes me s)
-  keeps_tick {s} k = keeps_either (is_leader s.role) (λ _. record { sound = k })
-      (λ _. keeps_either (may_start s.ballot) (λ may. keeps_campaign (sound_candidate k may) (omega arith)) (λ _. record { sound = k }))
+  keeps_campaign : {s : RaftView S C O} → IsSoundNode nodes me s → 1 ≤ s.ballot.term → (m : MachineMeaning S C O) → Keeps nodes me (campaign m nodes me s)
+  keeps_campaign {s} k t m = keeps_either (has_won nodes s) (λ _. keeps_lead k t m) (λ _. record { sound = k })
+
+  pub keeps_tick : {s : RaftView S C O} → IsSoundNode nodes me s → (m : MachineMeaning S C O) → Keeps nodes me (tick m nodes me s)
+  keeps_tick {s} k m = keeps_either (is_leader s.role) (λ _. record { sound = k })
+      (λ _. keeps_either (may_start s.ballot) (λ may. keeps_campaign (sound_candidate k may) (omega arith) m) (λ _. record { sound = k }))
 
   keeps_request : {s : RaftView S C O} → IsSoundNode nodes me s → (from : ℕ) → from < nodes → (r : RequestVoteView) → Keeps nodes me (on_request s from r)
   keeps_request {s} k from f r =
       keeps_either (grants s.ballot r.term from (sees_up_to_date s r)) (λ _. record { sound = sound_granted k from f }) (λ _. record { sound = k })
 
-  keeps_vote : {s : RaftView S C O} → IsSoundNode nodes me s → (from : ℕ) (v : VoteView) → Keeps nodes me (on_vote nodes me s from v)
-  keeps_vote {s} k from v = keeps_either (is_candidate s.role && eqb v.term s.ballot.term && v.granted)
+  pub keeps_vote : {s : RaftView S C O} → IsSoundNode nodes me s → (m : MachineMeaning S C O) (from : ℕ) (v : VoteView) → Keeps nodes me (on_vote m nodes me s from v)
+  keeps_vote {s} k m from v = keeps_either (is_candidate s.role && eqb v.term s.ballot.term && v.granted)
       (λ counts. keeps_either (has_won nodes (voted s from))
-      (λ _. record { sound = sound_led (sound_voted k from) (candidate_in_a_term s.role s.ballot.term (and_parts _ _ (and_parts _ _ counts).0).0 k.in_a_term) })
+      (λ _. keeps_lead (sound_voted k from) (candidate_in_a_term s.role s.ballot.term (and_parts _ _ (and_parts _ _ counts).0).0 k.in_a_term) m)
       (λ _. record { sound = sound_voted k from }))
       (λ _. record { sound = k })
 
@@ -78,7 +83,7 @@ module _ {S C O : Type 0} {nodes me : ℕ} where
       keeps_either (may_take s a) (λ may. record { sound = sound_caught_up (sound_taken k a room may) m }) (λ _. record { sound = sound_follower k })))
 
   keeps_moved : {s : RaftView S C O} → IsSoundNode nodes me s → (m : MachineMeaning S C O) (from : ℕ) (moved : Moved) → Keeps nodes me (on_moved m nodes me s from moved)
-  keeps_moved k m from moves.Raised = record { sound = sound_caught_up (sound_committed k) m }
+  keeps_moved k m from moves.Raised = record { sound = sound_spread k m }
   keeps_moved k m from moves.Back = record { sound = k }
   keeps_moved k m from moves.Nothing = record { sound = k }
 
@@ -90,12 +95,12 @@ module _ {S C O : Type 0} {nodes me : ℕ} where
   pub keeps_input : {s : RaftView S C O} → IsSoundNode nodes me s → (m : MachineMeaning S C O) (i : RaftInput C) → Keeps nodes me (on_input m nodes me s i)
   keeps_input {s} k m i =
       keeps_either (not (is_leader s.role)) (λ _. record { sound = k }) (λ _. keeps_either (eqb (length s.log) MAX_INDEX) (λ _. record { sound = k }) (λ room.
-      record { sound = sound_caught_up (sound_committed (sound_proposed k i (under k.short room))) m }))
+      record { sound = sound_spread (sound_with_entry k (Request i.client i.request me i.cmd) (under k.short room)) m }))
 
   keeps_by_message : {s : RaftView S C O} → IsSoundNode nodes me s → (m : MachineMeaning S C O) (from : ℕ) → from < nodes → (message : RaftMsg C) → IsInRange message →
       Keeps nodes me (by_message m nodes me s from message)
   keeps_by_message k m from f (msg.RequestVote r) range = keeps_request k from f r
-  keeps_by_message k m from f (msg.Vote v) range = keeps_vote k from v
+  keeps_by_message k m from f (msg.Vote v) range = keeps_vote k m from v
   keeps_by_message k m from f (msg.Append a) range = keeps_append k m from a range.1
   keeps_by_message k m from f (msg.Appended a) range = keeps_appended k m from f a
 

@@ -5,6 +5,8 @@ use Rattle.std.proofs.lemmas.List.{length-replicate, length-set}
 use Rattle.std.proofs.lemmas.List.Elements.{All-get_or, All-replicate, All-set, All-weaker}
 use Rattle.vst_base.specs.declared.entry.Entry.{Entry}
 use Rattle.vst_base.specs.declared.entry.TheConstants.{MAX_TERM}
+use Rattle.vst_base.specs.declared.what.What.{What}
+use Rattle.vst_base.specs.declared.what.What.TheVariants.{Noop}
 use Rattle.vst_base.specs.Logs.{has_conflict, matches}
 use Rattle.vst_base.specs.Machines.{MachineMeaning}
 use Rattle.raft_commit.specs.Peers.{PeerView, is_news, is_refusal, matched_of, moved, new_peer, peer_behind}
@@ -12,13 +14,13 @@ use Rattle.raft_commit.specs.declared.peer.Moved.TheVariants as moves
 use Rattle.raft_election.specs.Ballots.{may_start}
 use Rattle.raft_types.specs.Messages.{AppendView, AppendedView}
 use Rattle.raft_types.specs.Ranges.{IsClusterSize}
-use Rattle.raft_types.specs.declared.client.RaftInput.{RaftInput}
 use Rattle.raft_types.specs.declared.limits.TheConstants.{MAX_INDEX}
 use Rattle.raft_xform.specs.declared.role.Role.TheVariants as role
 use Rattle.raft_xform.specs.Applying.{caught_up, committed}
-use Rattle.raft_xform.specs.Electing.{candidate, heard, led, voted}
+use Rattle.raft_xform.specs.Electing.{candidate, heard, voted}
+use Rattle.raft_xform.specs.Leading.{led, spreads, with_entry, with_noop}
 use Rattle.raft_xform.specs.Nodes.{RaftView, is_leader, peer_at, started_with}
-use Rattle.raft_xform.specs.Replicating.{follower, known, last_new, may_take, moved_by, proposed, taken}
+use Rattle.raft_xform.specs.Replicating.{follower, known, last_new, may_take, moved_by, taken}
 use Rattle.raft_xform.specs.Sound.{ArePeers, IsPeer, IsSoundNode}
 use Rattle.raft_xform.proofs.Lengths.{accepted_has_new, accepted_no_longer, committed_stay, commits_no_less, commits_no_more}
 
@@ -34,7 +36,7 @@ longer_log {nodes} {len} {peers} p = record {
   within = All-weaker (IsPeer len) (IsPeer (suc len)) (λ q h. (h.0, omega (arith, h.1))) peers p.within;
 }
 
--- an answer lets nextIndex stay in the log or right behind its end, and past matchIndex
+-- an answer lets nextIndex stay in the log or right after its end, and past matchIndex
 pub peer_moves : (len : ℕ) (p : PeerView) → IsPeer len p → (ok : Bool) (index : ℕ) → IsPeer len (peer_behind p index (moved p ok index len))
 peer_moves len p h true index = go (is_news p index len) refl
   where
@@ -54,6 +56,14 @@ peer_moves len p h false index = go (is_refusal p index) refl
 not_true : (b : Bool) → not b ≡ true → b ≡ false
 not_true true e = absurd (false≢true e)
 not_true false e = refl
+
+-- a no-op changes the log alone
+pub same_role : {S C O : Type 0} (s : RaftView S C O) → (with_noop s).role ≡ s.role
+same_role s = go (ltb (length s.log) MAX_INDEX)
+  where
+    go : (b : Bool) → (cond b (with_entry s Noop) s).role ≡ s.role
+    go true = refl
+    go false = refl
 
 module _ {S C O : Type 0} {nodes me : ℕ} where
   pub sound_led : {s : RaftView S C O} → IsSoundNode nodes me s → 1 ≤ s.ballot.term → IsSoundNode nodes me (led nodes s)
@@ -151,9 +161,12 @@ module _ {S C O : Type 0} {nodes me : ℕ} where
     peers = k.peers;
   }
 
-  pub sound_proposed : {s : RaftView S C O} → IsSoundNode nodes me s → (i : RaftInput C) → length s.log < MAX_INDEX → IsSoundNode nodes me (proposed me s i)
-  sound_proposed {s} k i room =
-      let e : Entry C = record { term = s.ballot.term; client = i.client; request = i.request; origin = me; cmd = i.cmd } in
+  pub sound_spread : {s : RaftView S C O} → IsSoundNode nodes me s → (m : MachineMeaning S C O) → IsSoundNode nodes me (spreads m nodes me s).state
+  sound_spread k m = sound_caught_up (sound_committed k) m
+
+  pub sound_with_entry : {s : RaftView S C O} → IsSoundNode nodes me s → (what : What C) → length s.log < MAX_INDEX → IsSoundNode nodes me (with_entry s what)
+  sound_with_entry {s} k what room =
+      let e : Entry C = record { term = s.ballot.term; what = what } in
       let more : length (s.log ++ e ∷ []) ≡ suc (length s.log) = omega (arith, length-append s.log (e ∷ [])) in
       record {
         cluster = k.cluster;
@@ -166,6 +179,13 @@ module _ {S C O : Type 0} {nodes me : ℕ} where
         short = omega (arith, more);
         peers = λ h. rw more (longer_log (k.peers h));
       }
+
+  pub sound_with_noop : {s : RaftView S C O} → IsSoundNode nodes me s → IsSoundNode nodes me (with_noop s)
+  sound_with_noop {s} k = go (ltb (length s.log) MAX_INDEX) refl
+    where
+      go : (b : Bool) → ltb (length s.log) MAX_INDEX ≡ b → IsSoundNode nodes me (cond b (with_entry s Noop) s)
+      go true t = sound_with_entry k Noop (ltb-true _ _ t)
+      go false t = k
 
   pub sound_follower : {s : RaftView S C O} → IsSoundNode nodes me s → IsSoundNode nodes me (follower s)
   sound_follower {s} k = record {

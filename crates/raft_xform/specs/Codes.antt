@@ -1,7 +1,9 @@
 -- A code for what a node knows, as the state's view needs one.
-use Rattle.std.specs.Prelude.{◌≡◌, ℕ, zero, suc, List, Option, refl}
+use Rattle.std.specs.Prelude.{◌≡◌, ℕ, zero, suc, List, Option, Some, None, refl}
 use Rattle.std.specs.Coded.{Coded, code_by, coded×, coded_list, coded_option, coded_ℕ}
 use Rattle.vst_base.specs.declared.entry.Entry.{Entry}
+use Rattle.vst_base.specs.declared.what.What.{What}
+use Rattle.vst_base.specs.declared.what.What.TheVariants.{Noop, Request}
 use Rattle.raft_clients.specs.Sessions.{Sessions, sessions_code}
 use Rattle.raft_commit.specs.Peers.{PeerView}
 use Rattle.raft_election.specs.Ballots.{BallotView}
@@ -35,11 +37,24 @@ ballot_code =
 abbrev peer_code : Coded PeerView
 peer_code = code_by (ℕ × ℕ) (coded× coded_ℕ coded_ℕ) (λ p. (p.next, p.matched)) (λ p. record { next = p.0; matched = p.1 }) (λ _. refl)
 
+abbrev what_parts : {C : Type 0} → What C → Option (ℕ × (ℕ × (ℕ × C)))
+what_parts Noop = None
+what_parts (Request client request origin cmd) = Some (client, (request, (origin, cmd)))
+
+abbrev what_of : {C : Type 0} → Option (ℕ × (ℕ × (ℕ × C))) → What C
+what_of None = Noop
+what_of (Some p) = Request p.0 p.1.0 p.1.1.0 p.1.1.1
+
+pub what_back : {C : Type 0} (w : What C) → what_of (what_parts w) ≡ w
+what_back Noop = refl
+what_back (Request client request origin cmd) = refl
+
+abbrev what_code : {C : Type 0} → Coded C → Coded (What C)
+what_code {C} cmd =
+    code_by (Option (ℕ × (ℕ × (ℕ × C)))) (coded_option (coded× coded_ℕ (coded× coded_ℕ (coded× coded_ℕ cmd)))) what_parts what_of what_back
+
 abbrev entry_code : {C : Type 0} → Coded C → Coded (Entry C)
-entry_code {C} cmd =
-    code_by (ℕ × (ℕ × (ℕ × (ℕ × C)))) (coded× coded_ℕ (coded× coded_ℕ (coded× coded_ℕ (coded× coded_ℕ cmd))))
-    (λ e. (e.term, (e.client, (e.request, (e.origin, e.cmd)))))
-    (λ p. record { term = p.0; client = p.1.0; request = p.1.1.0; origin = p.1.1.1.0; cmd = p.1.1.1.1 }) (λ _. refl)
+entry_code {C} cmd = code_by (ℕ × What C) (coded× coded_ℕ (what_code cmd)) (λ e. (e.term, e.what)) (λ p. record { term = p.0; what = p.1 }) (λ _. refl)
 
 abbrev pub raft_code : {S C O : Type 0} → Coded S → Coded C → Coded O → Coded (RaftView S C O)
 raft_code {S} {C} {O} machine cmd output =

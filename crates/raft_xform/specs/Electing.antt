@@ -1,24 +1,17 @@
--- How leaders are elected (the Raft paper, sections 5.1, 5.2 and 5.4.1, and Figure 2).
-use Rattle.std.specs.Prelude.{ℕ, Bool, true, false, ◌&&◌, [], ◌∷◌, length, nat_lt, replicate, ◌==◌, if◌then◌else◌}
+-- How leaders are elected.
+use Rattle.std.specs.Prelude.{ℕ, Bool, true, false, ◌&&◌, [], ◌∷◌, nat_lt, ◌==◌, if◌then◌else◌}
 use Rattle.vst_base.specs.Elections.{is_majority, is_up_to_date}
-use Rattle.raft_commit.specs.Peers.{new_peer}
+use Rattle.vst_base.specs.Machines.{MachineMeaning}
 use Rattle.raft_election.specs.Ballots.{counted, grants, learned, may_start, started, voted_for}
 use Rattle.raft_election.specs.Votes.{has_vote}
 use Rattle.raft_types.specs.Messages.{RequestVoteView, VoteView}
 use Rattle.raft_types.specs.declared.msg.RaftMsg.TheVariants as msg
 use Rattle.raft_xform.specs.declared.role.Role.TheVariants as role
+use Rattle.raft_xform.specs.Leading.{lead}
 use Rattle.raft_xform.specs.Nodes.{RaftEffect, RaftView, is_candidate, is_leader, sending, stays}
 use Rattle.raft_xform.specs.Sending.{appends, request, to_others}
 
 module _ {S C O : Type 0} where
-  -- a new leader knows nothing of the other nodes' logs
-  abbrev pub led : ℕ → RaftView S C O → RaftView S C O
-  led nodes s = record s { role = role.Leader; peers = replicate nodes (new_peer (length s.log)) }
-
-  -- upon election: send heartbeats to each server
-  abbrev pub lead : ℕ → ℕ → RaftView S C O → RaftEffect S C O
-  lead nodes me s = sending (led nodes s) (appends nodes me (led nodes s))
-
   -- votes received from a majority of servers
   abbrev pub has_won : ℕ → RaftView S C O → Bool
   has_won nodes s = is_majority nodes (has_vote s.ballot.votes)
@@ -28,14 +21,14 @@ module _ {S C O : Type 0} where
   candidate me s = record s { role = role.Candidate; ballot = started me s.ballot }
 
   -- send RequestVote to all other servers, or lead where its own vote is a majority
-  abbrev pub campaign : ℕ → ℕ → RaftView S C O → RaftEffect S C O
-  campaign nodes me s = if has_won nodes s then lead nodes me s else sending s (to_others nodes me (λ _. request s))
+  abbrev pub campaign : MachineMeaning S C O → ℕ → ℕ → RaftView S C O → RaftEffect S C O
+  campaign m nodes me s = if has_won nodes s then lead m nodes me s else sending s (to_others nodes me (λ _. request s))
 
   -- a leader's timer: repeat heartbeats. Of any other node: start an election, unless there is no next term
-  abbrev pub tick : ℕ → ℕ → RaftView S C O → RaftEffect S C O
-  tick nodes me s =
+  abbrev pub tick : MachineMeaning S C O → ℕ → ℕ → RaftView S C O → RaftEffect S C O
+  tick m nodes me s =
       if is_leader s.role then sending s (appends nodes me s)
-      else (if may_start s.ballot then campaign nodes me (candidate me s) else stays s)
+      else (if may_start s.ballot then campaign m nodes me (candidate me s) else stays s)
 
   -- a message of a greater term, whatever it says: go on to the term, and follow
   abbrev pub heard : ℕ → RaftView S C O → RaftView S C O
@@ -61,8 +54,8 @@ module _ {S C O : Type 0} where
   voted s from = record s { ballot = counted from s.ballot }
 
   -- Vote: a candidate counts one that was granted in its term, and leads once it has a majority
-  abbrev pub on_vote : ℕ → ℕ → RaftView S C O → ℕ → VoteView → RaftEffect S C O
-  on_vote nodes me s from v =
+  abbrev pub on_vote : MachineMeaning S C O → ℕ → ℕ → RaftView S C O → ℕ → VoteView → RaftEffect S C O
+  on_vote m nodes me s from v =
       if is_candidate s.role && v.term == s.ballot.term && v.granted
-      then (if has_won nodes (voted s from) then lead nodes me (voted s from) else stays (voted s from))
+      then (if has_won nodes (voted s from) then lead m nodes me (voted s from) else stays (voted s from))
       else stays s

@@ -1,4 +1,4 @@
--- What a node of a Raft cluster knows (the Raft paper, Figure 2, State).
+-- What a node of a Raft cluster knows.
 use Rattle.std.specs.Prelude.{ℕ, Bool, true, false, List, [], Option, slice_index_or, slice_set}
 use Rattle.std.specs.FinMap as map
 use Rattle.handler_trait.specs.Handling.{Effect}
@@ -13,7 +13,7 @@ use Rattle.raft_xform.specs.declared.role.Role.{Role}
 use Rattle.raft_xform.specs.declared.role.Role.TheVariants as role
 
 -- its role; its term, vote and counted votes; its log, how far it knows it to be committed, and how far it has
--- applied it; what it knows of each node's log as a leader, its own place being unread; the machine's state and the
+-- applied it; what it knows of each node's log as a leader, where its own place counts for no commit; the machine's state and the
 -- sessions of clients, from what it has applied
 pub record RaftView (S C O : Type 0) : Type 0 where
   pub role : Role

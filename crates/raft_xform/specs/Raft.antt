@@ -1,4 +1,4 @@
--- Raft of a machine, as handlers (the Raft paper, Figure 2): the machine is replicated on a cluster of so many nodes.
+-- Raft of a machine, as handlers: the machine is replicated on a cluster of so many nodes.
 use Rattle.std.specs.Prelude.{ℕ, true, [], None}
 use Rattle.handler_trait.specs.Handling.{Meaning, Recovery}
 use Rattle.vst_base.specs.Machines.{MachineMeaning}
@@ -16,7 +16,7 @@ module _ {S C O : Type 0} where
   -- a message, once the node is in its term or a later one
   abbrev pub by_message : MachineMeaning S C O → ℕ → ℕ → RaftView S C O → ℕ → RaftMsg C → RaftEffect S C O
   by_message m nodes me s from (msg.RequestVote r) = on_request s from r
-  by_message m nodes me s from (msg.Vote v) = on_vote nodes me s from v
+  by_message m nodes me s from (msg.Vote v) = on_vote m nodes me s from v
   by_message m nodes me s from (msg.Append a) = on_append m me s from a
   by_message m nodes me s from (msg.Appended a) = on_appended m nodes me s from a
 
@@ -30,7 +30,7 @@ module _ {S C O : Type 0} where
     init = λ _. started_with m 0 None [];
     input = on_input m nodes;
     message = on_message m nodes;
-    timeout = tick nodes;
+    timeout = tick m nodes;
   }
 
   -- a node that stops keeps its term, its vote and its log, and starts from these alone

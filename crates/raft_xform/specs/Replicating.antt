@@ -1,8 +1,9 @@
--- How the leader's log comes to the other nodes (the Raft paper, section 5.3 and Figure 2).
-use Rattle.std.specs.Prelude.{ℕ, ◌+◌, Bool, true, false, not, ◌&&◌, List, [], ◌∷◌, ◌++◌, length, nat_lt, ◌==◌, if◌then◌else◌}
+-- How the leader's log comes to the other nodes.
+use Rattle.std.specs.Prelude.{ℕ, ◌+◌, Bool, true, false, not, ◌&&◌, List, [], ◌∷◌, length, nat_lt, ◌==◌, if◌then◌else◌}
 use Rattle.vst_base.specs.Committing.{learned_commit}
 use Rattle.vst_base.specs.Logs.{accepted, has_conflict, matches}
 use Rattle.vst_base.specs.Machines.{MachineMeaning}
+use Rattle.vst_base.specs.declared.what.What.TheVariants.{Request}
 use Rattle.raft_commit.specs.Peers.{moved, peer_behind}
 use Rattle.raft_commit.specs.declared.peer.Moved.{Moved}
 use Rattle.raft_commit.specs.declared.peer.Moved.TheVariants as moves
@@ -15,8 +16,9 @@ use Rattle.raft_types.specs.declared.msg.RaftMsg.{RaftMsg}
 use Rattle.raft_types.specs.declared.msg.RaftMsg.TheVariants as msg
 use Rattle.raft_xform.specs.declared.role.Role.TheVariants as role
 use Rattle.raft_xform.specs.Applying.{caught_up, settled}
+use Rattle.raft_xform.specs.Leading.{and_sending, spreads, with_entry}
 use Rattle.raft_xform.specs.Nodes.{RaftEffect, RaftView, is_leader, peer_at, sending, stays, with_peer}
-use Rattle.raft_xform.specs.Sending.{append, append_rest, appends}
+use Rattle.raft_xform.specs.Sending.{append, append_rest}
 
 -- the index of the last new entry
 abbrev pub last_new : {C : Type 0} → AppendView C → ℕ
@@ -27,20 +29,13 @@ module _ {S C O : Type 0} where
   abbrev pub telling : RaftView S C O → RaftOut O → RaftEffect S C O
   telling s out = record { state = s; outputs = out ∷ []; sends = [] }
 
-  -- packets with what else happens
-  abbrev pub and_sending : RaftEffect S C O → List (ℕ × RaftMsg C) → RaftEffect S C O
-  and_sending e packets = record { state = e.state; outputs = e.outputs; sends = packets }
-
   -- a leader has a client's request at the end of its log
   abbrev pub proposed : ℕ → RaftView S C O → RaftInput C → RaftView S C O
-  proposed me s i =
-      record s { log = s.log ++ record { term = s.ballot.term; client = i.client; request = i.request; origin = me; cmd = i.cmd } ∷ [] }
+  proposed me s i = with_entry s (Request i.client i.request me i.cmd)
 
   -- command received from client: append the entry to the local log, commit and apply what may be, and send it
   abbrev pub proposes : MachineMeaning S C O → ℕ → ℕ → RaftView S C O → RaftInput C → RaftEffect S C O
-  proposes m nodes me s i =
-      let e = settled m nodes me (proposed me s i) in
-      and_sending e (appends nodes me e.state)
+  proposes m nodes me s i = spreads m nodes me (proposed me s i)
 
   -- a request comes: to the leader, unless its log is full
   abbrev pub on_input : MachineMeaning S C O → ℕ → ℕ → RaftView S C O → RaftInput C → RaftEffect S C O

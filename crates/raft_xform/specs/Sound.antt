@@ -14,7 +14,7 @@ use Rattle.raft_xform.specs.Nodes.{RaftView, is_leader}
 use Rattle.raft_xform.specs.Replicating.{last_new}
 
 -- what a leader whose log has this length knows of a node: it sends entries from an index in the log on, or from
--- right behind its end, and it is past the index up to which the node's log is known to match
+-- right after its end, and it is past the index up to which the node's log is known to match
 abbrev pub IsPeer : ℕ → PeerView → Type 0
 IsPeer len p = (p.matched < p.next) × (p.next ≤ suc len)
 
@@ -23,7 +23,7 @@ pub record ArePeers (nodes len : ℕ) (peers : List PeerView) : Type 0 where
   pub each : length peers ≡ nodes
   pub within : All (IsPeer len) peers
 
--- a follower may be in term 0, and any other node was elected, or wants to be, in a term of its own
+-- a follower may be in term 0; any other node was elected, or wants to be, in term 1 or a later one
 abbrev pub HasTerm : Role → ℕ → Type 0
 HasTerm role.Follower term = Unit {0}
 HasTerm role.Candidate term = 1 ≤ term
@@ -41,7 +41,8 @@ pub record IsSoundNode {S C O : Type 0} (nodes me : ℕ) (s : RaftView S C O) : 
   pub short : length s.log ≤ MAX_INDEX
   pub peers : IsTrue (is_leader s.role) → ArePeers nodes (length s.log) s.peers
 
--- a message whose term is one, and whose entries end at an index: as all messages do, forged ones too
+-- a message whose term is in range, and whose entries end at an index in range: as those of all messages are, of forged
+-- ones too
 abbrev pub IsInRange : {C : Type 0} → RaftMsg C → Type 0
 IsInRange (msg.RequestVote r) = r.term ≤ MAX_TERM
 IsInRange (msg.Vote v) = v.term ≤ MAX_TERM

@@ -1,47 +1,19 @@
-ghost use Rattle.std.specs.Prelude.{◌≡◌, ◌≤◌, ◌<◌, length, replicate, IfOk, OnOk};
+ghost use Rattle.std.specs.Prelude.{◌≡◌, ◌+◌, ◌≤◌, ◌<◌, OnOk};
 ghost use Rattle.handler_trait.specs.Handling.{Does};
-ghost use Rattle.raft_commit.specs.Peers.{new_peer};
 ghost use Rattle.raft_types.specs.Ranges.{IsTerm};
 ghost use Rattle.raft_xform.specs.Electing as rules;
 ghost use Rattle.raft_xform.specs.Sound.{IsSoundNode};
 ghost use Rattle.vst_base.specs.Entries.{IsElectionTerm};
 
+use crate::leading::lead;
 use crate::seat::Seat;
 use crate::sending::{append_to_others, ask_others};
 use crate::{RaftState, Role};
 use handler_trait::Effects;
-use raft_commit::Peer;
 use raft_election::is_majority;
 use raft_types::{RaftMsg, RaftOut, RequestVote, Vote};
 use std::alloc::{AllocError, Global};
 use vst_base::{Machine, Node};
-
-// What a new leader, whose log has this length, knows of so many nodes.
-fn new_peers(alloc: Global, nodes: u8, len: u32) -> Result<Vec<Peer>, AllocError>
-    requires { len < u32.MAX }
-    ensures { IfOk result (λ peers. peers.items ≡ replicate nodes (new_peer len)) }
-{
-    vec![in alloc; Peer::new(len); usize::from(nodes)]
-}
-
-/// Becomes the leader, and sends heartbeats to the other nodes (section 5.2).
-pub(crate) fn lead<M: Machine>(
-    alloc: Global,
-    machine: &M,
-    seat: Seat,
-    state: &mut RaftState<M::State, M::Cmd, M::Out>,
-    effects: &mut Effects<RaftOut<M::Out>, RaftMsg<M::Cmd>>,
-) -> Result<(), AllocError>
-    requires sound { IsSoundNode seat.nodes seat.me state.old }
-    requires term { IsElectionTerm state.old.ballot.term }
-    requires room { seat.nodes ≤ effects.old.send_places }
-    ensures { OnOk result (Does (rules.lead seat.nodes seat.me state.old) state.new effects.old effects.new) }
-{
-    let (last, _) = state.log.last();
-    state.peers = new_peers(alloc, seat.nodes, last)?;
-    state.role = Role::Leader;
-    append_to_others(alloc, machine, seat, state, effects)
-}
 
 // A candidate leads at once where its own vote is a majority, and else asks the other nodes for theirs.
 fn campaign<M: Machine>(
@@ -53,8 +25,8 @@ fn campaign<M: Machine>(
 ) -> Result<(), AllocError>
     requires sound { IsSoundNode seat.nodes seat.me state.old }
     requires term { IsElectionTerm state.old.ballot.term }
-    requires room { seat.nodes ≤ effects.old.send_places }
-    ensures { OnOk result (Does (rules.campaign seat.nodes seat.me state.old) state.new effects.old effects.new) }
+    requires room { seat.nodes ≤ effects.old.send_places + 1 }
+    ensures { OnOk result (Does (rules.campaign (M.meaning machine.now) seat.nodes seat.me state.old) state.new effects.old effects.new) }
 {
     if is_majority(state.ballot.votes(), seat.nodes) {
         return lead(alloc, machine, seat, state, effects);
@@ -64,7 +36,7 @@ fn campaign<M: Machine>(
 }
 
 /// The timer fires: a leader repeats its heartbeats, and any other node starts an election in the next term,
-/// if there is one (section 5.2).
+/// if there is one.
 pub(crate) fn tick<M: Machine>(
     alloc: Global,
     machine: &M,
@@ -73,8 +45,8 @@ pub(crate) fn tick<M: Machine>(
     effects: &mut Effects<RaftOut<M::Out>, RaftMsg<M::Cmd>>,
 ) -> Result<(), AllocError>
     requires sound { IsSoundNode seat.nodes seat.me state.old }
-    requires room { seat.nodes ≤ effects.old.send_places }
-    ensures { OnOk result (Does (rules.tick seat.nodes seat.me state.old) state.new effects.old effects.new) }
+    requires room { seat.nodes ≤ effects.old.send_places + 1 }
+    ensures { OnOk result (Does (rules.tick (M.meaning machine.now) seat.nodes seat.me state.old) state.new effects.old effects.new) }
 {
     if state.role.is_leader() {
         return append_to_others(alloc, machine, seat, state, effects);
@@ -86,7 +58,7 @@ pub(crate) fn tick<M: Machine>(
     campaign(alloc, machine, seat, state, effects)
 }
 
-/// Learns of a message's term: in a greater one the node follows, and has not voted (section 5.1).
+/// Learns of a message's term: in a greater one the node follows, and has not voted.
 pub(crate) fn hear<S, C, O>(state: &mut RaftState<S, C, O>, term: u64)
     requires { IsTerm term }
     ensures { state.new ≡ rules.heard term state.old }
@@ -96,7 +68,7 @@ pub(crate) fn hear<S, C, O>(state: &mut RaftState<S, C, O>, term: u64)
     }
 }
 
-/// Answers a candidate (Figure 2, RequestVote RPC).
+/// Answers a candidate that asks for a vote.
 pub(crate) fn on_request<S, C: Drop, O: Drop>(
     state: &mut RaftState<S, C, O>,
     from: Node,
@@ -115,7 +87,7 @@ pub(crate) fn on_request<S, C: Drop, O: Drop>(
     effects.send(from, RaftMsg::Vote(vote));
 }
 
-/// Counts a vote of its term as a candidate, and leads once it has a majority (section 5.2).
+/// Counts a vote of its term as a candidate, and leads once it has a majority.
 pub(crate) fn on_vote<M: Machine>(
     alloc: Global,
     machine: &M,
@@ -127,8 +99,8 @@ pub(crate) fn on_vote<M: Machine>(
 ) -> Result<(), AllocError>
     requires sound { IsSoundNode seat.nodes seat.me state.old }
     requires from { from < seat.nodes }
-    requires room { seat.nodes ≤ effects.old.send_places }
-    ensures { OnOk result (Does (rules.on_vote seat.nodes seat.me state.old from vote.now) state.new effects.old effects.new) }
+    requires room { seat.nodes ≤ effects.old.send_places + 1 }
+    ensures { OnOk result (Does (rules.on_vote (M.meaning machine.now) seat.nodes seat.me state.old from vote.now) state.new effects.old effects.new) }
 {
     if !(state.role.is_candidate() && vote.term() == state.ballot.term() && vote.granted()) {
         return Ok(());

@@ -5,18 +5,19 @@ ghost use Rattle.raft_xform.specs.Nodes.{is_leader};
 ghost use Rattle.raft_xform.specs.Replicating as rules;
 ghost use Rattle.raft_xform.specs.Sending.{append_rest};
 ghost use Rattle.raft_xform.specs.Sound.{IsSoundNode, MaySend};
-ghost use Rattle.vst_base.specs.Entries.{IsElectionTerm};
+ghost use Rattle.vst_base.specs.Entries.{IsElectionTerm, IsOrigin};
 
 use crate::applying::{catch_up, settle};
+use crate::leading::{add_entry, spread};
 use crate::seat::Seat;
-use crate::sending::{append, append_to_others};
+use crate::sending::append;
 use crate::{RaftState, Role};
 use handler_trait::Effects;
 use raft_commit::Moved;
 use raft_log::Accept;
 use raft_types::{Append, Appended, MAX_INDEX, RaftInput, RaftMsg, RaftOut};
 use std::alloc::{AllocError, Global};
-use vst_base::{Entry, Machine, Node};
+use vst_base::{Machine, Node, What};
 
 // A leader puts a client's request at the end of its log.
 fn propose<M: Machine>(
@@ -27,23 +28,20 @@ fn propose<M: Machine>(
     input: &RaftInput<M::Cmd>,
 ) -> Result<(), AllocError>
     requires term { IsElectionTerm state.old.ballot.term }
-    requires me { me ≤ 8 }
-    requires committed { state.old.commit ≤ length state.old.log }
+    requires me { IsOrigin me }
     requires room { length state.old.log < MAX_INDEX }
     ensures { OnOk result (state.new ≡ rules.proposed me state.old input.now) }
 {
-    let (last, _) = state.log.last();
-    let cmd = machine.copy_cmd(alloc, &input.cmd)?;
-    let term = state.ballot.term();
-    let mut entries = Vec::with_capacity(alloc, 1)?;
-    entries.push(Entry::new(term, input.client, input.request, me, cmd))?;
-    state
-        .log
-        .accept(alloc, machine, last, &entries, state.commit)?;
-    Ok(())
+    let what = What::Request {
+        client: input.client,
+        request: input.request,
+        origin: me,
+        cmd: machine.copy_cmd(alloc, &input.cmd)?,
+    };
+    add_entry(state, what)
 }
 
-/// A client's request comes (section 5.3): to a node that does not lead, to a leader whose log is full, or to
+/// A client's request comes: to a node that does not lead, to a leader whose log is full, or to
 /// one that takes it.
 pub(crate) fn on_input<M: Machine>(
     alloc: Global,
@@ -54,7 +52,7 @@ pub(crate) fn on_input<M: Machine>(
     effects: &mut Effects<RaftOut<M::Out>, RaftMsg<M::Cmd>>,
 ) -> Result<(), AllocError>
     requires sound { IsSoundNode seat.nodes seat.me state.old }
-    requires room { seat.nodes ≤ effects.old.send_places }
+    requires room { seat.nodes ≤ effects.old.send_places + 1 }
     ensures { OnOk result (Does (rules.on_input (M.meaning machine.now) seat.nodes seat.me state.old input.now) state.new effects.old effects.new) }
 {
     let client = input.client;
@@ -66,8 +64,7 @@ pub(crate) fn on_input<M: Machine>(
         return effects.output(RaftOut::Full { client, request });
     }
     propose(alloc, machine, seat.me, state, input)?;
-    settle(alloc, machine, seat.me, state, effects)?;
-    append_to_others(alloc, machine, seat, state, effects)
+    spread(alloc, machine, seat, state, effects)
 }
 
 // Answers a leader.
@@ -88,7 +85,7 @@ fn answer<S, C: Drop, O: Drop>(
     effects.send(to, RaftMsg::Appended(appended));
 }
 
-/// A leader's entries come (Figure 2, AppendEntries RPC).
+/// A leader's entries come.
 pub(crate) fn on_append<M: Machine>(
     alloc: Global,
     machine: &M,
@@ -168,7 +165,7 @@ fn note<S, C: Drop, O>(state: &mut RaftState<S, C, O>, from: Node, appended: &Ap
     peer.on_answer(appended.ok(), appended.index(), last)
 }
 
-/// A node's answer to the leader's entries comes (section 5.3).
+/// A node's answer to the leader's entries comes.
 pub(crate) fn on_appended<M: Machine>(
     alloc: Global,
     machine: &M,
@@ -180,7 +177,7 @@ pub(crate) fn on_appended<M: Machine>(
 ) -> Result<(), AllocError>
     requires sound { IsSoundNode seat.nodes seat.me state.old }
     requires from { from < seat.nodes }
-    requires room { seat.nodes ≤ effects.old.send_places }
+    requires room { 0 < effects.old.send_places }
     ensures { OnOk result (Does (rules.on_appended (M.meaning machine.now) seat.nodes seat.me state.old from appended.now) state.new effects.old effects.new) }
 {
     if !(state.role.is_leader() && appended.term() == state.ballot.term()) {

@@ -1,5 +1,4 @@
 ghost use Rattle.std.specs.Prelude.{◌≡◌, ◌<◌, length, IfOk};
-ghost use Rattle.net_semantics.specs.ShownFail.{IsSoundFail};
 ghost use Rattle.raft_types.specs.Ranges.{IsClusterSize};
 
 use super::tests::{Counter, asks};
@@ -65,6 +64,57 @@ fn a_leader_sends_again_what_was_lost(rt: HostRuntime) -> Result<(), Fail> {
         Step::Tick(0),
         Step::Deliver(7),
         Step::Deliver(9),
+    ];
+    let trace = trace_of(rt.alloc(), Raft::new(Counter, 3), &steps)?;
+    let seen = [asked(0, 1, 5), replied(0, 1, 0)];
+    assert_eq!(rt; trace.items(), seen.as_slice());
+    Ok(())
+}
+
+// A new leader's no-op commits the entries that it had before it stopped.
+#[test]
+fn a_leader_that_stopped_answers_once_it_leads_again(rt: HostRuntime) -> Result<(), Fail> {
+    let steps = [
+        Step::Tick(0),
+        Step::Deliver(0),
+        Step::Deliver(2),
+        Step::In(0, asks(1, 5)),
+        Step::Crash(0),
+        Step::Reboot(0),
+        Step::Tick(0),
+        Step::Deliver(7),
+        Step::Deliver(9),
+        Step::Deliver(10),
+        Step::Deliver(12),
+        Step::Deliver(13),
+        Step::Deliver(14),
+        Step::Deliver(15),
+        Step::Deliver(16),
+    ];
+    let trace = trace_of(rt.alloc(), Raft::new(Counter, 3), &steps)?;
+    let seen = [asked(0, 1, 5), replied(0, 1, 0)];
+    assert_eq!(rt; trace.items(), seen.as_slice());
+    Ok(())
+}
+
+// The new leader is another node: it commits the entry by its own no-op, and the node that took the request answers.
+#[test]
+fn a_node_answers_what_another_leader_commits(rt: HostRuntime) -> Result<(), Fail> {
+    let steps = [
+        Step::Tick(0),
+        Step::Deliver(0),
+        Step::Deliver(2),
+        Step::In(0, asks(1, 5)),
+        Step::Deliver(5),
+        Step::Crash(0),
+        Step::Reboot(0),
+        Step::Tick(1),
+        Step::Deliver(9),
+        Step::Deliver(10),
+        Step::Deliver(11),
+        Step::Deliver(13),
+        Step::Tick(1),
+        Step::Deliver(14),
     ];
     let trace = trace_of(rt.alloc(), Raft::new(Counter, 3), &steps)?;
     let seen = [asked(0, 1, 5), replied(0, 1, 0)];

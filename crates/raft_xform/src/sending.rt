@@ -1,4 +1,4 @@
-ghost use Rattle.std.specs.Prelude.{◌≡◌, ◌≤◌, ◌<◌, ◌++◌, length, IfOk, OnOk};
+ghost use Rattle.std.specs.Prelude.{◌≡◌, ◌+◌, ◌≤◌, ◌<◌, ◌++◌, length, IfOk, OnOk};
 ghost use Rattle.vst_base.specs.Entries.{IsElectionTerm};
 ghost use Rattle.raft_xform.specs.Sending.{append, appends, request, to_others};
 ghost use Rattle.raft_xform.specs.Sound.{MaySend};
@@ -28,7 +28,8 @@ pub(crate) fn ask_others<S, C: Drop, O: Drop>(
     effects: &mut Effects<RaftOut<O>, RaftMsg<C>>,
 )
     requires term { IsElectionTerm state.now.ballot.term }
-    requires room { seat.nodes ≤ effects.old.send_places }
+    requires me { seat.me < seat.nodes }
+    requires room { seat.nodes ≤ effects.old.send_places + 1 }
     ensures sends { effects.new.sends ≡ effects.old.sends ++ to_others seat.nodes seat.me (λ _. request state.now) }
     ensures outputs { effects.new.outputs ≡ effects.old.outputs }
 {
@@ -72,7 +73,8 @@ pub(crate) fn append_to_others<M: Machine>(
 ) -> Result<(), AllocError>
     requires state { MaySend state.now }
     requires peers { length state.now.peers ≡ seat.nodes }
-    requires room { seat.nodes ≤ effects.old.send_places }
+    requires me { seat.me < seat.nodes }
+    requires room { seat.nodes ≤ effects.old.send_places + 1 }
     ensures sends { OnOk result (effects.new.sends ≡ effects.old.sends ++ appends seat.nodes seat.me state.now) }
     ensures outputs { OnOk result (effects.new.outputs ≡ effects.old.outputs) }
 {

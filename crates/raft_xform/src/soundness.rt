@@ -27,7 +27,8 @@ pub fn events_keep_a_node_sound<M: Machine>()
         → IsSoundNode nodes me s → IsSoundNode nodes me ((raft nodes m).timeout me s).state }
 {}
 
-/// What a sound node sends is in range, so that without forged messages all are.
+/// What a sound node sends has its term and the end of its entries in range, so that without forged messages
+/// all have.
 pub fn sends_are_in_range<M: Machine>()
     ensures input { (nodes me : ℕ) (m : MachineMeaning M.State M.Cmd M.Out) (s : RaftView M.State M.Cmd M.Out) (i : RaftInput M.Cmd)
         → IsSoundNode nodes me s → AreInRange ((raft nodes m).input me s i).sends }

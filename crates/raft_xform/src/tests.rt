@@ -2,6 +2,7 @@ ghost use Rattle.std.specs.Prelude.{◌≡◌, ◌<◌, ◌≤◌, length, vec_l
 ghost use Rattle.handler_trait.specs.declared.handlers.TheConstants.{MAX_SENDS};
 ghost use Rattle.raft_types.specs.Ranges.{IsIndex, IsTerm};
 ghost use Rattle.raft_xform.specs.Sound.{IsSoundNode};
+ghost use Rattle.vst_base.specs.Entries.{HasOrigin};
 ghost use Rattle.vst_base.specs.Examples.{counter};
 
 use super::*;
@@ -12,7 +13,7 @@ use raft_types::{
 use std::alloc::{AllocError, Global};
 use std::process::Abort;
 use std::test::Fail;
-use vst_base::{ClientId, Entry, MAX_TERM, Machine, Node, ReqId};
+use vst_base::{ClientId, Entry, MAX_TERM, Machine, Node, ReqId, What};
 
 // Adds its commands up to 255, and answers with the sum before.
 #[derive(Drop)]
@@ -55,17 +56,28 @@ pub(crate) fn asks(request: u64, cmd: u8) -> RaftInput<u8> {
     }
 }
 
+// Client 7's request of this number, which node 0 took.
+fn taken(request: u64) -> Result<What<u8>, Fail>
+    ensures { IfOk result HasOrigin }
+{
+    Ok(What::Request {
+        client: ClientId::new(7),
+        request: ReqId::new(request),
+        origin: Node::new(0, 3).ok_or("a node")?,
+        cmd: 0,
+    })
+}
+
 // Entries of these terms.
 fn entries(alloc: Global, terms: &[u64]) -> Result<Entries<u8>, Fail>
     ensures { IfOk result (λ made. length made ≤ 8) }
 {
-    let origin = Node::new(0, 3).ok_or("a node")?;
     let mut made = Vec::new(alloc);
     for term in terms {
         if *term == 0 || *term > MAX_TERM {
             return Err(Fail::from("a term of an entry"));
         }
-        made.push(Entry::new(*term, ClientId::new(7), ReqId::new(1), origin, 0u8))?;
+        made.push(Entry::new(*term, taken(1)?))?;
     }
     if made.len() > 8 {
         return Err(Fail::from("few entries"));
@@ -165,7 +177,7 @@ fn has_log(state: &RaftState<u8, u8, u8>, terms: &[u64]) -> bool {
             .all(|(entry, term)| entry.term() == *term)
 }
 
-// A leader of a term sends entries of these terms from behind an index on, and has committed two.
+// A leader of a term sends entries of these terms for after an index, and has committed two.
 fn append(alloc: Global, term: u64, prev: (u32, u64), terms: &[u64]) -> Result<RaftMsg<u8>, Fail> {
     if term == 0 || term > MAX_TERM || prev.0 > 9 || prev.1 > MAX_TERM {
         return Err(Fail::from("numbers of a message"));
@@ -192,7 +204,7 @@ fn follower_told(
     ))
 }
 
-// Node 1 leads a term, and sends entries of these terms from behind an index on to node 0, which is in term 2 and
+// Node 1 leads a term, and sends entries of these terms for after an index to node 0, which is in term 2 and
 // whose log has entries of terms 1, 1 and 2.
 fn sends_entries(
     rt: &impl Abort,
@@ -241,11 +253,9 @@ fn a_follower_refuses_what_does_not(rt: HostRuntime) -> Result<(), Fail> {
 
 // As many entries of the first term as a log has places.
 fn full_log(alloc: Global) -> Result<Entries<u8>, Fail> {
-    let origin = Node::new(0, 3).unwrap();
     let mut made = Vec::new(alloc);
     for request in 0..u64::from(MAX_INDEX) {
-        let entry = Entry::new(1, ClientId::new(7), ReqId::new(request), origin, 0u8);
-        made.push(entry)?;
+        made.push(Entry::new(1, taken(request)?))?;
     }
     Ok(Entries::new(made))
 }
@@ -270,8 +280,12 @@ fn fires(
 }
 
 // Node 0 of three starts from this and is elected, with node 2's vote in a term.
-fn elected(alloc: Global, kept: Kept<u8>, term: u64) -> Result<RaftState<u8, u8, u8>, Fail>
-    ensures { IfOk result (λ state. IsSoundNode 3 0 state) }
+fn elected(
+    alloc: Global,
+    kept: Kept<u8>,
+    term: u64,
+) -> Result<(RaftState<u8, u8, u8>, Effects<RaftOut<u8>, RaftMsg<u8>>), Fail>
+    ensures { IfOk result (λ made. IsSoundNode 3 0 made.0) }
 {
     let (me, voter) = (Node::new(0, 3).unwrap(), Node::new(2, 3).unwrap());
     if term == 0 || term > MAX_TERM {
@@ -281,27 +295,63 @@ fn elected(alloc: Global, kept: Kept<u8>, term: u64) -> Result<RaftState<u8, u8,
     let vote = RaftMsg::Vote(Vote::new(term, true));
     let mut effects = room(alloc)?;
     Raft::new(Counter, 3).message(alloc, me, &mut state, voter, &vote, &mut effects)?;
-    Ok(state)
+    Ok((state, effects))
 }
 
-// It is asked then.
+// The new leader, and what comes of it when it is asked then.
 fn elected_and_asked(
     alloc: Global,
     kept: Kept<u8>,
     term: u64,
-) -> Result<Effects<RaftOut<u8>, RaftMsg<u8>>, Fail> {
+) -> Result<(RaftState<u8, u8, u8>, Effects<RaftOut<u8>, RaftMsg<u8>>), Fail> {
     let me = Node::new(0, 3).unwrap();
-    let mut state = elected(alloc, kept, term)?;
+    let (mut state, _) = elected(alloc, kept, term)?;
     let mut effects = room(alloc)?;
     Raft::new(Counter, 3).input(alloc, me, &mut state, &asks(1, 5), &mut effects)?;
-    Ok(effects)
+    Ok((state, effects))
+}
+
+// Whether this goes to node n from the leader of term 2, which knows of no commit: entries for after the index prev, whose
+// entry is of term 1, of which each is a no-op or not.
+fn is_append(sent: &(Node, RaftMsg<u8>), n: u8, prev: u32, noops: &[bool]) -> bool {
+    let RaftMsg::Append(append) = &sent.1 else {
+        return false;
+    };
+    sent.0.index() == n
+        && (append.term(), append.commit()) == (2, 0)
+        && (append.prev_index(), append.prev_term()) == (prev, 1)
+        && append.entries().len() == noops.len()
+        && append.entries().iter().zip(noops).all(|(entry, noop)| matches!(entry.what(), What::Noop)
+            == *noop)
+}
+
+// Whether such entries go to nodes 1 and 2, and nothing else goes or is told.
+fn are_appends(effects: &mut Effects<RaftOut<u8>, RaftMsg<u8>>, prev: u32, noops: &[bool]) -> bool {
+    if effects.next_output().is_some() {
+        return false;
+    }
+    let [first, second] = effects.sends() else {
+        return false;
+    };
+    is_append(first, 1, prev, noops) && is_append(second, 2, prev, noops)
+}
+
+#[test]
+fn a_new_leader_whose_log_is_full_adds_nothing(rt: HostRuntime) -> Result<(), Fail> {
+    let kept = Kept::new(1, None, full_log(rt.alloc())?);
+    let (state, mut effects) = elected(rt.alloc(), kept, 2)?;
+    assert!(rt; Raft::new(Counter, 3).leads(&state));
+    assert_eq!(rt; state.log.last(), (MAX_INDEX, 1));
+    assert!(rt; are_appends(&mut effects, MAX_INDEX, &[]));
+    Ok(())
 }
 
 #[test]
 fn a_leader_whose_log_is_full_says_so(rt: HostRuntime) -> Result<(), Fail> {
     let (client, request) = (ClientId::new(7), ReqId::new(1));
     let kept = Kept::new(1, None, full_log(rt.alloc())?);
-    let mut effects = elected_and_asked(rt.alloc(), kept, 2)?;
+    let (state, mut effects) = elected_and_asked(rt.alloc(), kept, 2)?;
+    assert_eq!(rt; state.log.last(), (MAX_INDEX, 1));
     assert_eq!(rt;
         effects.next_output(),
         Some(RaftOut::Full { client, request })
@@ -311,26 +361,51 @@ fn a_leader_whose_log_is_full_says_so(rt: HostRuntime) -> Result<(), Fail> {
     Ok(())
 }
 
-// Whether this is the request as the leader of term 2 sends it to node n, whose log it takes for its own.
-fn is_request(n: u8, sent: &(Node, RaftMsg<u8>)) -> bool {
-    let RaftMsg::Append(append) = &sent.1 else {
-        return false;
-    };
-    sent.0.index() == n
-        && (append.term(), append.commit()) == (2, 0)
-        && (append.prev_index(), append.prev_term()) == (1, 1)
-        && append.entries().len() == 1
+#[test]
+fn a_new_leader_sends_a_noop_to_the_others(rt: HostRuntime) -> Result<(), Fail> {
+    let kept = Kept::new(1, None, entries(rt.alloc(), &[1])?);
+    let (state, mut effects) = elected(rt.alloc(), kept, 2)?;
+    assert!(rt; has_log(&state, &[1, 2]));
+    assert!(rt; are_appends(&mut effects, 1, &[true]));
+    Ok(())
 }
 
 #[test]
 fn a_leader_sends_a_request_to_the_others(rt: HostRuntime) -> Result<(), Fail> {
     let kept = Kept::new(1, None, entries(rt.alloc(), &[1])?);
-    let mut effects = elected_and_asked(rt.alloc(), kept, 2)?;
-    assert!(rt; effects.next_output().is_none());
-    let [first, second] = effects.sends() else {
-        return Err(Fail::from("two packets"));
-    };
-    assert!(rt; is_request(1, first) && is_request(2, second));
+    let (state, mut effects) = elected_and_asked(rt.alloc(), kept, 2)?;
+    assert!(rt; has_log(&state, &[1, 2, 2]));
+    assert!(rt; are_appends(&mut effects, 1, &[true, false]));
+    Ok(())
+}
+
+// Whether the leader of term 2 still leads once node 1 tells it this, the term and the vote that it keeps then, and how
+// many packets it sends.
+fn hears(alloc: Global, message: &RaftMsg<u8>) -> Result<(bool, u64, Option<u8>, usize), Fail> {
+    let (me, from) = (Node::new(0, 3).unwrap(), Node::new(1, 3).unwrap());
+    let raft = Raft::new(Counter, 3);
+    let (mut state, _) = elected(alloc, Kept::new(1, None, entries(alloc, &[1])?), 2)?;
+    let mut effects = room(alloc)?;
+    raft.message(alloc, me, &mut state, from, message, &mut effects)?;
+    let kept = raft.keep(alloc, &state)?;
+    let voted = kept.voted().map(|node| node.index());
+    let sent = effects.sends().len();
+    Ok((raft.leads(&state), kept.term(), voted, sent))
+}
+
+#[test]
+fn a_leader_follows_in_a_greater_term(rt: HostRuntime) -> Result<(), Fail> {
+    let alloc = rt.alloc();
+    let (still, no_more) = ((true, 2, Some(0), 0), (false, 3, None, 0));
+    for (term, then) in [(1, still), (2, still), (3, no_more)] {
+        let appended = RaftMsg::Appended(Appended::new(term, false, 0));
+        assert_eq!(rt; hears(alloc, &appended)?, then);
+        let vote = RaftMsg::Vote(Vote::new(term, false));
+        assert_eq!(rt; hears(alloc, &vote)?, then);
+    }
+    let answers = (false, 3, None, 1);
+    assert_eq!(rt; hears(alloc, &append(alloc, 2, (1, 1), &[])?)?, still);
+    assert_eq!(rt; hears(alloc, &append(alloc, 3, (1, 1), &[3])?)?, answers);
     Ok(())
 }
 
@@ -359,5 +434,29 @@ fn no_election_follows_the_greatest_term(rt: HostRuntime) -> Result<(), Fail> {
     ] {
         assert_eq!(rt; campaigns(rt.alloc(), term)?, then);
     }
+    Ok(())
+}
+
+// The term in which this packet asks for a vote, if it does.
+fn asked_in(sent: &(Node, RaftMsg<u8>)) -> Option<u64> {
+    match &sent.1 {
+        RaftMsg::RequestVote(request) => Some(request.term()),
+        _ => None,
+    }
+}
+
+#[test]
+fn a_candidate_asks_again_in_the_next_term(rt: HostRuntime) -> Result<(), Fail> {
+    let alloc = rt.alloc();
+    let (raft, me) = (Raft::new(Counter, 3), Node::new(1, 3).unwrap());
+    let (mut state, _) = fires(alloc, me, Kept::new(4, None, entries(alloc, &[])?))?;
+    let mut effects = room(alloc)?;
+    raft.timeout(alloc, me, &mut state, &mut effects)?;
+    let [first, second] = effects.sends() else {
+        return Err(Fail::from("two packets"));
+    };
+    assert_eq!(rt; (asked_in(first), asked_in(second)), (Some(6), Some(6)));
+    let kept = raft.keep(alloc, &state)?;
+    assert_eq!(rt; (kept.term(), kept.voted()), (6, Some(me)));
     Ok(())
 }

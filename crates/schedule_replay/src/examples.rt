@@ -74,20 +74,20 @@ pub fn worked()
     ensures no_key_value_machine_on_a_bag { (replayed (codes "schedule 1 bag kv 1\n")).refused ≡ Some (1, Header) }
 
     // A cluster of one node answers at once, and its order is what it executed. A number that comes again is answered as it was,
-    // also once the node has stopped and started again.
+    // also once the node has stopped and started again; it leads again with a no-op, applies its log, and answers by that too.
     ensures one_node_cluster { (replayed (codes "schedule 1 fail kv/raft 1\ntick 0\nin 0 7 1 put a x\n")).out
         ≡ codes "in 0 7 1 put a x\nout 0 reply 7 1 a =x -\nbelow\norder 7 1 put a x\n" }
     ensures one_node_cluster_counted { (replayed (codes "schedule 1 fail kv/raft 1\ntick 0\nin 0 7 1 put a x\n")).counts
         ≡ record { events = 2; inputs = 1; outputs = 1; replies = 1; image = 1 } }
     ensures asked_again { (replayed (codes "schedule 1 fail kv/raft 1\ntick 0\nin 0 7 1 put a x\ncrash 0\nreboot 0\ntick 0\nin 0 7 1 put a y\n")).out
-        ≡ codes "in 0 7 1 put a x\nout 0 reply 7 1 a =x -\nin 0 7 1 put a y\nout 0 reply 7 1 a =x -\nout 0 reply 7 1 a =x -\nbelow\norder 7 1 put a x\n" }
+        ≡ codes "in 0 7 1 put a x\nout 0 reply 7 1 a =x -\nout 0 reply 7 1 a =x -\nin 0 7 1 put a y\nout 0 reply 7 1 a =x -\nbelow\norder 7 1 put a x\n" }
     ensures a_vote_outlives_a_reboot { (replayed (codes "schedule 1 fail kv/raft 3\ntick 0\ndeliver 0\ncrash 1\nreboot 1\ntick 2\ndeliver 4\ndeliver 5\nin 2 7 1 put a x\n")).out
         ≡ codes "in 2 7 1 put a x\nout 2 notleader 7 1\nbelow\n" }
     ensures redirected_requests_are_no_replies { (replayed (codes "schedule 1 fail kv/raft 2\nin 1 7 1 get a\n")).counts ≡ record { events = 1; inputs = 1; outputs = 1; replies = 0; image = 0 } }
     ensures node_down { (replayed (codes "schedule 1 fail kv/raft 1\ncrash 0\ncrash 0\n")).refused ≡ Some (3, NodeDown) }
     ensures node_up { (replayed (codes "schedule 1 fail kv/raft 1\nreboot 0\n")).refused ≡ Some (2, NodeUp) }
     ensures nothing_to_lose { (replayed (codes "schedule 1 fail kv/raft 1\nlose 0\n")).refused ≡ Some (2, NoCopy) }
-    ensures six_nodes { (replayed (codes "schedule 1 fail kv/raft 6\n")).refused ≡ Some (1, Header) }
+    ensures ten_node_cluster { (replayed (codes "schedule 1 fail kv/raft 10\n")).refused ≡ Some (1, Header) }
 
     // A text that broke off: its whole lines alone.
     ensures broken_off { (replayed_so_far (codes "schedule 1 bag lock 2\nin 1 lock\nin 1 lo")).out ≡ codes "in 1 lock\n" }

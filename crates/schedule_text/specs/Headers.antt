@@ -1,5 +1,6 @@
 -- The header of a schedule: `schedule 1 <net> <stack> <nodes>`.
 use Rattle.std.specs.Prelude.{◌≡◌, ℕ, ◌≤◌, ◌⊎◌, ◌==◌, ◌&&◌, nat_le, List, [], ◌∷◌, ◌++◌, Option, Some, None, option_and_then, if◌then◌else◌, codes}
+use Rattle.vst_base.specs.declared.node.TheConstants.{MAX_NODES}
 use Rattle.vst_base.specs.declared.net.Net.{Net}
 use Rattle.vst_base.specs.declared.net.Net.TheVariants as net
 use Rattle.vst_base.specs.declared.stack.StackId.{StackId}
@@ -46,7 +47,7 @@ rows =
     ∷ record { net = net.Bag; stack = stack.KvPb; least = 2; most = 2 }
     ∷ record { net = net.Dup; stack = stack.KvPbSeq; least = 2; most = 2 }
     ∷ record { net = net.One; stack = stack.Kv; least = 1; most = 1 }
-    ∷ record { net = net.Fail; stack = stack.KvRaft; least = 1; most = 5 }
+    ∷ record { net = net.Fail; stack = stack.KvRaft; least = 1; most = MAX_NODES }
     ∷ []
 
 -- a header by a pairing, and by one of several

@@ -48,14 +48,14 @@ pub fn worked_headers()
     ensures machine_on_a_bag { (header_of (codes "schedule 1 bag kv 1") ≡ None) × (header_of (codes "schedule 1 one kv 2") ≡ None) }
     ensures least_cluster { header_of (codes "schedule 1 fail kv/raft 1") ≡ Some (record { net = Net.Fail; stack = StackId.KvRaft; nodes = 1 }) }
     ensures cluster { header_of (codes "schedule 1 fail kv/raft 3") ≡ Some (record { net = Net.Fail; stack = StackId.KvRaft; nodes = 3 }) }
-    ensures most_cluster { header_of (codes "schedule 1 fail kv/raft 5") ≡ Some (record { net = Net.Fail; stack = StackId.KvRaft; nodes = 5 }) }
-    ensures beyond_cluster { (header_of (codes "schedule 1 fail kv/raft 0") ≡ None) × (header_of (codes "schedule 1 fail kv/raft 6") ≡ None) }
+    ensures most_cluster { header_of (codes "schedule 1 fail kv/raft 9") ≡ Some (record { net = Net.Fail; stack = StackId.KvRaft; nodes = 9 }) }
+    ensures beyond_cluster { (header_of (codes "schedule 1 fail kv/raft 0") ≡ None) × (header_of (codes "schedule 1 fail kv/raft 10") ≡ None) }
     ensures cluster_leading_zero { header_of (codes "schedule 1 fail kv/raft 03") ≡ None }
     ensures cluster_elsewhere { (header_of (codes "schedule 1 dup kv/raft 3") ≡ None) × (header_of (codes "schedule 1 bag kv/raft 3") ≡ None) }
     ensures other_stacks_failing { (header_of (codes "schedule 1 fail kv/pb 2") ≡ None) × (header_of (codes "schedule 1 fail kv 1") ≡ None) }
     ensures text { header_text (record { net = Net.Bag; stack = StackId.Lock; nodes = 2 }) ≡ codes "schedule 1 bag lock 2" }
     ensures numbered_text { header_text (record { net = Net.Dup; stack = StackId.LockSeq; nodes = 9 }) ≡ codes "schedule 1 dup lock/seq 9" }
-    ensures cluster_text { header_text (record { net = Net.Fail; stack = StackId.KvRaft; nodes = 5 }) ≡ codes "schedule 1 fail kv/raft 5" }
+    ensures cluster_text { header_text (record { net = Net.Fail; stack = StackId.KvRaft; nodes = 9 }) ≡ codes "schedule 1 fail kv/raft 9" }
     ensures opens_empty { opening 2000000 1 [] ≡ EndedAt 1 }
     ensures opens_without_header { opening 2000000 1 (codes "# none" ∷ []) ≡ EndedAt 2 }
     ensures opens_behind_comment { opening 2000000 1 (codes "# a lock" ∷ codes "schedule 1 bag lock 2" ∷ codes "tick 0" ∷ []) ≡ Opened (record { net = Net.Bag; stack = StackId.Lock; nodes = 2 }) 3 (codes "tick 0" ∷ []) }

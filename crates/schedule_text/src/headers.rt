@@ -7,7 +7,7 @@ use crate::numbers::push_number;
 use crate::row::Row;
 use crate::words::number_of;
 use std::alloc::AllocError;
-use vst_base::{Net, StackId};
+use vst_base::{MAX_NODES, Net, StackId};
 
 // The least number of nodes of a lock cluster.
 const LEAST_LOCK: u8 = 2;
@@ -60,7 +60,7 @@ const KV_RAFT: Row = Row {
     net: Net::Fail,
     stack: StackId::KvRaft,
     least: 1,
-    most: 5,
+    most: MAX_NODES,
 };
 
 // The pairings that there are. A line is tried by each in this order.

@@ -35,8 +35,12 @@ fn a_claim_that_holds_is_permitted(rt: HostRuntime) -> Result<(), Fail> {
     let replied: &[u8] =
         b"in 0 put a x\nin 0 get a\nout 0 a =x -\nin 1 get a\nout 1 redirect\nbelow\nschedule 1 one kv 1\nin 0 put a x\n";
     let alone: &[u8] = b"in 0 get a\nout 0 a - -\nbelow\nschedule 1 one kv 1\nin 0 get a\n";
-    let rows: [(&str, &[u8]); 6] = [
+    let told_twice: &[u8] =
+        b"in 0 7 1 put a x\nout 0 reply 7 1 a =x -\nout 0 reply 7 1 a =x -\nin 0 7 1 put a y\nout 0 reply 7 1 a =x -\nbelow\norder 7 1 put a x\n";
+    let rows: [(&str, &[u8]); 8] = [
         ("kv/raft", PUT_IN_AGAIN),
+        ("kv/raft", told_twice),
+        ("kv/raft", b"in 8 7 1 put a x\nbelow\n"),
         ("lock", handed_over),
         ("lock/seq", handed_over),
         ("kv/pb", replied),
@@ -137,7 +141,7 @@ fn a_refused_line_comes_before_any_condition(rt: HostRuntime) -> Result<(), Fail
         ),
         (
             "kv/raft",
-            b"in 5 7 1 get a\nbelow\n",
+            b"in 9 7 1 get a\nbelow\n",
             b"line 1: no such node\n",
         ),
         (

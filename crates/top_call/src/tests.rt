@@ -239,11 +239,12 @@ fn a_cluster_of_one_node_answers_and_orders_its_requests(rt: HostRuntime) -> Res
             b"in 0 7 1 put a x\nout 0 reply 7 1 a =x -\nbelow\norder 7 1 put a x\n",
             b"",
         ),
-        // A repeated number keeps its answer, also after the node has stopped, and a lower one has none.
+        // A repeated number keeps its answer, and a lower one has none. A node that starts again leads with a no-op, applies
+        // its log anew, and tells the client again.
         (
             b"schedule 1 fail kv/raft 1\ntick 0\nin 0 7 1 put a x\ncrash 0\nreboot 0\ntick 0\nin 0 7 1 put a y\n",
             0,
-            b"in 0 7 1 put a x\nout 0 reply 7 1 a =x -\nin 0 7 1 put a y\nout 0 reply 7 1 a =x -\nout 0 reply 7 1 a =x -\nbelow\norder 7 1 put a x\n",
+            b"in 0 7 1 put a x\nout 0 reply 7 1 a =x -\nout 0 reply 7 1 a =x -\nin 0 7 1 put a y\nout 0 reply 7 1 a =x -\nbelow\norder 7 1 put a x\n",
             b"",
         ),
         (
@@ -275,7 +276,7 @@ fn a_vote_outlives_the_node_that_stops(rt: HostRuntime) -> Result<(), Fail> {
 fn an_entry_of_an_earlier_term_waits_for_one_of_the_leaders_own(
     rt: HostRuntime,
 ) -> Result<(), Fail> {
-    let rows: [Row; 2] = [
+    let rows: [Row; 3] = [
         (
             b"schedule 1 fail kv/raft 3\ntick 0\ndeliver 0\ndeliver 2\nin 0 7 1 put a x\ncrash 0\nreboot 0\ntick 0\ndeliver 7\ndeliver 9\ndeliver 10\ndeliver 12\ndeliver 13\ndeliver 14\n",
             0,
@@ -284,6 +285,13 @@ fn an_entry_of_an_earlier_term_waits_for_one_of_the_leaders_own(
         ),
         (
             b"schedule 1 fail kv/raft 3\ntick 0\ndeliver 0\ndeliver 2\nin 0 7 1 put a x\ncrash 0\nreboot 0\ntick 0\ndeliver 7\ndeliver 9\ndeliver 10\ndeliver 12\ndeliver 13\ndeliver 14\nin 0 7 2 get a\ndeliver 15\ndeliver 17\n",
+            0,
+            b"in 0 7 1 put a x\nin 0 7 2 get a\nbelow\n",
+            b"",
+        ),
+        // Its own no-op commits it, and the request after it.
+        (
+            b"schedule 1 fail kv/raft 3\ntick 0\ndeliver 0\ndeliver 2\nin 0 7 1 put a x\ncrash 0\nreboot 0\ntick 0\ndeliver 7\ndeliver 9\ndeliver 10\ndeliver 12\ndeliver 13\ndeliver 14\nin 0 7 2 get a\ndeliver 15\ndeliver 17\ndeliver 18\ndeliver 20\ndeliver 21\n",
             0,
             b"in 0 7 1 put a x\nin 0 7 2 get a\nout 0 reply 7 1 a =x -\nout 0 reply 7 2 a =x =x\nbelow\norder 7 1 put a x\norder 7 2 get a\n",
             b"",
@@ -303,6 +311,19 @@ fn a_request_that_is_put_in_again_at_another_leader_is_executed_once(
         b"schedule 1 fail kv/raft 3\ntick 0\ndeliver 0\ndeliver 2\nin 0 7 1 put a x\ndeliver 5\ndeliver 7\ntick 1\ndeliver 9\ndeliver 10\nin 1 7 1 put a x\ndeliver 13\ndeliver 15\n",
         0,
         b"in 0 7 1 put a x\nout 0 reply 7 1 a =x -\nin 1 7 1 put a x\nout 1 reply 7 1 a =x -\nbelow\norder 7 1 put a x\n",
+        b"",
+    );
+    assert!(rt; holds(rt.alloc(), row)?);
+    Ok(())
+}
+
+// Four votes of nine elect nobody, five do.
+#[test]
+fn a_majority_of_nine_nodes_is_five(rt: HostRuntime) -> Result<(), Fail> {
+    let row: Row = (
+        b"schedule 1 fail kv/raft 9\ntick 0\ndeliver 0\ndeliver 1\ndeliver 2\ndeliver 3\ndeliver 8\ndeliver 9\ndeliver 10\nin 0 7 1 put a x\ndeliver 11\nin 0 7 2 get a\n",
+        0,
+        b"in 0 7 1 put a x\nout 0 notleader 7 1\nin 0 7 2 get a\nbelow\n",
         b"",
     );
     assert!(rt; holds(rt.alloc(), row)?);
@@ -331,7 +352,7 @@ fn steps_that_a_cluster_cannot_take_are_refused(rt: HostRuntime) -> Result<(), F
             b"line 2: no copy\n",
         ),
         (
-            b"schedule 1 fail kv/raft 6\ntick 0\n",
+            b"schedule 1 fail kv/raft 10\ntick 0\n",
             3,
             b"",
             b"line 1: header\n",

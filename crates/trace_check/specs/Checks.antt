@@ -3,6 +3,7 @@ use Rattle.std.specs.Prelude.{ℕ, List, Option, Some, None, Result, Ok, Err}
 use Rattle.vst_base.specs.declared.lock.LockInput.{LockInput}
 use Rattle.vst_base.specs.declared.lock.LockOutput.{LockOutput}
 use Rattle.vst_base.specs.declared.net.Net.TheVariants as net
+use Rattle.vst_base.specs.declared.node.TheConstants.{MAX_NODES}
 use Rattle.vst_base.specs.declared.pb_out.PbOut.{PbOut}
 use Rattle.vst_base.specs.declared.stack.StackId.{StackId}
 use Rattle.vst_base.specs.declared.stack.StackId.TheVariants as stack
@@ -44,7 +45,7 @@ kv_pb_form = record { nodes = 2; input_of = kv_texts.input_of; output_of = pb_ou
 
 abbrev pub kv_raft_form : Form (RaftInput KvCmd) (RaftOut KvOut) (RaftInput KvCmd)
 kv_raft_form = record {
-  nodes = 5;
+  nodes = MAX_NODES;
   input_of = raft_input_of kv_texts.input_of;
   output_of = raft_output_of kv_texts.output_of;
   heading = heading.Absent;

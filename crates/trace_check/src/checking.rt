@@ -18,7 +18,7 @@ use outside::Source;
 use raft_text::KvRaftText;
 use single_node::is_the_machine;
 use std::alloc::{AllocError, Global};
-use vst_base::{LockInput, LockOutput, StackId, Step};
+use vst_base::{LockInput, LockOutput, MAX_NODES, StackId, Step};
 use xform_stack::{run_bag, run_one};
 
 // The verdict on a claim on the lock server: its image is a schedule on a bag.
@@ -94,7 +94,12 @@ fn check_kv_raft<S: Source>(alloc: Global, source: &mut S) -> Result<Verdict, Ch
     ensures fault { IfErr result (HasFault (S.faults source.old) (S.faults source.new)) }
     ensures counts { S.faults source.old ≤ S.faults source.new }
 {
-    let claim = read_claim::<KvRaftText, Orders<KvRaftText>, S>(alloc, 5, Heading::Absent, source)?;
+    let claim = read_claim::<KvRaftText, Orders<KvRaftText>, S>(
+        alloc,
+        MAX_NODES,
+        Heading::Absent,
+        source,
+    )?;
     let verdict = cluster_verdict::<KvMachine, KvText>(alloc, &KvMachine, &claim)?;
     Ok(verdict)
 }

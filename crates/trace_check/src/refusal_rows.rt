@@ -25,7 +25,7 @@ pub fn worked_refusals()
     ensures no_number { checked StackId.Lock (codes "in 01 grab\n") ≡ Err (1, Why.Number) }
     ensures no_such_node { checked StackId.Lock (codes "in 9 grab\n") ≡ Err (1, Why.NoSuchNode) }
     ensures no_such_node_of_two { checked StackId.KvPb (codes "out 2 redirect\n") ≡ Err (1, Why.NoSuchNode) }
-    ensures no_such_node_of_five { checked StackId.KvRaft (codes "out 5 full 7 1\n") ≡ Err (1, Why.NoSuchNode) }
+    ensures no_such_node_of_nine { checked StackId.KvRaft (codes "out 9 full 7 1\n") ≡ Err (1, Why.NoSuchNode) }
     ensures no_such_node_of_one { checked StackId.Kv (codes "in 1 get a\n") ≡ Err (1, Why.NoSuchNode) }
     ensures no_text { checked StackId.Lock (codes "in 8 locked\n") ≡ Err (1, Why.Text) }
     ensures output_of_another_stack { checked StackId.Kv (codes "out 0 redirect\n") ≡ Err (1, Why.Text) }

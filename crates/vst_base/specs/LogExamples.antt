@@ -1,10 +1,15 @@
 -- Logs that definitions are computed on.
 use Rattle.std.specs.Prelude.{ℕ, List, [], ◌∷◌, map}
 use Rattle.vst_base.specs.declared.entry.Entry.{Entry}
+use Rattle.vst_base.specs.declared.what.What.TheVariants.{Noop, Request}
 
--- an entry of this term, told from others of it by the command
+-- a request in this term, told from others of it by the command
 abbrev pub entry : ℕ → ℕ → Entry ℕ
-entry term cmd = record { term = term; client = 7; request = 1; origin = 0; cmd = cmd }
+entry term cmd = record { term = term; what = Request 7 1 0 cmd }
+
+-- what a new leader of this term adds
+abbrev pub noop : ℕ → Entry ℕ
+noop term = record { term = term; what = Noop }
 
 -- a log of entries of these terms, all of one request
 abbrev pub log : List ℕ → List (Entry ℕ)

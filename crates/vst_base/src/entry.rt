@@ -1,53 +1,44 @@
 ghost use Rattle.std.specs.Prelude.{◌≡◌};
 
-use crate::{ClientId, Node, ReqId};
+use crate::What;
 use std::marker::Model;
 
 /// The greatest term. A node in it never becomes a candidate again.
 pub const MAX_TERM: u64 = 9_223_372_036_854_775_807;
 
-/// An entry of a log: a client's request, the term in which a leader took it, from 1 to `MAX_TERM`, and
-/// the node that took it, from 0 to 8. Contracts see the record of its parts.
+/// An entry of a log: the term in which a leader added it, from 1 to `MAX_TERM`, and what it holds, where the
+/// node that took a request is one below `MAX_NODES`. Contracts see the record of these.
 #[derive(Debug, Drop, PartialEq, Eq)]
 pub struct Entry<C> {
     term: u64,
-    client: ClientId,
-    request: ReqId,
-    origin: Node,
-    cmd: C,
+    what: What<C>,
 }
 
 impl<C> Model for Entry<C> {
-    ghost use Rattle.vst_base.specs.Entries.{EntryView, IsElectionTerm, IsOrigin};
+    ghost use Rattle.vst_base.specs.Entries.{EntryView, HasOrigin, IsElectionTerm};
 
     ghost Value = { EntryView C };
 
-    ghost view = { λ e. record { term = e.term; client = e.client; request = e.request; origin = e.origin; cmd = e.cmd } };
+    ghost view = { λ e. record { term = e.term; what = e.what } };
 
-    ghost invariant = { λ e. IsElectionTerm e.term × IsOrigin e.origin };
+    ghost invariant = { λ e. IsElectionTerm e.term × HasOrigin e.what };
 
-    ghost inverse = { λ v. record { term = v.term; client = v.client; request = v.request; origin = v.origin; cmd = v.cmd } };
+    ghost inverse = { λ v. record { term = v.term; what = v.what } };
 }
 
 impl<C> Entry<C> {
-    ghost use Rattle.vst_base.specs.Entries.{IsElectionTerm, IsOrigin};
+    ghost use Rattle.vst_base.specs.Entries.{HasOrigin, IsElectionTerm};
 
-    /// An entry of these parts. `origin` is the node that took the request from the client.
-    pub fn new(term: u64, client: ClientId, request: ReqId, origin: Node, cmd: C) -> Self
+    /// An entry of a term, which holds this.
+    pub fn new(term: u64, what: What<C>) -> Self
         requires term { IsElectionTerm term }
-        requires origin { IsOrigin origin }
-        ensures { result ≡ record { term = term; client = client; request = request; origin = origin; cmd = cmd } }
+        requires origin { HasOrigin what }
+        ensures { result ≡ record { term = term; what = what } }
     {
-        Entry {
-            term,
-            client,
-            request,
-            origin,
-            cmd,
-        }
+        Entry { term, what }
     }
 
-    /// The term in which a leader took the request.
+    /// The term in which a leader added it.
     pub fn term(&self) -> u64
         ensures value { result ≡ self.now.term }
         ensures in_range { IsElectionTerm result }
@@ -55,32 +46,11 @@ impl<C> Entry<C> {
         self.term
     }
 
-    /// The client that asked.
-    pub fn client(&self) -> ClientId
-        ensures { result ≡ self.now.client }
+    /// What it holds.
+    pub fn what(&self) -> &What<C>
+        ensures value { result.now ≡ self.now.what }
+        ensures in_range { HasOrigin result.now }
     {
-        self.client
-    }
-
-    /// The client's number of the request.
-    pub fn request(&self) -> ReqId
-        ensures { result ≡ self.now.request }
-    {
-        self.request
-    }
-
-    /// The node that took the request from the client, and answers it.
-    pub fn origin(&self) -> Node
-        ensures value { result ≡ self.now.origin }
-        ensures in_range { IsOrigin result }
-    {
-        self.origin
-    }
-
-    /// What the machine is asked to do.
-    pub fn cmd(&self) -> &C
-        ensures { result.now ≡ self.now.cmd }
-    {
-        &self.cmd
+        &self.what
     }
 }

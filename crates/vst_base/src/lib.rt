@@ -19,6 +19,7 @@ mod seq;
 mod stack;
 mod step;
 mod token;
+mod what;
 
 pub use client::ClientId;
 pub use entry::{Entry, MAX_TERM};
@@ -26,15 +27,18 @@ pub use examples::{worked, worked_tokens};
 pub use lock::{LockInput, LockMsg, LockOutput};
 pub use machine::Machine;
 pub use net::Net;
-pub use node::Node;
+pub use node::{MAX_NODES, Node};
 pub use pb_msg::PbMsg;
 pub use pb_out::PbOut;
-pub use raft_examples::{majorities_meet, worked_commits, worked_elections, worked_logs};
+pub use raft_examples::{
+    majorities_meet, worked_commits, worked_elections, worked_entries, worked_logs,
+};
 pub use request::ReqId;
 pub use seq::SeqMsg;
 pub use stack::StackId;
 pub use step::{Item, Step, StepKind, StepRefusal};
 pub use token::{Key, MAX_KEY, MAX_VALUE, Token, Value};
+pub use what::What;
 
 #[cfg(test)]
 mod entry_tests;

@@ -1,8 +1,18 @@
-ghost use Rattle.std.specs.Prelude.{◌≡◌, [], ◌∷◌, ◌++◌, true, false, Some, None, drop, slice_index};
+ghost use Rattle.std.specs.Prelude.{◌≡◌, ℕ, [], ◌∷◌, ◌++◌, true, false, Some, None, drop, slice_index};
 ghost use Rattle.vst_base.specs.Committing.{advance, learned_commit, may_commit};
 ghost use Rattle.vst_base.specs.Elections.{MajoritiesMeet, count, is_free_for, is_majority, is_up_to_date, nobody, with_node};
+ghost use Rattle.vst_base.specs.Entries.{HasOrigin};
 ghost use Rattle.vst_base.specs.LogExamples.{entry, far_behind, leader, log, of_a_later_term, one_behind, one_more, parted_early, parted_late};
 ghost use Rattle.vst_base.specs.Logs.{accepted, has_conflict, last_term, matches, merged, term_at};
+
+use crate::What;
+
+/// The nodes that an entry may name.
+pub fn worked_entries()
+    ensures a_noop_names_none { HasOrigin {C = ℕ} What.Noop }
+    ensures the_last_node { HasOrigin {C = ℕ} (What.Request 7 1 8 5) }
+    ensures no_tenth_node { ¬ HasOrigin {C = ℕ} (What.Request 7 1 9 5) }
+{}
 
 /// Terms at indexes, what a leader's entries make of a log, and conflicts with what is committed.
 pub fn worked_logs()
@@ -55,6 +65,8 @@ pub fn worked_elections()
     ensures two_of_three { is_majority 3 (with_node 2 (with_node 0 nobody)) ≡ true }
     ensures half { is_majority 4 (with_node 3 (with_node 0 nobody)) ≡ false }
     ensures three_of_five { is_majority 5 (with_node 1 (with_node 4 (with_node 0 nobody))) ≡ true }
+    ensures four_of_nine { is_majority 9 (with_node 8 (with_node 5 (with_node 2 (with_node 0 nobody)))) ≡ false }
+    ensures five_of_nine { is_majority 9 (with_node 8 (with_node 7 (with_node 5 (with_node 2 (with_node 0 nobody))))) ≡ true }
     ensures none_of_none { is_majority 0 nobody ≡ false }
 {}
 

@@ -2,8 +2,8 @@ ghost use Rattle.std.specs.Prelude.{◌≡◌, ◌≢◌, ℕ, ◌≤◌, drop, 
 ghost use Rattle.handler_trait.specs.Handling.{Meaning};
 ghost use Rattle.net_semantics.specs.Steps.{items_of};
 ghost use Rattle.net_semantics.specs.Runs.{run, no_recovery};
-ghost use Rattle.net_semantics.specs.Shown.{IsSound, Shows};
-ghost use Rattle.net_semantics.specs.Worlds.{World as DefinedWorld, copies, ends};
+ghost use Rattle.net_semantics.specs.Shown.{IsSoundBy, ShowsBy};
+ghost use Rattle.net_semantics.specs.Worlds.{copies, ends};
 ghost use Rattle.vst_base.specs.declared.step.Step.{Step};
 ghost use Rattle.xform_stack.specs.Running.{HasFollowed, system_of};
 
@@ -59,7 +59,7 @@ impl<H: Handlers, T: TraceMap<H>> Running<H, T> {
         ensures started { IfOk result (λ running. HasFollowed (H.meaning handlers) T.has_followed running []) }
         ensures trace { IfOk result (λ running. running.world.trace ≡ []) }
         ensures taken { IfOk result (λ running. running.world.taken ≡ 0) }
-        ensures sound { IfOk result (λ running. IsSound (H.meaning handlers) (H.sound handlers) (H.spent handlers) running.world) }
+        ensures sound { IfOk result (λ running. IsSoundBy H.Handlers running.world) }
     {
         let world = World::new(alloc, handlers, net)?;
         Ok(Running {
@@ -71,29 +71,29 @@ impl<H: Handlers, T: TraceMap<H>> Running<H, T> {
 
     /// How many copies of packet `k` are in flight, none of one that was never sent.
     pub fn copies(&self, k: u32) -> u32
-        ensures { (w : DefinedWorld H.State H.State H.Msg) → Shows (H.meaning self.now.world.handlers).nodes self.now.world w → result ≡ copies w k }
+        ensures { (w : _) → ShowsBy H.Handlers self.now.world w → result ≡ copies w k }
     {
         self.world.copies(k)
     }
 
     /// The source and the destination of packet `k`, and `None` exactly where it was never sent.
     pub fn ends(&self, k: u32) -> Option<(Node, Node)>
-        ensures { (w : DefinedWorld H.State H.State H.Msg) → Shows (H.meaning self.now.world.handlers).nodes self.now.world w → result ≡ ends w k }
+        ensures { (w : _) → ShowsBy H.Handlers self.now.world w → result ≡ ends w k }
     {
         self.world.ends(k)
     }
 
     /// How many packets were sent.
     pub fn sent(&self) -> u32
-        requires sound { IsSound (H.meaning self.now.world.handlers) (H.sound self.now.world.handlers) (H.spent self.now.world.handlers) self.now.world }
-        ensures { (w : DefinedWorld H.State H.State H.Msg) → Shows (H.meaning self.now.world.handlers).nodes self.now.world w → result ≡ length w.packets }
+        requires sound { IsSoundBy H.Handlers self.now.world }
+        ensures { (w : _) → ShowsBy H.Handlers self.now.world w → result ≡ length w.packets }
     {
         self.world.sent()
     }
 
     /// Whether node `n` is up.
     pub fn is_up(&self, n: Node) -> bool
-        ensures { (w : DefinedWorld H.State H.State H.Msg) → Shows (H.meaning self.now.world.handlers).nodes self.now.world w → result ≡ w.is_up n }
+        ensures { (w : _) → ShowsBy H.Handlers self.now.world w → result ≡ w.is_up n }
     {
         self.world.is_up(n)
     }
@@ -118,7 +118,7 @@ impl<H: Handlers, T: TraceMap<H>> Runs for Running<H, T> {
 
     ghost follows = { λ r ss. HasFollowed (H.meaning r.world.handlers) T.has_followed r ss };
 
-    ghost sound = { λ r. IsSound (H.meaning r.world.handlers) (H.sound r.world.handlers) (H.spent r.world.handlers) r.world };
+    ghost sound = { λ r. IsSoundBy H.Handlers r.world };
 
     fn step(&mut self, step: &Step<H::Input>) -> Result<(), RunFault> {
         let place = self.world.taken();

@@ -1,10 +1,10 @@
 use Rattle.std.proofs.Common.{◌≡◌}
-use Rattle.net_semantics.specs.Shown.{IsSound}
+use Rattle.net_semantics.specs.Shown.{IsSoundBy}
 use Rattle.net_semantics.proofs.tests.after.Given as goal
 
 abbrev pub invariant-loop-step : goal.invariant-loop-step
 invariant-loop-step g l = record {
   handlers : l.world.handlers ≡ l.fn.handlers;
   taken : l.world.taken ≡ l.step-index;
-  sound : IsSound (g.H.Handlers.meaning l.fn.handlers) (g.H.Handlers.sound l.fn.handlers) (g.H.Handlers.spent l.fn.handlers) l.world;
+  sound : IsSoundBy g.H.Handlers l.world;
 }

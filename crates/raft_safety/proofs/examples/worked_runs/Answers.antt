@@ -3,6 +3,7 @@ use Rattle.std.proofs.Common.{◌≡◌, ℕ, List, [], ◌∷◌, ◌++◌, map
 use Rattle.std.specs.Cmp.{nat_cmp_total}
 use Rattle.std.specs.FinMap.{empty, get-empty, get-insert}
 use Rattle.vst_base.specs.Examples.{counter}
+use Rattle.vst_base.specs.LogExamples.{noop}
 use Rattle.vst_base.specs.declared.entry.Entry.{Entry}
 use Rattle.vst_base.specs.declared.step.Item.TheVariants as item
 use Rattle.vst_base.specs.declared.step.Step.TheVariants as step
@@ -23,16 +24,22 @@ pub returns-clause-told_by_the_lesser : goal.returns-clause-told_by_the_lesser
 returns-clause-told_by_the_lesser c = simp lookups
 
 -- what both nodes answer, and what they tell by it
-once : (applied_all counter 0 empty (five 1 0 ∷ [])).answers ≡ (five 1 0, 0) ∷ []
+abbrev first : List (Entry ℕ)
+first = noop 1 ∷ five 1 0 ∷ []
+
+abbrev second : List (Entry ℕ)
+second = noop 1 ∷ five 1 0 ∷ noop 2 ∷ five 2 1 ∷ []
+
+once : (applied_all counter 0 empty first).answers ≡ (five 1 0, 0) ∷ []
 once = simp lookups
 
-again : (applied_all counter 0 empty (five 1 0 ∷ five 2 1 ∷ [])).answers ≡ (five 1 0, 0) ∷ (five 2 1, 0) ∷ []
+again : (applied_all counter 0 empty second).answers ≡ (five 1 0, 0) ∷ (five 2 1, 0) ∷ []
 again = simp lookups
 
 tells : List (Entry ℕ × ℕ) → List (Entry ℕ × ℕ) → Seen ℕ ℕ
-tells first second = put (asks 7 1 5) ∷ (map (λ o. item.Output 0 o) (replies 0 first) ++ item.Input 1 (asks 7 1 5) ∷ (map (λ o. item.Output 1 o) (replies 1 second) ++ []))
+tells xs ys = put (asks 7 1 5) ∷ (map (λ o. item.Output 0 o) (replies 0 xs) ++ item.Input 1 (asks 7 1 5) ∷ (map (λ o. item.Output 1 o) (replies 1 ys) ++ []))
 
-told : seen counter 3 asked_again ≡ tells (applied_all counter 0 empty (five 1 0 ∷ [])).answers (applied_all counter 0 empty (five 1 0 ∷ five 2 1 ∷ [])).answers
+told : seen counter 3 asked_again ≡ tells (applied_all counter 0 empty first).answers (applied_all counter 0 empty second).answers
 unfolding tells
 told = refl
 
@@ -45,3 +52,6 @@ returns-clause-other_moments c = record { early = asked_once; late = step.Reboot
 
 pub returns-clause-reached : goal.returns-clause-reached
 returns-clause-reached c = record { steps = started_again; run = record { size = (omega arith, omega arith); allowed = refl }; is = refl }
+
+pub returns-clause-moments_of_nine : goal.returns-clause-moments_of_nine
+returns-clause-moments_of_nine c = record { early = []; late = step.Tick 0 ∷ []; run = record { size = (omega arith, omega arith); allowed = refl }; first = refl; second = refl }

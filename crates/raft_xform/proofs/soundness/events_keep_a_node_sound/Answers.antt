@@ -16,4 +16,4 @@ pub returns-clause-message : goal.returns-clause-message
 returns-clause-message g c = λ nodes me from m s message sound below range. (keeps_message sound m from below message range).sound
 
 pub returns-clause-timeout : goal.returns-clause-timeout
-returns-clause-timeout g c = λ nodes me m s sound. (keeps_tick sound).sound
+returns-clause-timeout g c = λ nodes me m s sound. (keeps_tick sound m).sound

@@ -8,4 +8,4 @@ pub returns-clause-message : goal.returns-clause-message
 returns-clause-message g c = λ nodes me from m s message sound below range. (message_in_range sound m from below message range).sends
 
 pub returns-clause-timeout : goal.returns-clause-timeout
-returns-clause-timeout g c = λ nodes me m s sound. (tick_in_range sound).sends
+returns-clause-timeout g c = λ nodes me m s sound. (tick_in_range sound m).sends

@@ -15,6 +15,8 @@ returns-clause-first g c =
 
 pub returns-clause-sound : goal.returns-clause-sound
 returns-clause-sound g c =
-    sound_fail (g.H.Handlers.meaning c.args.handlers) (g.H.Handlers.sound c.args.handlers) (g.H.Handlers.spent c.args.handlers) (g.H.Rebootable.fits c.args.handlers) c.in_ok-world.world c.in_ok-stopped.stopped
-    c.in_ok-world.ensures.sound (c.in_ok-stopped.ensures.nodes ∙ c.nodes-nodes.ensures)
-    (λ n. subst (λ o. IfSome o (g.H.Rebootable.fits c.args.handlers)) (sym (c.in_ok-stopped.ensures.up n)) tt)
+    let meant = g.H.Handlers.meaning in let fits = g.H.Rebootable.fits in
+    let world = c.in_ok-world.world in let h = world.handlers in
+    sound_fail (meant h) (g.H.Handlers.sound h) (g.H.Handlers.spent h) (fits h) world c.in_ok-stopped.stopped c.in_ok-world.ensures.sound
+    (c.in_ok-stopped.ensures.nodes ∙ (c.nodes-nodes.ensures ∙ ap (λ x. (meant x).nodes) (sym c.in_ok-world.ensures.handlers)))
+    (λ n. subst (λ o. IfSome o (fits h)) (sym (c.in_ok-stopped.ensures.up n)) tt)

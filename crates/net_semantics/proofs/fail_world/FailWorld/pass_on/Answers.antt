@@ -1,4 +1,9 @@
 use Rattle.std.proofs.Common.{sym, subst}
+use Rattle.std.specs.Prelude.{OnOk}
+use Rattle.net_semantics.specs.Worlds.{World}
+use Rattle.net_semantics.specs.Steps.{next}
+use Rattle.net_semantics.specs.Runs.{no_recovery}
+use Rattle.net_semantics.specs.Shown.{IsSound, Shows}
 use Rattle.net_semantics.specs.ShownFail.{IsSoundFail, ShowsFail}
 use Rattle.net_semantics.specs.TakingFail.{AnswersFail}
 use Rattle.net_semantics.proofs.FailShowing.{fail_view}
@@ -13,4 +18,7 @@ returns-clause-answers g c =
     (answers_shared (meant u.handlers) (recovers u.handlers) (sound u.handlers) (spent u.handlers) (fits u.handlers) u c.step.new.self kept c.args.step.now c.requires.kind c.self.invariant
     (subst (λ v. IsSoundFail (meant v.handlers) (sound v.handlers) (spent v.handlers) (fits v.handlers) v) (sym c.self.view_is) c.requires.sound)
     (λ w sh. c.in_ok-acting_up.ensures.up w (subst (λ v. ShowsFail (meant v.handlers).nodes v w) c.self.view_is sh))
-    c.step.ensures.handlers c.step.result c.step.ensures.refused c.step.ensures.unchanged c.step.ensures.next c.step.ensures.trace c.step.ensures.trace_grows c.step.ensures.taken c.step.ensures.sound)
+    c.step.ensures.handlers c.step.result c.step.ensures.refused c.step.ensures.unchanged
+    (subst (λ h. OnOk c.step.result ((w : World _ _ _) → Shows (meant u.handlers).nodes u w → Shows (meant h).nodes c.step.new.self (next (meant u.handlers) no_recovery w c.args.step.now))) c.step.ensures.handlers c.step.ensures.next)
+    c.step.ensures.trace c.step.ensures.trace_grows c.step.ensures.taken
+    (subst (λ h. OnOk c.step.result (IsSound (meant h) (sound h) (spent h) c.step.new.self)) c.step.ensures.handlers c.step.ensures.sound))

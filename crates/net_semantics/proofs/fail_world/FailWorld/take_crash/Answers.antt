@@ -33,4 +33,4 @@ returns g c =
     (answers_crash (meant u.handlers) (recovers u.handlers) (sound u.handlers) (spent u.handlers) (fits u.handlers) u kept was
     c.in_ok-node.node found.1 k s c.held_state-state.ensures keeps fit (subst (λ v. v.taken < 1000000) (sym c.self.view_is) c.requires.steps)
     tt c.count_step.new.self c.stop.new.self c.count_step.ensures c.stop.ensures
-    (λ w sh. c.in_ok-up.ensures.ok w (subst (λ v. ShowsFail (meant v.handlers).nodes v w) c.self.view_is sh))))
+    (λ w sh. c.in_ok-up.ensures.up w (subst (λ v. ShowsFail (meant v.handlers).nodes v w) c.self.view_is sh))))

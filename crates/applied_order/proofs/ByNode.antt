@@ -13,7 +13,7 @@ use Rattle.raft_types.specs.declared.client.RaftOut.{RaftOut}
 use Rattle.raft_types.specs.declared.msg.RaftMsg.{RaftMsg}
 use Rattle.raft_xform.specs.Nodes.{RaftView}
 use Rattle.raft_xform.specs.Raft.{raft, raft_recovery}
-use Rattle.raft_safety.specs.Applied.{IsBeginning, applied_by, applied_from, applied_list, longer, longest}
+use Rattle.raft_safety.specs.Applied.{IsBeginning, applied_by, applied_list, applied_lists, longer, longest, longest_from}
 use Rattle.raft_safety.specs.Runs.{IsRun, RaftWorld, world_after}
 use Rattle.raft_safety.specs.Safety.{AppliedGrows, EachHasABeginning}
 use Rattle.applied_order.specs.Orders.{HasFollowed, OrderView}
@@ -27,27 +27,37 @@ longer_begins xs ys all x y = go (ltb (length xs) (length ys))
 
 module _ {S C O : Type 0} (m : MachineMeaning S C O) (nodes : ℕ) where
   longest_begins : (w : RaftWorld S C O) (best all : List (Entry C)) (n : ℕ) → n ≤ nodes → IsBeginning best all →
-      ((i : ℕ) → i < nodes → IsBeginning (applied_list (w.state i)) all) → IsBeginning (longest n w best) all
+      ((i : ℕ) → i < nodes → IsBeginning (applied_list (w.state i)) all) → IsBeginning (longest n (applied_lists w) best) all
   longest_begins w best all zero h begins each = begins
-  longest_begins w best all (suc n) h begins each = longer_begins _ _ all (longest_begins w best all n (omega arith) begins each) (each n (omega arith))
+  longest_begins w best all (suc n) h begins each =
+      longer_begins _ _ all (longest_begins w best all n (omega arith) begins each) (each n (omega arith))
 
   one_step : (w : RaftWorld S C O) (best : List (Entry C)) (ss : List (Step (RaftInput C))) (s : Step (RaftInput C)) →
-      applied_from m nodes w best (ss ++ s ∷ []) ≡ longest nodes (run_from (raft nodes m) (raft_recovery m) w (ss ++ s ∷ [])) (applied_from m nodes w best ss)
+      longest_from applied_lists m nodes w best (ss ++ s ∷ [])
+      ≡ longest nodes (applied_lists (run_from (raft nodes m) (raft_recovery m) w (ss ++ s ∷ [])))
+      (longest_from applied_lists m nodes w best ss)
   one_step w best [] s = refl
-  one_step w best (t ∷ ss) s = let after = next (raft nodes m) (raft_recovery m) w t in one_step after (longest nodes after best) ss s
+  one_step w best (t ∷ ss) s =
+      let after = next (raft nodes m) (raft_recovery m) w t in
+      one_step after (longest nodes (applied_lists after) best) ss s
 
   -- once so many nodes were looked at, it is what is kept of the longest list of theirs
-  pub record Follows {H : Type 0} (v : FailView H (RaftView S C O) (KeptView C) (RaftInput C) (RaftOut O) (RaftMsg C)) (n : ℕ) (old now : OrderView C) : Type 0 where
-    pub so_far : (ss : List (Step (RaftInput C))) (s : Step (RaftInput C)) → IsRun m nodes (ss ++ s ∷ []) → ShowsFail nodes v (world_after m nodes (ss ++ s ∷ [])) →
-        HasFollowed old (applied_by m nodes ss) → HasFollowed now (longest n (world_after m nodes (ss ++ s ∷ [])) (applied_by m nodes ss))
+  pub record Follows {H : Type 0} (v : FailView H (RaftView S C O) (KeptView C) (RaftInput C) (RaftOut O) (RaftMsg C))
+      (n : ℕ) (old now : OrderView C) : Type 0 where
+    pub so_far : (ss : List (Step (RaftInput C))) (s : Step (RaftInput C)) → IsRun m nodes (ss ++ s ∷ []) →
+        ShowsFail nodes v (world_after m nodes (ss ++ s ∷ [])) →
+        HasFollowed old (applied_by m nodes ss) →
+        HasFollowed now (longest n (applied_lists (world_after m nodes (ss ++ s ∷ []))) (applied_by m nodes ss))
 
   module _ {H : Type 0} (v : FailView H (RaftView S C O) (KeptView C) (RaftInput C) (RaftOut O) (RaftMsg C)) where
     pub follows_first : (o : OrderView C) → Follows v 0 o o
     follows_first o = record { so_far = λ ss s run shows had. had }
 
-    pub follows_more : AppliedGrows S C O → EachHasABeginning S C O → (n : ℕ) (old now next : OrderView C) (state : RaftView S C O) → n < nodes →
+    pub follows_more : AppliedGrows S C O → EachHasABeginning S C O →
+        (n : ℕ) (old now next : OrderView C) (state : RaftView S C O) → n < nodes →
         ((w : RaftWorld S C O) → ShowsFail nodes v w → state ≡ w.state n) →
-        ((all es : List (Entry C)) → IsBeginning es all → IsBeginning (applied_list state) all → HasFollowed now es → HasFollowed next (longer es (applied_list state))) →
+        ((all es : List (Entry C)) → IsBeginning es all → IsBeginning (applied_list state) all → HasFollowed now es →
+        HasFollowed next (longer es (applied_list state))) →
         Follows v n old now → Follows v (n + 1) old next
     follows_more grows each n old now next state below tells caught was = record {
       so_far = λ ss s run shows had.
@@ -59,9 +69,11 @@ module _ {S C O : Type 0} (m : MachineMeaning S C O) (nodes : ℕ) where
           let is : state ≡ w.state n = tells w shows in
           let one : n + 1 ≡ suc n = omega arith in
           let state_begins : IsBeginning (applied_list state) all = rw is (each_begins n below) in
-          rw one (rw (← is) (caught all (longest n w best) begins state_begins (was.so_far ss s run shows had)));
+          rw one (rw (← is) (caught all (longest n (applied_lists w) best) begins state_begins (was.so_far ss s run shows had)));
     }
 
-    pub follows_all : (old now : OrderView C) → Follows v nodes old now → (ss : List (Step (RaftInput C))) (s : Step (RaftInput C)) → IsRun m nodes (ss ++ s ∷ []) →
-        ShowsFail nodes v (world_after m nodes (ss ++ s ∷ [])) → HasFollowed old (applied_by m nodes ss) → HasFollowed now (applied_by m nodes (ss ++ s ∷ []))
+    pub follows_all : (old now : OrderView C) → Follows v nodes old now →
+        (ss : List (Step (RaftInput C))) (s : Step (RaftInput C)) → IsRun m nodes (ss ++ s ∷ []) →
+        ShowsFail nodes v (world_after m nodes (ss ++ s ∷ [])) → HasFollowed old (applied_by m nodes ss) →
+        HasFollowed now (applied_by m nodes (ss ++ s ∷ []))
     follows_all old now was ss s run shows had = rw (one_step (first_world (raft nodes m)) [] ss s) (was.so_far ss s run shows had)
