@@ -1,4 +1,4 @@
--- How leaders are elected.
+-- How leaders are elected (the Raft paper, sections 5.1, 5.2 and 5.4.1, and Figure 2).
 use Rattle.std.specs.Prelude.{ℕ, Bool, true, false, ◌&&◌, [], ◌∷◌, nat_lt, ◌==◌, if◌then◌else◌}
 use Rattle.vst_base.specs.Elections.{is_majority, is_up_to_date}
 use Rattle.vst_base.specs.Machines.{MachineMeaning}

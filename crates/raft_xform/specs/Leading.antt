@@ -1,4 +1,4 @@
--- What a leader does with its log.
+-- What a leader does with its log (the Raft paper, section 5.3 and Figure 2, Rules for Servers).
 use Rattle.std.specs.Prelude.{ℕ, List, [], ◌∷◌, ◌++◌, length, nat_lt, replicate, if◌then◌else◌}
 use Rattle.vst_base.specs.Machines.{MachineMeaning}
 use Rattle.vst_base.specs.declared.what.What.{What}

@@ -1,4 +1,4 @@
--- What a node of a Raft cluster knows.
+-- What a node of a Raft cluster knows (the Raft paper, Figure 2, State).
 use Rattle.std.specs.Prelude.{ℕ, Bool, true, false, List, [], Option, slice_index_or, slice_set}
 use Rattle.std.specs.FinMap as map
 use Rattle.handler_trait.specs.Handling.{Effect}

@@ -1,4 +1,4 @@
--- Raft of a machine, as handlers: the machine is replicated on a cluster of so many nodes.
+-- Raft of a machine, as handlers (the Raft paper, Figure 2): the machine is replicated on a cluster of so many nodes.
 use Rattle.std.specs.Prelude.{ℕ, true, [], None}
 use Rattle.handler_trait.specs.Handling.{Meaning, Recovery}
 use Rattle.vst_base.specs.Machines.{MachineMeaning}

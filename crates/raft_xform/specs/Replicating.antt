@@ -1,4 +1,4 @@
--- How the leader's log comes to the other nodes.
+-- How the leader's log comes to the other nodes (the Raft paper, section 5.3 and Figure 2).
 use Rattle.std.specs.Prelude.{ℕ, ◌+◌, Bool, true, false, not, ◌&&◌, List, [], ◌∷◌, length, nat_lt, ◌==◌, if◌then◌else◌}
 use Rattle.vst_base.specs.Committing.{learned_commit}
 use Rattle.vst_base.specs.Logs.{accepted, has_conflict, matches}

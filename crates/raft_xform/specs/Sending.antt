@@ -1,4 +1,4 @@
--- What a node sends of its own accord, and to whom.
+-- What a node sends of its own accord, and to whom (the Raft paper, Figure 2, Rules for Servers).
 use Rattle.std.specs.Prelude.{ℕ, zero, suc, ◌-◌, List, [], ◌∷◌, ◌++◌, length, nat_le, ◌==◌, if◌then◌else◌}
 use Rattle.vst_base.specs.Logs.{last_term, term_at}
 use Rattle.raft_commit.specs.Batches.{batch}

@@ -63,7 +63,7 @@ fn apply_all<M: Machine>(
     Ok(())
 }
 
-/// Applies the entries that are committed and not applied.
+/// Applies the entries that are committed and not applied (Figure 2, Rules for Servers).
 pub(crate) fn catch_up<M: Machine>(
     alloc: Global,
     machine: &M,
@@ -90,7 +90,7 @@ pub(crate) fn catch_up<M: Machine>(
     Ok(())
 }
 
-/// A leader commits what it may, and applies it.
+/// A leader commits what it may (sections 5.3 and 5.4.2), and applies it.
 pub(crate) fn settle<M: Machine>(
     alloc: Global,
     machine: &M,

@@ -36,7 +36,7 @@ fn campaign<M: Machine>(
 }
 
 /// The timer fires: a leader repeats its heartbeats, and any other node starts an election in the next term,
-/// if there is one.
+/// if there is one (section 5.2).
 pub(crate) fn tick<M: Machine>(
     alloc: Global,
     machine: &M,
@@ -58,7 +58,7 @@ pub(crate) fn tick<M: Machine>(
     campaign(alloc, machine, seat, state, effects)
 }
 
-/// Learns of a message's term: in a greater one the node follows, and has not voted.
+/// Learns of a message's term: in a greater one the node follows, and has not voted (section 5.1).
 pub(crate) fn hear<S, C, O>(state: &mut RaftState<S, C, O>, term: u64)
     requires { IsTerm term }
     ensures { state.new ≡ rules.heard term state.old }
@@ -68,7 +68,7 @@ pub(crate) fn hear<S, C, O>(state: &mut RaftState<S, C, O>, term: u64)
     }
 }
 
-/// Answers a candidate that asks for a vote.
+/// Answers a candidate that asks for a vote (Figure 2, RequestVote RPC).
 pub(crate) fn on_request<S, C: Drop, O: Drop>(
     state: &mut RaftState<S, C, O>,
     from: Node,
@@ -87,7 +87,7 @@ pub(crate) fn on_request<S, C: Drop, O: Drop>(
     effects.send(from, RaftMsg::Vote(vote));
 }
 
-/// Counts a vote of its term as a candidate, and leads once it has a majority.
+/// Counts a vote of its term as a candidate, and leads once it has a majority (section 5.2).
 pub(crate) fn on_vote<M: Machine>(
     alloc: Global,
     machine: &M,

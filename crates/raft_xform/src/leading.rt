@@ -16,7 +16,7 @@ use raft_types::{MAX_INDEX, RaftMsg, RaftOut};
 use std::alloc::{AllocError, Global};
 use vst_base::{Entry, Machine, What};
 
-/// A leader adds an entry of its term at the end of its log.
+/// A leader adds an entry of its term at the end of its log (section 5.3).
 pub(crate) fn add_entry<S, C: Drop, O>(
     state: &mut RaftState<S, C, O>,
     what: What<C>,
@@ -56,7 +56,7 @@ fn new_peers(alloc: Global, nodes: u8, len: u32) -> Result<Vec<Peer>, AllocError
 }
 
 /// Becomes the leader. Its first entry is a no-op, where its log has room: with it the entries
-/// of earlier terms are committed too, and it waits for no client.
+/// of earlier terms are committed too, and it waits for no client (sections 5.4.2 and 8).
 pub(crate) fn lead<M: Machine>(
     alloc: Global,
     machine: &M,

@@ -1,4 +1,4 @@
-//! Raft: a machine is carried to a cluster of nodes that fail. It knows nothing of
+//! Raft: a machine is carried to a cluster of nodes that fail (the Raft paper, Figure 2). It knows nothing of
 //! what the machine does.
 #![tactic(auto)]
 

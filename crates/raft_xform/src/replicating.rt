@@ -41,7 +41,7 @@ fn propose<M: Machine>(
     add_entry(state, what)
 }
 
-/// A client's request comes: to a node that does not lead, to a leader whose log is full, or to
+/// A client's request comes (section 5.3): to a node that does not lead, to a leader whose log is full, or to
 /// one that takes it.
 pub(crate) fn on_input<M: Machine>(
     alloc: Global,
@@ -85,7 +85,7 @@ fn answer<S, C: Drop, O: Drop>(
     effects.send(to, RaftMsg::Appended(appended));
 }
 
-/// A leader's entries come.
+/// A leader's entries come (Figure 2, AppendEntries RPC).
 pub(crate) fn on_append<M: Machine>(
     alloc: Global,
     machine: &M,
@@ -165,7 +165,7 @@ fn note<S, C: Drop, O>(state: &mut RaftState<S, C, O>, from: Node, appended: &Ap
     peer.on_answer(appended.ok(), appended.index(), last)
 }
 
-/// A node's answer to the leader's entries comes.
+/// A node's answer to the leader's entries comes (section 5.3).
 pub(crate) fn on_appended<M: Machine>(
     alloc: Global,
     machine: &M,

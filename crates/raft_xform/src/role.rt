@@ -1,7 +1,7 @@
 ghost use Rattle.std.specs.Prelude.{◌≡◌};
 ghost use Rattle.raft_xform.specs.Nodes as node;
 
-/// What a node is in its term.
+/// What a node is in its term (the Raft paper, Figure 4).
 #[derive(Clone, Copy, Debug, PartialEq, Eq)]
 pub enum Role {
     Follower,

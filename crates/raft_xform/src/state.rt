@@ -5,7 +5,7 @@ use raft_election::Ballot;
 use raft_log::Log;
 use std::marker::Model;
 
-/// What a node knows: its role; its term, its vote and the votes that it
+/// What a node knows (the Raft paper, Figure 2, State): its role; its term, its vote and the votes that it
 /// counted; its log, up to which index it knows it to be committed, and up to which it has applied it; what
 /// it knows of each node's log as a leader; the machine's state, and the sessions of clients. Contracts see
 /// the record of these.

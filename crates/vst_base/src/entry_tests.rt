@@ -1,8 +1,9 @@
 use super::*;
 
-// A request's entry of these parts.
-fn entry(term: u64, client: u64, request: u64, origin: Node, cmd: u8) -> Entry<u8> {
+// A request's entry of these parts, which node 0 or 1 took.
+fn entry(term: u64, client: u64, request: u64, origin: u8, cmd: u8) -> Entry<u8> {
     let (client, request) = (ClientId::new(client), ReqId::new(request));
+    let origin = Node::new(origin.clamp(0, 1), 2).unwrap();
     let what = What::Request {
         client,
         request,
@@ -14,16 +15,14 @@ fn entry(term: u64, client: u64, request: u64, origin: Node, cmd: u8) -> Entry<u
 
 #[test]
 fn entries_differ_where_a_part_does(rt: HostRuntime) {
-    let first = Node::new(0, 2).unwrap();
-    let second = Node::new(1, 2).unwrap();
-    let known = entry(3, 1, 2, first, 5);
+    let known = entry(3, 1, 2, 0, 5);
     for (term, client, request, origin, cmd, equal) in [
-        (3, 1, 2, first, 5, true),
-        (4, 1, 2, first, 5, false),
-        (3, 2, 2, first, 5, false),
-        (3, 1, 1, first, 5, false),
-        (3, 1, 2, second, 5, false),
-        (3, 1, 2, first, 6, false),
+        (3, 1, 2, 0, 5, true),
+        (4, 1, 2, 0, 5, false),
+        (3, 2, 2, 0, 5, false),
+        (3, 1, 1, 0, 5, false),
+        (3, 1, 2, 1, 5, false),
+        (3, 1, 2, 0, 6, false),
     ] {
         let other = entry(term, client, request, origin, cmd);
         assert!(rt; (known == other) == equal);
