@@ -31,3 +31,12 @@ six_entries = five_entries ++ asks 9 4 8 ∷ []
 
 abbrev pub kept_of_six : OrderView ℕ
 kept_of_six = record kept_of_five { entries = 6 }
+
+-- or goes on, in the place of that
+abbrev pub kept_of_another : OrderView ℕ
+kept_of_another = record {
+  entries = 6;
+  sessions = insert kept_of_five.sessions 9 (number 6);
+  requests = kept_of_five.requests ++ asked 9 6 2 ∷ [];
+  indexes = 1 ∷ 4 ∷ 5 ∷ 6 ∷ [];
+}

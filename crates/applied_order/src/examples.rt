@@ -1,8 +1,8 @@
-ghost use Rattle.std.specs.Prelude.{[], ◌∷◌};
+ghost use Rattle.std.specs.Prelude.{◌≡◌, [], ◌∷◌, None, Some, false, true};
 ghost use Rattle.std.specs.FinMap as map;
 ghost use Rattle.raft_clients.specs.Examples.{asked};
-ghost use Rattle.applied_order.specs.Examples.{five_entries, kept_of_five, kept_of_six, nothing, number, six_entries};
-ghost use Rattle.applied_order.specs.Orders.{HasFollowed};
+ghost use Rattle.applied_order.specs.Examples.{five_entries, kept_of_another, kept_of_five, kept_of_six, nothing, number, six_entries};
+ghost use Rattle.applied_order.specs.Orders.{HasFollowed, is_executed_by, with_entry};
 
 /// What is kept of no entry, of five and of six, and what is not: each entry is counted, a no-op too, but a
 /// no-op is no request; a client's number is the greatest and not the last; a request that comes again is not
@@ -27,5 +27,12 @@ pub fn worked_orders()
         five_entries }
     ensures not_an_index_of_another_entry { ¬ HasFollowed (record kept_of_five { indexes = 1 ∷ 3 ∷ 5 ∷ [] }) five_entries }
     ensures not_from_0 { ¬ HasFollowed (record kept_of_five { indexes = 0 ∷ 3 ∷ 4 ∷ [] }) five_entries }
+    ensures one_more_is_late { with_entry kept_of_five (Some (asked 9 4 8)) ≡ kept_of_six }
+    ensures one_more_is_a_noop { with_entry kept_of_five None ≡ kept_of_six }
+    ensures one_more_is_new { with_entry kept_of_five (Some (asked 9 6 2)) ≡ kept_of_another }
+    ensures late_is_not_executed { is_executed_by kept_of_five.sessions (Some (asked 9 4 8)) ≡ false }
+    ensures a_noop_is_not_executed { is_executed_by kept_of_five.sessions None ≡ false }
+    ensures new_is_executed { is_executed_by kept_of_five.sessions (Some (asked 9 6 2)) ≡ true }
+    ensures a_first_one_is_executed { is_executed_by kept_of_five.sessions (Some (asked 8 0 1)) ≡ true }
     ensures not_the_place_among_requests { ¬ HasFollowed (record kept_of_five { indexes = 1 ∷ 2 ∷ 3 ∷ [] }) five_entries }
 {}

@@ -19,7 +19,7 @@ use Rattle.raft_types.specs.declared.msg.RaftMsg.TheVariants as msg
 use Rattle.raft_xform.specs.declared.role.Role.TheVariants as role
 use Rattle.raft_xform.specs.Applying.{caught_up, committed, due, settled}
 use Rattle.raft_xform.specs.Electing.{campaign, candidate, has_won, heard, on_request, on_vote, sees_up_to_date, tick, vote, voted}
-use Rattle.raft_xform.specs.Leading.{and_sending, lead, led, spreads, with_entry, with_noop}
+use Rattle.raft_xform.specs.Leading.{and_sending, lead, led, broadcasts, with_entry, with_noop}
 use Rattle.raft_xform.specs.Nodes.{RaftEffect, RaftView, is_candidate, is_leader, peer_at, sending, stays}
 use Rattle.raft_xform.specs.Raft.{by_message, raft, raft_recovery}
 use Rattle.raft_xform.specs.Replicating.{answer, follower, known, last_new, may_take, moved_by, on_append, on_appended, on_input, on_moved, proposed, proposes, taken, takes, telling}
@@ -97,17 +97,17 @@ module _ {S C O : Type 0} (m : MachineMeaning S C O) (HasIn : C → Type 0) (Has
   settled-fine : (me : ℕ) (s : RaftView S C O) → IsTextNode me s → IsRaftFine me (settled m nodes me s)
   settled-fine me s text = caught-up-fine me (committed nodes me s) text
 
-  -- a leader with one more entry, that spreads its log
+  -- a leader with one more entry, that broadcasts its log
   with-entry-text : (me : ℕ) (s : RaftView S C O) (what : What C) → IsTextNode me s → IsText (record { term = s.ballot.term; what = what }) → IsTextNode me (with_entry s what)
   with-entry-text me s what text has = (each-both IsText s.log (record { term = s.ballot.term; what = what } ∷ []) text.0 (has, tt), text.1, text.2)
 
-  spreads-fine : (me : ℕ) (s : RaftView S C O) → IsTextNode me s → IsRaftFine me (spreads m nodes me s)
-  spreads-fine me s text =
+  broadcasts-fine : (me : ℕ) (s : RaftView S C O) → IsTextNode me s → IsRaftFine me (broadcasts m nodes me s)
+  broadcasts-fine me s text =
       let fine = settled-fine me s text in
       and-sending-fine me (settled m nodes me s) (appends nodes me (settled m nodes me s).state) fine (appends-sent me me (settled m nodes me s).state fine.state)
 
   proposes-fine : (me : ℕ) (s : RaftView S C O) (i : RaftInput C) → IsTextNode me s → IsRaftInput HasIn i → IsRaftFine me (proposes m nodes me s i)
-  proposes-fine me s i text has = spreads-fine me (proposed me s i) (with-entry-text me s (Request i.client i.request me i.cmd) text has)
+  proposes-fine me s i text has = broadcasts-fine me (proposed me s i) (with-entry-text me s (Request i.client i.request me i.cmd) text has)
 
   input-fine : (me : ℕ) (s : RaftView S C O) (i : RaftInput C) → IsTextNode me s → IsRaftInput HasIn i → IsRaftFine me (on_input m nodes me s i)
   input-fine me s i text has =
@@ -118,7 +118,7 @@ module _ {S C O : Type 0} (m : MachineMeaning S C O) (HasIn : C → Type 0) (Has
   -- elections
   lead-fine : (me : ℕ) (s : RaftView S C O) → IsTextNode me s → IsRaftFine me (lead m nodes me s)
   lead-fine me s text =
-      spreads-fine me (with_noop (led nodes s))
+      broadcasts-fine me (with_noop (led nodes s))
       (either (IsTextNode me) (nat_lt (length s.log) MAX_INDEX) (with_entry (led nodes s) Noop) (led nodes s) (with-entry-text me (led nodes s) Noop text tt) text)
 
   campaign-fine : (me : ℕ) (s : RaftView S C O) → IsTextNode me s → IsRaftFine me (campaign m nodes me s)

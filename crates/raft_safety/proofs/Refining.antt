@@ -30,7 +30,7 @@ use Rattle.raft_xform.specs.declared.role.Role.{Role}
 use Rattle.raft_xform.specs.declared.role.Role.TheVariants as role
 use Rattle.raft_xform.specs.Applying.{committed, settled}
 use Rattle.raft_xform.specs.Electing.{campaign, candidate, has_won, heard, on_request, on_vote, sees_up_to_date, tick, vote, voted}
-use Rattle.raft_xform.specs.Leading.{lead, led, spreads, with_entry}
+use Rattle.raft_xform.specs.Leading.{lead, led, broadcasts, with_entry}
 use Rattle.raft_xform.specs.Nodes.{RaftEffect, RaftView, is_candidate, is_leader, peer_at, sending, stays}
 use Rattle.raft_xform.specs.Raft.{by_message, on_message}
 use Rattle.raft_xform.specs.Replicating.{answer, follower, known, last_new, may_take, moved_by, on_append, on_appended, on_input, on_moved, proposed, proposes, taken, takes, telling}
@@ -137,20 +137,20 @@ module _ {S C O : Type 0} (m : MachineMeaning S C O) (n i : ℕ) (P : Entry C �
       may_commit n i (matched_of s.peers) s.log s.ballot.term s.commit (settled m n i s).state.commit ≡ true
   settles_by_the_rule s less = elim (finds s (length s.log)) [ inl e ↦ absurd (omega (arith, e, less)) | inr f ↦ f.0 ]
 
-  -- a leader spreads its log
-  spread_does : (s : RaftView S C O) → is_leader s.role ≡ true → s.applied ≤ s.commit → Knows n (spreads m n i s).state → (sent : List (free.Packet C)) →
-      Does n i P sent (up s) (up (spreads m n i s).state) (spreads m n i s).sends
-  spread_does s l fits known sent = does_then {out = []} (settle s l fits sent) (λ mid old. append_all (spreads m n i s).state l known mid)
+  -- a leader broadcasts its log
+  broadcast_does : (s : RaftView S C O) → is_leader s.role ≡ true → s.applied ≤ s.commit → Knows n (broadcasts m n i s).state → (sent : List (free.Packet C)) →
+      Does n i P sent (up s) (up (broadcasts m n i s).state) (broadcasts m n i s).sends
+  broadcast_does s l fits known sent = does_then {out = []} (settle s l fits sent) (λ mid old. append_all (broadcasts m n i s).state l known mid)
 
-  spread_advances : (s : RaftView S C O) → s.applied ≤ s.commit → Advances m s (spreads m n i s)
-  spread_advances s fits = record { no_less = settles_no_less s fits; machine = refl; sessions = refl; told = λ x h. replies_answer i _ x h }
+  broadcast_advances : (s : RaftView S C O) → s.applied ≤ s.commit → Advances m s (broadcasts m n i s)
+  broadcast_advances s fits = record { no_less = settles_no_less s fits; machine = refl; sessions = refl; told = λ x h. replies_answer i _ x h }
 
   -- a leader adds an entry
   add_does : (s : RaftView S C O) (what : What C) → is_leader s.role ≡ true → P (record { term = s.ballot.term; what = what }) → (sent : List (free.Packet C)) →
       Does n i P sent (up s) (up (with_entry s what)) []
   add_does s what l p sent = does_one (Propose i (record { term = s.ballot.term; what = what })) refl (refl, leads_true _ l, refl) p refl
 
-  -- a candidate that has won leads, adds a no-op where its log has room, and spreads it
+  -- a candidate that has won leads, adds a no-op where its log has room, and broadcasts it
   lead_refined : (s : RaftView S C O) → is_candidate s.role ≡ true → has_won n s ≡ true → s.applied ≤ s.commit → Knows n (lead m n i s).state → (sent : List (free.Packet C)) →
       Refined m n i P sent s (lead m n i s)
   lead_refined s c won fits known sent = go (ltb (length s.log) MAX_INDEX) known
@@ -158,19 +158,19 @@ module _ {S C O : Type 0} (m : MachineMeaning S C O) (n i : ℕ) (P : Entry C �
       starts : Does n i P sent (up s) (up (led n s)) []
       starts = does_one (Lead i) refl (refl, stands_true _ c, won) tt (ap (λ f. record (up (led n s)) { matched = f }) (matched_new n (length s.log)))
 
-      go : (b : Bool) → Knows n (spreads m n i (cond b (with_entry (led n s) Noop) (led n s))).state → Refined m n i P sent s (spreads m n i (cond b (with_entry (led n s) Noop) (led n s)))
+      go : (b : Bool) → Knows n (broadcasts m n i (cond b (with_entry (led n s) Noop) (led n s))).state → Refined m n i P sent s (broadcasts m n i (cond b (with_entry (led n s) Noop) (led n s)))
       go true knows =
           let t = with_entry (led n s) Noop in
-          let a = spread_advances t fits in
+          let a = broadcast_advances t fits in
           record {
-            does = does_then {out = []} starts (λ more old. does_then {out = []} (add_does (led n s) Noop refl (idle s.ballot.term) more) (λ mid old. spread_does t refl fits knows mid));
+            does = does_then {out = []} starts (λ more old. does_then {out = []} (add_does (led n s) Noop refl (idle s.ballot.term) more) (λ mid old. broadcast_does t refl fits knows mid));
             advances = record { no_less = a.no_less; machine = a.machine; sessions = a.sessions; told = a.told };
             rises = λ l less. settles_by_the_rule t less;
           }
       go false knows =
-          let a = spread_advances (led n s) fits in
+          let a = broadcast_advances (led n s) fits in
           record {
-            does = does_then {out = []} starts (λ mid old. spread_does (led n s) refl fits knows mid);
+            does = does_then {out = []} starts (λ mid old. broadcast_does (led n s) refl fits knows mid);
             advances = record { no_less = a.no_less; machine = a.machine; sessions = a.sessions; told = a.told };
             rises = λ l less. settles_by_the_rule (led n s) less;
           }
@@ -226,8 +226,8 @@ module _ {S C O : Type 0} (m : MachineMeaning S C O) (n i : ℕ) (P : Entry C �
 
       takes_it : is_leader s.role ≡ true → Knows n (proposes m n i s q).state → Refined m n i P sent s (proposes m n i s q)
       takes_it l known = record {
-        does = does_then {out = []} (add_does s (Request q.client q.request i q.cmd) l p sent) (λ mid old. spread_does (proposed i s q) l fits known mid);
-        advances = on_from s (proposed i s q) _ refl refl refl (spread_advances (proposed i s q) fits);
+        does = does_then {out = []} (add_does s (Request q.client q.request i q.cmd) l p sent) (λ mid old. broadcast_does (proposed i s q) l fits known mid);
+        advances = on_from s (proposed i s q) _ refl refl refl (broadcast_advances (proposed i s q) fits);
         rises = λ _ less. settles_by_the_rule (proposed i s q) less;
       }
 

@@ -19,7 +19,7 @@ use Rattle.raft_types.specs.declared.limits.TheConstants.{MAX_BATCH, MAX_INDEX}
 use Rattle.raft_types.specs.declared.msg.RaftMsg.{RaftMsg}
 use Rattle.raft_types.specs.declared.msg.RaftMsg.TheVariants as msg
 use Rattle.raft_xform.specs.Electing.{campaign, candidate, has_won, heard, on_request, on_vote, sees_up_to_date, tick, voted}
-use Rattle.raft_xform.specs.Leading.{lead, led, spreads, with_entry}
+use Rattle.raft_xform.specs.Leading.{lead, led, broadcasts, with_entry}
 use Rattle.raft_xform.specs.Nodes.{RaftEffect, RaftView, is_candidate, is_leader, peer_at, sending}
 use Rattle.raft_xform.specs.Raft.{by_message, on_message}
 use Rattle.raft_xform.specs.Replicating.{answer, known, may_take, moved_by, on_append, on_appended, on_input, on_moved, proposed}
@@ -74,15 +74,15 @@ module _ {S C O : Type 0} (m : MachineMeaning S C O) (n i : ℕ) where
   good_appends : (s : RaftView S C O) → is_leader s.role ≡ true → IsSoundNode n i s → AreGood n i (appends n i s)
   good_appends s l k = good_each n i (append s) (append_range s k l) n (omega arith)
 
-  good_spread : (s : RaftView S C O) → is_leader s.role ≡ true → SendsGood n i (spreads m n i s)
-  good_spread s l = record { good = λ k. good_appends (spreads m n i s).state l k }
+  good_broadcast : (s : RaftView S C O) → is_leader s.role ≡ true → SendsGood n i (broadcasts m n i s)
+  good_broadcast s l = record { good = λ k. good_appends (broadcasts m n i s).state l k }
 
   good_lead : (s : RaftView S C O) → SendsGood n i (lead m n i s)
   good_lead s = go (ltb (length s.log) MAX_INDEX)
     where
-      go : (b : Bool) → SendsGood n i (spreads m n i (cond b (with_entry (led n s) Noop) (led n s)))
-      go true = good_spread (with_entry (led n s) Noop) refl
-      go false = good_spread (led n s) refl
+      go : (b : Bool) → SendsGood n i (broadcasts m n i (cond b (with_entry (led n s) Noop) (led n s)))
+      go true = good_broadcast (with_entry (led n s) Noop) refl
+      go false = good_broadcast (led n s) refl
 
   good_campaign : (s : RaftView S C O) → SendsGood n i (campaign m n i s)
   good_campaign s = either (has_won n s) (λ e. good_lead s) (λ e. record { good = λ k. good_each n i _ (λ j below. k.term) n (omega arith) })
@@ -97,7 +97,7 @@ module _ {S C O : Type 0} (m : MachineMeaning S C O) (n i : ℕ) where
     where
       by_role : (b : Bool) → is_leader s.role ≡ b → SendsGood n i (on_input m n i s q)
       by_role false e = rw e (record { good = λ k. good_none n i })
-      by_role true e = rw e (either (eqb (length s.log) MAX_INDEX) (λ _. record { good = λ k. good_none n i }) (λ _. good_spread (proposed i s q) e))
+      by_role true e = rw e (either (eqb (length s.log) MAX_INDEX) (λ _. record { good = λ k. good_none n i }) (λ _. good_broadcast (proposed i s q) e))
 
   good_request : (s : RaftView S C O) (from : ℕ) (r : RequestVoteView) → from < n → from ≢ i → SendsGood n i (on_request s from r)
   good_request s from r below ne =

@@ -15,14 +15,14 @@ use Rattle.raft_types.specs.declared.limits.TheConstants.{MAX_INDEX}
 use Rattle.raft_types.specs.declared.msg.RaftMsg.{RaftMsg}
 use Rattle.raft_types.specs.declared.msg.RaftMsg.TheVariants as msg
 use Rattle.raft_xform.specs.Electing.{candidate, has_won, on_vote, sees_up_to_date, tick, voted}
-use Rattle.raft_xform.specs.Leading.{lead, led, spreads}
+use Rattle.raft_xform.specs.Leading.{lead, led, broadcasts}
 use Rattle.raft_xform.specs.Nodes.{RaftEffect, RaftView, is_candidate, is_leader, peer_at}
 use Rattle.raft_xform.specs.Raft.{by_message, on_message}
 use Rattle.raft_xform.specs.Replicating.{may_take, moved_by, on_append, on_input, on_moved}
 use Rattle.raft_xform.specs.Sending.{append, appends, append_rest, to_others}
 use Rattle.raft_xform.specs.Sound.{AreInRange, IsInRange, IsPeer, IsSoundNode}
 use Rattle.raft_xform.proofs.Keeping.{candidate_in_a_term, term_in_range, under}
-use Rattle.raft_xform.proofs.Sounding.{same_role, sound_candidate, sound_heard, sound_known, sound_led, sound_spread, sound_voted, sound_with_entry, sound_with_noop}
+use Rattle.raft_xform.proofs.Sounding.{same_role, sound_candidate, sound_heard, sound_known, sound_led, sound_broadcast, sound_voted, sound_with_entry, sound_with_noop}
 
 in_range_both : {C : Type 0} (ps qs : List (ℕ × RaftMsg C)) → AreInRange ps → AreInRange qs → AreInRange (ps ++ qs)
 in_range_both [] qs a b = b
@@ -60,11 +60,11 @@ module _ {S C O : Type 0} {nodes me : ℕ} where
   appends_in_range : {s : RaftView S C O} → IsSoundNode nodes me s → IsTrue (is_leader s.role) → AreInRange (appends nodes me s)
   appends_in_range {s} k leads = others_in_range nodes me (append s) (append_in_range k leads)
 
-  spread_in_range : {s : RaftView S C O} → IsSoundNode nodes me s → IsTrue (is_leader s.role) → (m : MachineMeaning S C O) → SendsInRange (spreads m nodes me s)
-  spread_in_range k leads m = record { sends = appends_in_range (sound_spread k m) leads }
+  broadcast_in_range : {s : RaftView S C O} → IsSoundNode nodes me s → IsTrue (is_leader s.role) → (m : MachineMeaning S C O) → SendsInRange (broadcasts m nodes me s)
+  broadcast_in_range k leads m = record { sends = appends_in_range (sound_broadcast k m) leads }
 
   lead_in_range : {s : RaftView S C O} → IsSoundNode nodes me s → 1 ≤ s.ballot.term → (m : MachineMeaning S C O) → SendsInRange (lead m nodes me s)
-  lead_in_range {s} k t m = spread_in_range (sound_with_noop (sound_led k t)) (ap is_leader (same_role (led nodes s))) m
+  lead_in_range {s} k t m = broadcast_in_range (sound_with_noop (sound_led k t)) (ap is_leader (same_role (led nodes s))) m
 
   pub tick_in_range : {s : RaftView S C O} → IsSoundNode nodes me s → (m : MachineMeaning S C O) → SendsInRange (tick m nodes me s)
   tick_in_range {s} k m = either (is_leader s.role) (λ leads. record { sends = appends_in_range k leads }) (λ _. either (may_start s.ballot) (λ may.
@@ -74,7 +74,7 @@ module _ {S C O : Type 0} {nodes me : ℕ} where
 
   pub input_in_range : {s : RaftView S C O} → IsSoundNode nodes me s → (m : MachineMeaning S C O) (i : RaftInput C) → SendsInRange (on_input m nodes me s i)
   input_in_range {s} k m i = either (not (is_leader s.role)) (λ _. record { sends = tt }) (λ leads. either (eqb (length s.log) MAX_INDEX) (λ _. record { sends = tt }) (λ room.
-      spread_in_range (sound_with_entry k (Request i.client i.request me i.cmd) (under k.short room)) (leads_where (is_leader s.role) leads) m))
+      broadcast_in_range (sound_with_entry k (Request i.client i.request me i.cmd) (under k.short room)) (leads_where (is_leader s.role) leads) m))
 
   vote_in_range : {s : RaftView S C O} → IsSoundNode nodes me s → (m : MachineMeaning S C O) (from : ℕ) (v : VoteView) → SendsInRange (on_vote m nodes me s from v)
   vote_in_range {s} k m from v = either (is_candidate s.role && eqb v.term s.ballot.term && v.granted)
@@ -94,7 +94,7 @@ module _ {S C O : Type 0} {nodes me : ℕ} where
       go false = tt
 
   moved_in_range : {s : RaftView S C O} → IsSoundNode nodes me s → IsTrue (is_leader s.role) → (m : MachineMeaning S C O) (from : ℕ) → from < nodes → (moved : Moved) → SendsInRange (on_moved m nodes me s from moved)
-  moved_in_range k leads m from f moves.Raised = record { sends = rest_in_range (sound_spread k m) leads from f }
+  moved_in_range k leads m from f moves.Raised = record { sends = rest_in_range (sound_broadcast k m) leads from f }
   moved_in_range k leads m from f moves.Back = record { sends = (append_in_range k leads from f, tt) }
   moved_in_range k leads m from f moves.Nothing = record { sends = tt }
 

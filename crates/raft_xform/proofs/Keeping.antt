@@ -24,7 +24,7 @@ use Rattle.raft_xform.specs.Nodes.{RaftEffect, RaftView, is_candidate, is_leader
 use Rattle.raft_xform.specs.Raft.{by_message, on_message}
 use Rattle.raft_xform.specs.Replicating.{last_new, may_take, moved_by, on_append, on_appended, on_input, on_moved}
 use Rattle.raft_xform.specs.Sound.{HasTerm, IsInRange, IsSoundNode}
-use Rattle.raft_xform.proofs.Sounding.{sound_candidate, sound_caught_up, sound_follower, sound_granted, sound_heard, sound_known, sound_led, sound_spread, sound_taken, sound_voted, sound_with_entry, sound_with_noop}
+use Rattle.raft_xform.proofs.Sounding.{sound_candidate, sound_caught_up, sound_follower, sound_granted, sound_heard, sound_known, sound_led, sound_broadcast, sound_taken, sound_voted, sound_with_entry, sound_with_noop}
 
 pub candidate_in_a_term : (r : Role) (term : ℕ) → is_candidate r ≡ true → HasTerm r term → 1 ≤ term
 candidate_in_a_term role.Follower term e h = absurd (false≢true e)
@@ -57,7 +57,7 @@ sound_done (Err x) new before after k h = tt
 
 module _ {S C O : Type 0} {nodes me : ℕ} where
   keeps_lead : {s : RaftView S C O} → IsSoundNode nodes me s → 1 ≤ s.ballot.term → (m : MachineMeaning S C O) → Keeps nodes me (lead m nodes me s)
-  keeps_lead k t m = record { sound = sound_spread (sound_with_noop (sound_led k t)) m }
+  keeps_lead k t m = record { sound = sound_broadcast (sound_with_noop (sound_led k t)) m }
 
   keeps_campaign : {s : RaftView S C O} → IsSoundNode nodes me s → 1 ≤ s.ballot.term → (m : MachineMeaning S C O) → Keeps nodes me (campaign m nodes me s)
   keeps_campaign {s} k t m = keeps_either (has_won nodes s) (λ _. keeps_lead k t m) (λ _. record { sound = k })
@@ -83,7 +83,7 @@ module _ {S C O : Type 0} {nodes me : ℕ} where
       keeps_either (may_take s a) (λ may. record { sound = sound_caught_up (sound_taken k a room may) m }) (λ _. record { sound = sound_follower k })))
 
   keeps_moved : {s : RaftView S C O} → IsSoundNode nodes me s → (m : MachineMeaning S C O) (from : ℕ) (moved : Moved) → Keeps nodes me (on_moved m nodes me s from moved)
-  keeps_moved k m from moves.Raised = record { sound = sound_spread k m }
+  keeps_moved k m from moves.Raised = record { sound = sound_broadcast k m }
   keeps_moved k m from moves.Back = record { sound = k }
   keeps_moved k m from moves.Nothing = record { sound = k }
 
@@ -95,7 +95,7 @@ module _ {S C O : Type 0} {nodes me : ℕ} where
   pub keeps_input : {s : RaftView S C O} → IsSoundNode nodes me s → (m : MachineMeaning S C O) (i : RaftInput C) → Keeps nodes me (on_input m nodes me s i)
   keeps_input {s} k m i =
       keeps_either (not (is_leader s.role)) (λ _. record { sound = k }) (λ _. keeps_either (eqb (length s.log) MAX_INDEX) (λ _. record { sound = k }) (λ room.
-      record { sound = sound_spread (sound_with_entry k (Request i.client i.request me i.cmd) (under k.short room)) m }))
+      record { sound = sound_broadcast (sound_with_entry k (Request i.client i.request me i.cmd) (under k.short room)) m }))
 
   keeps_by_message : {s : RaftView S C O} → IsSoundNode nodes me s → (m : MachineMeaning S C O) (from : ℕ) → from < nodes → (message : RaftMsg C) → IsInRange message →
       Keeps nodes me (by_message m nodes me s from message)

@@ -18,7 +18,7 @@ use Rattle.raft_types.specs.declared.limits.TheConstants.{MAX_INDEX}
 use Rattle.raft_xform.specs.declared.role.Role.TheVariants as role
 use Rattle.raft_xform.specs.Applying.{caught_up, committed}
 use Rattle.raft_xform.specs.Electing.{candidate, heard, voted}
-use Rattle.raft_xform.specs.Leading.{led, spreads, with_entry, with_noop}
+use Rattle.raft_xform.specs.Leading.{led, broadcasts, with_entry, with_noop}
 use Rattle.raft_xform.specs.Nodes.{RaftView, is_leader, peer_at, started_with}
 use Rattle.raft_xform.specs.Replicating.{follower, known, last_new, may_take, moved_by, taken}
 use Rattle.raft_xform.specs.Sound.{ArePeers, IsPeer, IsSoundNode}
@@ -161,8 +161,8 @@ module _ {S C O : Type 0} {nodes me : ℕ} where
     peers = k.peers;
   }
 
-  pub sound_spread : {s : RaftView S C O} → IsSoundNode nodes me s → (m : MachineMeaning S C O) → IsSoundNode nodes me (spreads m nodes me s).state
-  sound_spread k m = sound_caught_up (sound_committed k) m
+  pub sound_broadcast : {s : RaftView S C O} → IsSoundNode nodes me s → (m : MachineMeaning S C O) → IsSoundNode nodes me (broadcasts m nodes me s).state
+  sound_broadcast k m = sound_caught_up (sound_committed k) m
 
   pub sound_with_entry : {s : RaftView S C O} → IsSoundNode nodes me s → (what : What C) → length s.log < MAX_INDEX → IsSoundNode nodes me (with_entry s what)
   sound_with_entry {s} k what room =

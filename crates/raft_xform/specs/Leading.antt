@@ -21,8 +21,8 @@ module _ {S C O : Type 0} where
   with_entry s what = record s { log = s.log ++ record { term = s.ballot.term; what = what } ∷ [] }
 
   -- it commits and applies what it may, and then sends every other node entries from its next index on, with that commit
-  abbrev pub spreads : MachineMeaning S C O → ℕ → ℕ → RaftView S C O → RaftEffect S C O
-  spreads m nodes me s = let e = settled m nodes me s in and_sending e (appends nodes me e.state)
+  abbrev pub broadcasts : MachineMeaning S C O → ℕ → ℕ → RaftView S C O → RaftEffect S C O
+  broadcasts m nodes me s = let e = settled m nodes me s in and_sending e (appends nodes me e.state)
 
   -- a new leader knows nothing of the other nodes' logs
   abbrev pub led : ℕ → RaftView S C O → RaftView S C O
@@ -34,4 +34,4 @@ module _ {S C O : Type 0} where
 
   -- upon election: add the no-op, commit and apply what may be, and send it
   abbrev pub lead : MachineMeaning S C O → ℕ → ℕ → RaftView S C O → RaftEffect S C O
-  lead m nodes me s = spreads m nodes me (with_noop (led nodes s))
+  lead m nodes me s = broadcasts m nodes me (with_noop (led nodes s))

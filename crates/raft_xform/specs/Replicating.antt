@@ -16,7 +16,7 @@ use Rattle.raft_types.specs.declared.msg.RaftMsg.{RaftMsg}
 use Rattle.raft_types.specs.declared.msg.RaftMsg.TheVariants as msg
 use Rattle.raft_xform.specs.declared.role.Role.TheVariants as role
 use Rattle.raft_xform.specs.Applying.{caught_up, settled}
-use Rattle.raft_xform.specs.Leading.{and_sending, spreads, with_entry}
+use Rattle.raft_xform.specs.Leading.{and_sending, broadcasts, with_entry}
 use Rattle.raft_xform.specs.Nodes.{RaftEffect, RaftView, is_leader, peer_at, sending, stays, with_peer}
 use Rattle.raft_xform.specs.Sending.{append, append_rest}
 
@@ -35,7 +35,7 @@ module _ {S C O : Type 0} where
 
   -- command received from client: append the entry to the local log, commit and apply what may be, and send it
   abbrev pub proposes : MachineMeaning S C O → ℕ → ℕ → RaftView S C O → RaftInput C → RaftEffect S C O
-  proposes m nodes me s i = spreads m nodes me (proposed me s i)
+  proposes m nodes me s i = broadcasts m nodes me (proposed me s i)
 
   -- a request comes: to the leader, unless its log is full
   abbrev pub on_input : MachineMeaning S C O → ℕ → ℕ → RaftView S C O → RaftInput C → RaftEffect S C O

@@ -31,7 +31,7 @@ pub(crate) fn add_entry<S, C: Drop, O>(
 }
 
 /// A leader commits and applies what it may, and then sends each other node entries from its next index on.
-pub(crate) fn spread<M: Machine>(
+pub(crate) fn broadcast<M: Machine>(
     alloc: Global,
     machine: &M,
     seat: Seat,
@@ -41,7 +41,7 @@ pub(crate) fn spread<M: Machine>(
     requires sound { IsSoundNode seat.nodes seat.me state.old }
     requires leads { IsTrue (is_leader state.old.role) }
     requires room { seat.nodes ≤ effects.old.send_places + 1 }
-    ensures { OnOk result (Does (rules.spreads (M.meaning machine.now) seat.nodes seat.me state.old) state.new effects.old effects.new) }
+    ensures { OnOk result (Does (rules.broadcasts (M.meaning machine.now) seat.nodes seat.me state.old) state.new effects.old effects.new) }
 {
     settle(alloc, machine, seat.me, state, effects)?;
     append_to_others(alloc, machine, seat, state, effects)
@@ -75,5 +75,5 @@ pub(crate) fn lead<M: Machine>(
     if last < MAX_INDEX {
         add_entry(state, What::Noop)?;
     }
-    spread(alloc, machine, seat, state, effects)
+    broadcast(alloc, machine, seat, state, effects)
 }

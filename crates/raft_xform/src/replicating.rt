@@ -8,7 +8,7 @@ ghost use Rattle.raft_xform.specs.Sound.{IsSoundNode, MaySend};
 ghost use Rattle.vst_base.specs.Entries.{IsElectionTerm, IsOrigin};
 
 use crate::applying::{catch_up, settle};
-use crate::leading::{add_entry, spread};
+use crate::leading::{add_entry, broadcast};
 use crate::seat::Seat;
 use crate::sending::append;
 use crate::{RaftState, Role};
@@ -64,7 +64,7 @@ pub(crate) fn on_input<M: Machine>(
         return effects.output(RaftOut::Full { client, request });
     }
     propose(alloc, machine, seat.me, state, input)?;
-    spread(alloc, machine, seat, state, effects)
+    broadcast(alloc, machine, seat, state, effects)
 }
 
 // Answers a leader.

@@ -1,15 +1,12 @@
 -- What is kept, entry by entry, each by what a map has at a number.
 use Rattle.std.proofs.Common.{◌≡◌, ℕ, true, false, List, [], ◌∷◌, refl, ap}
-use Rattle.std.specs.Cmp.{nat_cmp_total}
-use Rattle.std.specs.FinMap.{get-empty, get-insert}
+use Rattle.raft_clients.proofs.Lookups.{lookups}
 use Rattle.raft_clients.specs.Examples.{asked, asks, noop}
 use Rattle.raft_types.specs.declared.client.RaftInput.{RaftInput}
 use Rattle.applied_order.proofs.Adding.{followed_executed, followed_none, followed_noop, followed_passed}
 use Rattle.applied_order.specs.Examples.{five_entries, kept_of_five}
 use Rattle.applied_order.specs.Orders.{HasFollowed}
 use Rattle.applied_order.proofs.examples.worked_orders.Goals as goal
-
-ruleset lookups = (get-empty, get-insert, nat_cmp_total)
 
 abbrev first_client : List (RaftInput ℕ) → ℕ
 first_client [] = 0
@@ -49,3 +46,18 @@ returns-clause-not_again c = λ h. cc (h.requests)
 
 pub returns-clause-not_in_another_order : goal.returns-clause-not_in_another_order
 returns-clause-not_in_another_order c = λ h. let e : 9 ≡ 7 = ap first_client h.requests in cc (e)
+
+pub returns-clause-one_more_is_late : goal.returns-clause-one_more_is_late
+returns-clause-one_more_is_late c = simp lookups
+
+pub returns-clause-one_more_is_new : goal.returns-clause-one_more_is_new
+returns-clause-one_more_is_new c = simp lookups
+
+pub returns-clause-late_is_not_executed : goal.returns-clause-late_is_not_executed
+returns-clause-late_is_not_executed c = simp lookups
+
+pub returns-clause-new_is_executed : goal.returns-clause-new_is_executed
+returns-clause-new_is_executed c = simp lookups
+
+pub returns-clause-a_first_one_is_executed : goal.returns-clause-a_first_one_is_executed
+returns-clause-a_first_one_is_executed c = simp lookups

@@ -1,12 +1,12 @@
 -- By what a map has at a number after a change.
 use Rattle.std.proofs.Common.{◌≡◌, ℕ, List, [], ◌∷◌, ◌++◌, map, refl, ◌∙◌, arith}
-use Rattle.std.specs.Cmp.{nat_cmp_total}
-use Rattle.std.specs.FinMap.{empty, get-empty, get-insert}
+use Rattle.std.specs.FinMap.{empty}
 use Rattle.vst_base.specs.Examples.{counter}
 use Rattle.vst_base.specs.LogExamples.{noop}
 use Rattle.vst_base.specs.declared.entry.Entry.{Entry}
 use Rattle.vst_base.specs.declared.step.Item.TheVariants as item
 use Rattle.vst_base.specs.declared.step.Step.TheVariants as step
+use Rattle.raft_clients.proofs.Lookups.{lookups}
 use Rattle.raft_clients.specs.Sessions.{applied_all}
 use Rattle.raft_xform.specs.Applying.{replies}
 use Rattle.raft_safety.specs.Runs.{seen}
@@ -14,8 +14,6 @@ use Rattle.linearizability.specs.Examples.{asks, put}
 use Rattle.raft_safety.specs.Examples.{asked_again, asked_once, five, started_again}
 use Rattle.linearizability.specs.Linearizable.{Seen}
 use Rattle.raft_safety.proofs.examples.worked_runs.Goals as goal
-
-ruleset lookups = (get-empty, get-insert, nat_cmp_total)
 
 pub returns-clause-two_clients_told : goal.returns-clause-two_clients_told
 returns-clause-two_clients_told c = simp lookups

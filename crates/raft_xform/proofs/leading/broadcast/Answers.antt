@@ -1,5 +1,5 @@
 use Rattle.raft_xform.proofs.Doing.{may_send_settled}
-use Rattle.raft_xform.proofs.leading.spread.Goals as goal
+use Rattle.raft_xform.proofs.leading.broadcast.Goals as goal
 
 pub append_to_others-requires-clause-state : goal.append_to_others-requires-clause-state
 append_to_others-requires-clause-state g c =
