@@ -1,4 +1,4 @@
-ghost use Rattle.std.specs.Prelude.{◌≡◌, [], ◌∷◌, None, Some, false, true};
+ghost use Rattle.std.specs.Prelude.{◌≡◌, ℕ, [], ◌∷◌, None, Some, false, true};
 ghost use Rattle.std.specs.FinMap as map;
 ghost use Rattle.raft_clients.specs.Examples.{asked};
 ghost use Rattle.applied_order.specs.Examples.{five_entries, kept_of_another, kept_of_five, kept_of_six, nothing, number, six_entries};
@@ -31,7 +31,7 @@ pub fn worked_orders()
     ensures one_more_is_a_noop { with_entry kept_of_five None ≡ kept_of_six }
     ensures one_more_is_new { with_entry kept_of_five (Some (asked 9 6 2)) ≡ kept_of_another }
     ensures late_is_not_executed { is_executed_by kept_of_five.sessions (Some (asked 9 4 8)) ≡ false }
-    ensures a_noop_is_not_executed { is_executed_by kept_of_five.sessions None ≡ false }
+    ensures a_noop_is_not_executed { is_executed_by {C = ℕ} kept_of_five.sessions None ≡ false }
     ensures new_is_executed { is_executed_by kept_of_five.sessions (Some (asked 9 6 2)) ≡ true }
     ensures a_first_one_is_executed { is_executed_by kept_of_five.sessions (Some (asked 8 0 1)) ≡ true }
     ensures not_the_place_among_requests { ¬ HasFollowed (record kept_of_five { indexes = 1 ∷ 2 ∷ 3 ∷ [] }) five_entries }

@@ -1,4 +1,4 @@
-pub mod LockHeaders
+pub mod ImageHeaders
 pub mod StepLines
 pub mod Takings
 pub mod Readings

@@ -151,3 +151,11 @@ ends-cause f d n old f0 f1 f' fault.Read r grew cause is = rw is (omega (arith, 
 ends-cause f d n old f0 f1 f' fault.Write r grew cause is = absurd cause
 ends-cause f d n old f0 f1 f' fault.Memory r grew cause is = rw is tt
 ends-cause f d n old f0 f1 f' (fault.Refused k w) r grew cause is = rw is tt
+
+-- a failed read is told
+pub ends-failed : {I O X : Type 0} (f : Form I O X) (d : Draft I O X) (n : ℕ) (found : LineFault) (r : Result (Claim I O X) LineFault) → EndsBy f d n found r → found ≡ fault.Read → r ≡ Err fault.Read
+ends-failed f d n fault.Read r is e = is
+ends-failed f d n fault.End r is e = cc
+ends-failed f d n fault.Write r is e = cc
+ends-failed f d n fault.Memory r is e = cc
+ends-failed f d n (fault.Refused k w) r is e = cc

@@ -7,8 +7,7 @@ use Rattle.vst_base.specs.declared.step.Item.{Item}
 use Rattle.line_reader.specs.Limits.{line_refusals}
 use Rattle.line_reader.specs.declared.why.Why.{Why}
 use Rattle.schedule_text.specs.declared.header.Header.{Header}
-use Rattle.check_text.specs.declared.heading.Heading.{Heading}
-use Rattle.check_text.specs.declared.heading.Heading.TheVariants as heading
+use Rattle.vst_base.specs.declared.stack.StackId.{StackId}
 use Rattle.check_text.specs.declared.stage.Stage.{Stage}
 use Rattle.check_text.specs.declared.stage.Stage.TheVariants as stage
 use Rattle.check_text.specs.declared.trace_line.TraceLine.{TraceLine}
@@ -54,8 +53,8 @@ module _ {I O X : Type 0} where
 module _ {I O X : Type 0} (f : Form I O X) (d : Draft I O X) where
   -- a line that is too long, or one too many
   limited : (s : Stage) (n : ℕ) (l : List ℕ) (ls : List (List ℕ)) (w : Why) → first_of (line_refusals most_lines n l) ≡ Some w → goes_on f d s n (l ∷ ls) ≡ RefusedAt n w
-  limited stage.Trace n l ls w e = ap (λ o. read_map (behind_items d.trace) (claim_line f (trace_unless o (counted_says f.input_of f.output_of f.nodes d.inputs l)) n d.inputs (λ k. claim_from f (n + 1) k ls) (behind_below f f.heading (n + 1) ls))) e
-  limited stage.Header n l ls w e = ap (λ o. read_map (behind_items d.trace) (headed_unless f o n (headed f (image_header f.heading l) n (image_from f.says (n + 1) 0 ls)))) e
+  limited stage.Trace n l ls w e = ap (λ o. read_map (behind_items d.trace) (claim_line f (trace_unless o (counted_says f.input_of f.output_of f.nodes d.inputs l)) n d.inputs (λ k. claim_from f (n + 1) k ls) (behind_below f f.below (n + 1) ls))) e
+  limited stage.Header n l ls w e = ap (λ o. read_map (behind_items d.trace) (headed_unless f o n (headed f (image_header f.below l) n (image_from f.says (n + 1) 0 ls)))) e
   limited stage.Image n l ls w e = ap (λ o. read_map (with_image d) (onto (image_unless o (counted_line f.says (length d.image) l)) n (image_from f.says (n + 1) (length d.image + 1) ls))) e
 
   pub line-limited : (n : ℕ) (l : List ℕ) (ls : List (List ℕ)) (w : Why) → first_of (line_refusals most_lines n l) ≡ Some w → comes_to f d n (l ∷ ls) ≡ RefusedAt n w
@@ -64,9 +63,9 @@ module _ {I O X : Type 0} (f : Form I O X) (d : Draft I O X) where
   module _ (l : List ℕ) (in_trace : d.stage ≡ stage.Trace) where
     -- the line of a trace, which says this
     said-by : (said : TraceLine I O) → said ≡ counted_says f.input_of f.output_of f.nodes d.inputs l → (n : ℕ) (ls : List (List ℕ)) → first_of (line_refusals most_lines n l) ≡ None
-        → comes_to f d n (l ∷ ls) ≡ read_map (behind_items d.trace) (claim_line f said n d.inputs (λ k. claim_from f (n + 1) k ls) (behind_below f f.heading (n + 1) ls))
+        → comes_to f d n (l ∷ ls) ≡ read_map (behind_items d.trace) (claim_line f said n d.inputs (λ k. claim_from f (n + 1) k ls) (behind_below f f.below (n + 1) ls))
     said-by said is n ls allowed =
-        let then : TraceLine I O → Reading (Claim I O X) = λ s. read_map (behind_items d.trace) (claim_line f s n d.inputs (λ k. claim_from f (n + 1) k ls) (behind_below f f.heading (n + 1) ls)) in
+        let then : TraceLine I O → Reading (Claim I O X) = λ s. read_map (behind_items d.trace) (claim_line f s n d.inputs (λ k. claim_from f (n + 1) k ls) (behind_below f f.below (n + 1) ls)) in
         ap (λ s. goes_on f d s n (l ∷ ls)) in_trace ∙ (ap (λ o. then (trace_unless o (counted_says f.input_of f.output_of f.nodes d.inputs l))) allowed ∙ ap then (sym is))
 
     pub takes-item : (x : Item I O) → line.IsItem x ≡ counted_says f.input_of f.output_of f.nodes d.inputs l
@@ -76,16 +75,15 @@ module _ {I O X : Type 0} (f : Form I O X) (d : Draft I O X) where
         said-by (line.IsItem x) is n ls allowed
         ∙ (items-more d.trace x (claim_from f (n + 1) (count_item d.inputs x) ls) ∙ ap (λ s. goes_on f d' s (n + 1) ls) (sym in_trace))
 
-    below-by : (kind : Heading) → IsStaged d → (n : ℕ) (ls : List (List ℕ)) → f.heading ≡ kind
+    below-by : (kind : Option StackId) → IsStaged d → (n : ℕ) (ls : List (List ℕ)) → f.below ≡ kind
         → read_map (behind_items d.trace) (behind_below f kind n ls)
         ≡ goes_on f (record d { stage = cond (has_header kind) stage.Header stage.Image }) (cond (has_header kind) stage.Header stage.Image) n ls
-    below-by heading.Lock staged n ls e = rw e refl
-    below-by heading.Kv staged n ls e = rw e refl
-    below-by heading.Absent staged n ls e =
+    below-by (Some s) staged n ls e = rw e refl
+    below-by None staged n ls e =
         let empty = staged.image (λ at. let both : ◌≡◌ {A = Stage} stage.Trace stage.Image = sym in_trace ∙ at in cc) in
         image-follows d d.header d.image (staged.header in_trace) empty (image_from f.says n 0 ls)
         ∙ ap (λ (xs : List X). read_map (with_image d) (image_from f.says n (length xs) ls)) (sym empty)
 
     pub takes-below : IsStaged d → line.Below ≡ counted_says f.input_of f.output_of f.nodes d.inputs l
-        → TakesLine f d (record d { stage = cond (has_header f.heading) stage.Header stage.Image }) l None
-    takes-below staged is n ls allowed = said-by line.Below is n ls allowed ∙ below-by f.heading staged (n + 1) ls refl
+        → TakesLine f d (record d { stage = cond (has_header f.below) stage.Header stage.Image }) l None
+    takes-below staged is n ls allowed = said-by line.Below is n ls allowed ∙ below-by f.below staged (n + 1) ls refl

@@ -47,7 +47,7 @@ module _ {I O X : Type 0} where
   -- by the stage, with the lines that follow from this number on
   abbrev pub goes_on : Form I O X → Draft I O X → Stage → ℕ → List (List ℕ) → Reading (Claim I O X)
   goes_on form d stage.Trace number ls = read_map (behind_items d.trace) (claim_from form number d.inputs ls)
-  goes_on form d stage.Header number ls = read_map (behind_items d.trace) (with_header form form.heading number ls)
+  goes_on form d stage.Header number ls = read_map (behind_items d.trace) (with_header form form.below number ls)
   goes_on form d stage.Image number ls = read_map (with_image d) (image_from form.says number (length d.image) ls)
 
   abbrev pub comes_to : Form I O X → Draft I O X → ℕ → List (List ℕ) → Reading (Claim I O X)

@@ -5,8 +5,7 @@ use Rattle.line_reader.specs.declared.why.Why.{Why}
 use Rattle.line_reader.specs.declared.why.Why.TheVariants as why
 use Rattle.line_reader.specs.Limits.{line_refusals}
 use Rattle.schedule_text.specs.declared.header.Header.{Header}
-use Rattle.check_text.specs.declared.heading.Heading.{Heading}
-use Rattle.check_text.specs.declared.heading.Heading.TheVariants as heading
+use Rattle.vst_base.specs.declared.stack.StackId.{StackId}
 use Rattle.check_text.specs.declared.trace_line.TraceLine.{TraceLine}
 use Rattle.check_text.specs.declared.trace_line.TraceLine.TheVariants.{Below, IsItem, Refused}
 use Rattle.check_text.specs.declared.image_line.ImageLine.{ImageLine}
@@ -16,17 +15,17 @@ use Rattle.check_text.specs.ImageLines.{image_header, line_of_image}
 use Rattle.check_text.specs.Reading.{Reading, Whole, RefusedAt, EndedAt, read_map}
 use Rattle.check_text.specs.TraceLines.{count_item, most_lines, trace_line}
 
--- how a claim on a stack is spelled: how many nodes its trace may name, how inputs and outputs are read, which header its
--- image has, and what a line of the image says
+-- how a claim on a stack is spelled: how many nodes its trace may name, how inputs and outputs are read, the stack of whose schedules
+-- its image has the header, if it has one, and what a line of the image says
 pub record Form (I O X : Type 0) : Type 0 where
   pub nodes : ℕ
   pub input_of : List ℕ → Option I
   pub output_of : List ℕ → Option O
-  pub heading : Heading
+  pub below : Option StackId
   pub says : List ℕ → ImageLine X
 
-abbrev pub form_of : {I O X : Type 0} → ℕ → (List ℕ → Option I) → (List ℕ → Option O) → Heading → (List ℕ → ImageLine X) → Form I O X
-form_of nodes input_of output_of heading says = record { nodes = nodes; input_of = input_of; output_of = output_of; heading = heading; says = says }
+abbrev pub form_of : {I O X : Type 0} → ℕ → (List ℕ → Option I) → (List ℕ → Option O) → Option StackId → (List ℕ → ImageLine X) → Form I O X
+form_of nodes input_of output_of below says = record { nodes = nodes; input_of = input_of; output_of = output_of; below = below; says = says }
 
 module _ {X : Type 0} where
   abbrev pub onto : ImageLine X → ℕ → Reading (List X) → Reading (List X)
@@ -48,17 +47,16 @@ module _ {I O X : Type 0} (form : Form I O X) where
   headed_unless (Some w) number rest = RefusedAt number w
   headed_unless None number rest = rest
 
-  -- the lines of an image that has a header of this kind
-  abbrev pub with_header : Heading → ℕ → List (List ℕ) → Reading (Claim I O X)
-  with_header kind number [] = EndedAt number
-  with_header kind number (l ∷ ls) =
-      headed_unless (first_of (line_refusals most_lines number l)) number (headed (image_header kind l) number (image_from form.says (number + 1) 0 ls))
+  -- the lines of an image that has such a header
+  abbrev pub with_header : Option StackId → ℕ → List (List ℕ) → Reading (Claim I O X)
+  with_header below number [] = EndedAt number
+  with_header below number (l ∷ ls) =
+      headed_unless (first_of (line_refusals most_lines number l)) number (headed (image_header below l) number (image_from form.says (number + 1) 0 ls))
 
   -- the lines behind `below`
-  abbrev pub behind_below : Heading → ℕ → List (List ℕ) → Reading (Claim I O X)
-  behind_below heading.Lock number ls = with_header heading.Lock number ls
-  behind_below heading.Kv number ls = with_header heading.Kv number ls
-  behind_below heading.Absent number ls = read_map (only_image None) (image_from form.says number 0 ls)
+  abbrev pub behind_below : Option StackId → ℕ → List (List ℕ) → Reading (Claim I O X)
+  behind_below None number ls = read_map (only_image None) (image_from form.says number 0 ls)
+  behind_below (Some s) number ls = with_header (Some s) number ls
 
   -- a line of the trace at this number, behind so many inputs, with what the lines behind it are by the inputs before
   -- them, and what they are if it is `below`
@@ -72,7 +70,7 @@ module _ {I O X : Type 0} (form : Form I O X) where
   claim_from number inputs [] = EndedAt number
   claim_from number inputs (l ∷ ls) =
       claim_line (trace_line form.input_of form.output_of form.nodes number inputs l) number inputs
-      (λ n. claim_from (number + 1) n ls) (behind_below form.heading (number + 1) ls)
+      (λ n. claim_from (number + 1) n ls) (behind_below form.below (number + 1) ls)
 
   -- the claim that the lines of a text are
   abbrev pub claim_of : List (List ℕ) → Reading (Claim I O X)

@@ -1,46 +1,42 @@
 -- What a line of an image says, and why it may be refused.
-use Rattle.std.specs.Prelude.{ℕ, Bool, true, false, ◌≤◌, nat_le, List, [], ◌∷◌, Option, Some, None, is_none, option_and_then, if◌then◌else◌, codes}
+use Rattle.std.specs.Prelude.{◌≡◌, ℕ, Bool, true, false, nat_le, List, [], ◌∷◌, Option, Some, None, is_none, option_and_then, if◌then◌else◌, codes}
 use Rattle.vst_base.specs.Firsts.{first_of}
 use Rattle.vst_base.specs.declared.stack.StackId.{StackId}
-use Rattle.vst_base.specs.declared.stack.StackId.TheVariants as stack
+use Rattle.vst_base.specs.Stacks.{stack_word}
 use Rattle.vst_base.specs.declared.step.Step.{Step}
 use Rattle.line_reader.specs.declared.why.Why.{Why}
 use Rattle.line_reader.specs.declared.why.Why.TheVariants as why
 use Rattle.line_reader.specs.Limits.{line_refusals}
 use Rattle.schedule_text.specs.declared.header.Header.{Header}
-use Rattle.schedule_text.specs.Headers.{header_of}
+use Rattle.schedule_text.specs.Headers.{IsHeader, header_of}
 use Rattle.schedule_text.specs.Words.{cut, is_text}
 use Rattle.schedule_text.specs.Reading.{number_in, parts_of, step_of}
-use Rattle.check_text.specs.declared.heading.Heading.{Heading}
-use Rattle.check_text.specs.declared.heading.Heading.TheVariants as heading
 use Rattle.check_text.specs.declared.image_line.ImageLine.{ImageLine}
 use Rattle.check_text.specs.declared.image_line.ImageLine.TheVariants.{Says, Refused}
 use Rattle.check_text.specs.TraceLines.{most_lines}
 
-abbrev pub has_header : Heading → Bool
-has_header heading.Lock = true
-has_header heading.Kv = true
-has_header heading.Absent = false
+-- an image has a header where it is a schedule of some stack
+abbrev pub has_header : Option StackId → Bool
+has_header None = false
+has_header (Some s) = true
 
--- an image may have a header of a schedule of this stack
-abbrev pub heads : Heading → StackId → Bool
-heads heading.Lock stack.Lock = true
-heads heading.Kv stack.Kv = true
-heads _ _ = false
+-- and then that of a schedule of this stack, which is known by its word
+abbrev pub heads : Option StackId → StackId → Bool
+heads None t = false
+heads (Some s) t = is_text (stack_word s) (stack_word t)
 
-abbrev pub header_if : Heading → Header → Option Header
-header_if kind h = if heads kind h.stack then Some h else None
+abbrev pub header_if : Option StackId → Header → Option Header
+header_if below h = if heads below h.stack then Some h else None
 
 -- the header of an image that a line is, if it is one
-abbrev pub image_header : Heading → List ℕ → Option Header
-image_header kind line = option_and_then (header_if kind) (header_of line)
+abbrev pub image_header : Option StackId → List ℕ → Option Header
+image_header below line = option_and_then (header_if below) (header_of line)
 
--- where an image has a header of a schedule of the lock server, there is one, and it has as many nodes as a lock cluster
-abbrev pub IsHeaded : Heading → Option Header → Type 0
-IsHeaded heading.Lock None = ⊥
-IsHeaded heading.Lock (Some h) = (2 ≤ h.nodes) × (h.nodes ≤ 9)
-IsHeaded heading.Kv o = Unit {0}
-IsHeaded heading.Absent o = Unit {0}
+-- where an image has a header, there is one, of a schedule of that stack
+abbrev pub IsHeaded : Option StackId → Option Header → Type 0
+IsHeaded None o = Unit {0}
+IsHeaded (Some s) None = ⊥
+IsHeaded (Some s) (Some h) = IsHeader h × (h.stack ≡ s)
 
 module _ {X : Type 0} where
   abbrev pub said_or_refused : Option Why → Option X → ImageLine X

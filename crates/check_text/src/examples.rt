@@ -10,9 +10,8 @@ ghost use Rattle.check_text.specs.declared.trace_line.TraceLine.TheVariants as l
 ghost use Rattle.vst_base.specs.declared.step.Item.TheVariants as item;
 ghost use Rattle.vst_base.specs.declared.step.Step.TheVariants as step;
 
-use crate::Heading;
 use schedule_text::Why;
-use vst_base::{LockInput, LockOutput};
+use vst_base::{LockInput, LockOutput, StackId};
 
 /// What a line of a trace is, at the borders of its limits and by the order of its refusals.
 pub fn worked_trace_lines()
@@ -50,10 +49,10 @@ pub fn worked_image_lines()
 
 /// Where a text ends too early, and where its header is refused.
 pub fn worked_ends()
-    ensures nothing { claim_of (form_of 9 input_of output_of Heading.Lock (step_says input_of)) [] ≡ EndedAt 1 }
-    ensures no_header { with_header (form_of 9 input_of output_of Heading.Lock (step_says input_of)) Heading.Lock 8000001 [] ≡ EndedAt 8000001 }
-    ensures header_past_the_last_line { with_header (form_of 9 input_of output_of Heading.Lock (step_says input_of)) Heading.Lock 8000001 (codes "schedule 1 bag lock 2" ∷ []) ≡ RefusedAt 8000001 Why.TooManyEvents }
-    ensures header_too_long { claim_of (form_of 9 input_of output_of Heading.Lock (step_says input_of)) (codes "below" ∷ replicate 4097 97 ∷ []) ≡ RefusedAt 2 Why.LineTooLong }
+    ensures nothing { claim_of (form_of 9 input_of output_of (Some StackId.Lock) (step_says input_of)) [] ≡ EndedAt 1 }
+    ensures no_header { with_header (form_of 9 input_of output_of (Some StackId.Lock) (step_says input_of)) (Some StackId.Lock) 8000001 [] ≡ EndedAt 8000001 }
+    ensures header_past_the_last_line { with_header (form_of 9 input_of output_of (Some StackId.Lock) (step_says input_of)) (Some StackId.Lock) 8000001 (codes "schedule 1 bag lock 2" ∷ []) ≡ RefusedAt 8000001 Why.TooManyEvents }
+    ensures header_too_long { claim_of (form_of 9 input_of output_of (Some StackId.Lock) (step_says input_of)) (codes "below" ∷ replicate 4097 97 ∷ []) ≡ RefusedAt 2 Why.LineTooLong }
     ensures no_line_of_an_image { image_from (step_says input_of) 8000001 0 [] ≡ Whole [] }
 {}
 

@@ -2,13 +2,13 @@ ghost use Rattle.std.specs.Prelude.{◌≡◌, IfOk, IfSome, Some};
 ghost use Rattle.check_text.specs.ImageLines.{IsHeaded, behind_order, counted_line, heads, image_header, order_says, step_says};
 ghost use Rattle.line_reader.specs.Slices.{one};
 
-use crate::{Heading, ImageLine, ImageText};
+use crate::{ImageLine, ImageText};
 use app_text::{AppText, TextFault};
 use line_reader::cut_at;
 use schedule_text::{Header, Line, MAX_EVENTS, SPACE, Why, header_of, line_says};
 use std::alloc::{AllocError, Global};
 use std::marker::PhantomData;
-use vst_base::{StackId, Step};
+use vst_base::{StackId, Step, stacks_have_one_word};
 
 /// The lines of a schedule, by the texts of its inputs.
 pub struct Steps<A> {
@@ -67,24 +67,24 @@ impl<A: AppText> ImageText for Orders<A> {
     }
 }
 
-// Whether an image may have a header of a schedule of this stack.
-fn heads(heading: Heading, stack: StackId) -> bool
-    ensures { result ≡ heads heading stack }
+// Whether an image has headers of schedules of this stack.
+fn heads(below: Option<StackId>, stack: StackId) -> bool
+    ensures { result ≡ heads below stack }
 {
-    match heading {
-        Heading::Lock => matches!(stack, StackId::Lock),
-        Heading::Kv => matches!(stack, StackId::Kv),
-        Heading::Absent => false,
+    match below {
+        Some(own) => own.word() == stack.word(),
+        None => false,
     }
 }
 
 /// The header of an image that a line is. `None` comes exactly where it is none.
-pub(crate) fn image_header(heading: Heading, line: &[u8]) -> Option<Header>
-    ensures header { result ≡ image_header heading line.now }
-    ensures headed { IfSome result (λ header. IsHeaded heading (Some header)) }
+pub(crate) fn image_header(below: Option<StackId>, line: &[u8]) -> Option<Header>
+    ensures header { result ≡ image_header below line.now }
+    ensures headed { IfSome result (λ header. IsHeaded below (Some header)) }
 {
+    stacks_have_one_word();
     let header = header_of(line)?;
-    if heads(heading, header.stack) {
+    if heads(below, header.stack) {
         Some(header)
     } else {
         None

@@ -5,7 +5,6 @@
 mod claim;
 mod draft;
 mod examples;
-mod heading;
 mod image_line;
 mod image_lines;
 mod image_text;
@@ -18,7 +17,6 @@ mod trace_lines;
 
 pub use claim::Claim;
 pub use examples::{worked_ends, worked_image_lines, worked_reads, worked_trace_lines};
-pub use heading::Heading;
 pub use image_line::ImageLine;
 pub use image_lines::{Orders, Steps};
 pub use image_text::ImageText;

@@ -1,5 +1,5 @@
-ghost use Rattle.std.specs.Prelude.{◌≡◌, ◌+◌, ◌≤◌, ℕ, IfOk, IfSome, OnOk, Some, None, length};
-ghost use Rattle.check_text.specs.declared.heading.Heading.{Heading as HeadingSpec};
+ghost use Rattle.std.specs.Prelude.{◌≡◌, ◌+◌, ◌≤◌, ℕ, IfOk, IfSome, OnOk, Option, Some, None, length};
+ghost use Rattle.vst_base.specs.declared.stack.StackId.{StackId as SpecId};
 ghost use Rattle.check_text.specs.Drafts.{EndsBy, Finishes, IsStaged, TakesLine, lines_of};
 ghost use Rattle.check_text.specs.Forms.{form_of};
 ghost use Rattle.check_text.specs.ImageLines.{IsHeaded, has_header};
@@ -9,39 +9,37 @@ use crate::image_lines::{counted_line, image_header};
 use crate::stage::Stage;
 use crate::trace_line::TraceLine;
 use crate::trace_lines::counted_says;
-use crate::{Claim, Heading, ImageLine, ImageText};
+use crate::{Claim, ImageLine, ImageText};
 use app_text::AppText;
 use schedule_text::{LineFault, Reader, Why};
 use std::alloc::{AllocError, Global};
+use vst_base::StackId;
 
 // Whether an image has a header.
-fn has_header(heading: Heading) -> bool
-    ensures { result ≡ has_header heading }
+fn has_header(below: Option<StackId>) -> bool
+    ensures { result ≡ has_header below }
 {
-    match heading {
-        Heading::Lock | Heading::Kv => true,
-        Heading::Absent => false,
-    }
+    below.is_some()
 }
 
 // Takes an item of the trace, or the line `below`, or says why it is refused.
 fn take_trace_line<A: AppText, G: ImageText>(
     alloc: Global,
     nodes: u8,
-    heading: Heading,
+    below: Option<StackId>,
     draft: &mut Draft<A::Input, A::Output, G::Line>,
     line: &[u8],
 ) -> Result<Option<Why>, AllocError>
     requires stage { draft.old.stage ≡ Stage.Trace }
     requires staged { IsStaged draft.old }
-    ensures takes { IfOk result (TakesLine (form_of nodes A.input_of A.output_of heading G.says) draft.old draft.new line.now) }
+    ensures takes { IfOk result (TakesLine (form_of nodes A.input_of A.output_of below G.says) draft.old draft.new line.now) }
     ensures grows { OnOk result (lines_of draft.new ≤ lines_of draft.old + 1) }
     ensures counted { length draft.old.image ≤ 1000000 → OnOk result (length draft.new.image ≤ 1000000) }
-    ensures headed { (draft.old.stage ≡ Stage.Image → IsHeaded heading draft.old.header) → OnOk result (draft.new.stage ≡ Stage.Image → IsHeaded heading draft.new.header) }
+    ensures headed { (draft.old.stage ≡ Stage.Image → IsHeaded below draft.old.header) → OnOk result (draft.new.stage ≡ Stage.Image → IsHeaded below draft.new.header) }
 {
     match counted_says::<A>(alloc, nodes, draft.inputs(), line)? {
         TraceLine::Below => {
-            draft.end_trace(has_header(heading));
+            draft.end_trace(has_header(below));
             Ok(None)
         }
         TraceLine::IsItem(item) => {
@@ -55,18 +53,18 @@ fn take_trace_line<A: AppText, G: ImageText>(
 // Takes the header of the image, or says why the line is refused.
 fn take_header<A: AppText, G: ImageText>(
     nodes: u8,
-    heading: Heading,
+    below: Option<StackId>,
     draft: &mut Draft<A::Input, A::Output, G::Line>,
     line: &[u8],
 ) -> Option<Why>
     requires stage { draft.old.stage ≡ Stage.Header }
     requires staged { IsStaged draft.old }
-    ensures takes { TakesLine (form_of nodes A.input_of A.output_of heading G.says) draft.old draft.new line.now result }
+    ensures takes { TakesLine (form_of nodes A.input_of A.output_of below G.says) draft.old draft.new line.now result }
     ensures grows { lines_of draft.new ≤ lines_of draft.old + 1 }
     ensures counted { length draft.old.image ≤ 1000000 → length draft.new.image ≤ 1000000 }
-    ensures headed { (draft.old.stage ≡ Stage.Image → IsHeaded heading draft.old.header) → draft.new.stage ≡ Stage.Image → IsHeaded heading draft.new.header }
+    ensures headed { (draft.old.stage ≡ Stage.Image → IsHeaded below draft.old.header) → draft.new.stage ≡ Stage.Image → IsHeaded below draft.new.header }
 {
-    match image_header(heading, line) {
+    match image_header(below, line) {
         Some(header) => {
             draft.set_header(header);
             None
@@ -79,15 +77,15 @@ fn take_header<A: AppText, G: ImageText>(
 fn take_image_line<A: AppText, G: ImageText>(
     alloc: Global,
     nodes: u8,
-    heading: Heading,
+    below: Option<StackId>,
     draft: &mut Draft<A::Input, A::Output, G::Line>,
     line: &[u8],
 ) -> Result<Option<Why>, AllocError>
     requires stage { draft.old.stage ≡ Stage.Image }
-    ensures takes { IfOk result (TakesLine (form_of nodes A.input_of A.output_of heading G.says) draft.old draft.new line.now) }
+    ensures takes { IfOk result (TakesLine (form_of nodes A.input_of A.output_of below G.says) draft.old draft.new line.now) }
     ensures grows { OnOk result (lines_of draft.new ≤ lines_of draft.old + 1) }
     ensures counted { length draft.old.image ≤ 1000000 → OnOk result (length draft.new.image ≤ 1000000) }
-    ensures headed { (draft.old.stage ≡ Stage.Image → IsHeaded heading draft.old.header) → OnOk result (draft.new.stage ≡ Stage.Image → IsHeaded heading draft.new.header) }
+    ensures headed { (draft.old.stage ≡ Stage.Image → IsHeaded below draft.old.header) → OnOk result (draft.new.stage ≡ Stage.Image → IsHeaded below draft.new.header) }
 {
     match counted_line::<G>(alloc, draft.image_lines(), line)? {
         ImageLine::Says(said) => {
@@ -102,19 +100,19 @@ fn take_image_line<A: AppText, G: ImageText>(
 pub(crate) fn take_line<A: AppText, G: ImageText>(
     alloc: Global,
     nodes: u8,
-    heading: Heading,
+    below: Option<StackId>,
     draft: &mut Draft<A::Input, A::Output, G::Line>,
     line: &[u8],
 ) -> Result<Option<Why>, AllocError>
-    ensures takes { IfOk result (TakesLine (form_of nodes A.input_of A.output_of heading G.says) draft.old draft.new line.now) }
+    ensures takes { IfOk result (TakesLine (form_of nodes A.input_of A.output_of below G.says) draft.old draft.new line.now) }
     ensures grows { OnOk result (lines_of draft.new ≤ lines_of draft.old + 1) }
     ensures counted { length draft.old.image ≤ 1000000 → OnOk result (length draft.new.image ≤ 1000000) }
-    ensures headed { (draft.old.stage ≡ Stage.Image → IsHeaded heading draft.old.header) → OnOk result (draft.new.stage ≡ Stage.Image → IsHeaded heading draft.new.header) }
+    ensures headed { (draft.old.stage ≡ Stage.Image → IsHeaded below draft.old.header) → OnOk result (draft.new.stage ≡ Stage.Image → IsHeaded below draft.new.header) }
 {
     match draft.stage() {
-        Stage::Trace => take_trace_line::<A, G>(alloc, nodes, heading, draft, line),
-        Stage::Header => Ok(take_header::<A, G>(nodes, heading, draft, line)),
-        Stage::Image => take_image_line::<A, G>(alloc, nodes, heading, draft, line),
+        Stage::Trace => take_trace_line::<A, G>(alloc, nodes, below, draft, line),
+        Stage::Header => Ok(take_header::<A, G>(nodes, below, draft, line)),
+        Stage::Image => take_image_line::<A, G>(alloc, nodes, below, draft, line),
     }
 }
 
@@ -122,7 +120,7 @@ pub(crate) fn take_line<A: AppText, G: ImageText>(
 fn finish<A: AppText, G: ImageText>(
     draft: Draft<A::Input, A::Output, G::Line>,
 ) -> Option<Claim<A::Input, A::Output, G::Line>>
-    ensures finishes { (nodes : ℕ) (heading : HeadingSpec) → Finishes (form_of nodes A.input_of A.output_of heading G.says) draft result }
+    ensures finishes { (nodes : ℕ) (below : Option SpecId) → Finishes (form_of nodes A.input_of A.output_of below G.says) draft result }
     ensures lines { IfSome result (λ claim. length claim.trace + length claim.image ≡ lines_of draft) }
     ensures image { IfSome result (λ claim. claim.image ≡ draft.image) }
     ensures header { IfSome result (λ claim. (claim.header ≡ draft.header) × (draft.stage ≡ Stage.Image)) }
@@ -140,7 +138,7 @@ pub(crate) fn end_claim<A: AppText, G: ImageText>(
     reader: &Reader,
     fault: LineFault,
 ) -> Result<Claim<A::Input, A::Output, G::Line>, LineFault>
-    ensures ends { (nodes : ℕ) (heading : HeadingSpec) → EndsBy (form_of nodes A.input_of A.output_of heading G.says) draft reader.now.number fault result }
+    ensures ends { (nodes : ℕ) (below : Option SpecId) → EndsBy (form_of nodes A.input_of A.output_of below G.says) draft reader.now.number fault result }
     ensures lines { IfOk result (λ claim. length claim.trace + length claim.image ≡ lines_of draft) }
     ensures image { IfOk result (λ claim. claim.image ≡ draft.image) }
     ensures header { IfOk result (λ claim. (claim.header ≡ draft.header) × (draft.stage ≡ Stage.Image)) }

@@ -1,6 +1,6 @@
 -- How many steps a script has, and how many inputs and lines of an image they come to.
-use Rattle.std.specs.Prelude.{◌≡◌, ℕ, zero, suc, ◌+◌, ◌<◌, ◌≤◌, Bool, true, false, ◌==◌, nat_le, is_none, List, [], ◌∷◌, ◌++◌, length, map, take, count_by, Option, Some, None, cond, refl}
-use Rattle.std.proofs.Common.{subst, sym, arith}
+use Rattle.std.specs.Prelude.{◌≡◌, ℕ, zero, suc, ◌+◌, ◌<◌, ◌≤◌, Bool, false, ◌==◌, nat_le, is_none, List, [], ◌∷◌, ◌++◌, length, map, take, count_by, Option, Some, None, cond, refl}
+use Rattle.std.proofs.Common.{arith}
 use Rattle.std.proofs.lemmas.Bool.Decides.{nat_tests}
 use Rattle.std.proofs.lemmas.List.Sums.{sum_by-append, sum_by-cons}
 use Rattle.vst_base.specs.Firsts.{first_of}
@@ -22,11 +22,9 @@ use Rattle.schedule_text.specs.declared.line.Line.TheVariants.{Skipped, IsStep, 
 use Rattle.schedule_text.specs.Lines.{is_skipped}
 use Rattle.schedule_text.specs.Reading.{line_unless, number_in, parts_of, read_line, step_of, step_or_refusal, step_refusals}
 use Rattle.schedule_text.specs.Schedules.{Script, script, script_line}
-use Rattle.schedule_replay.specs.Replaying.{is_input, replayed_script, steps_of, taken}
-use Rattle.schedule_replay.specs.Stacks.{Stack}
-use Rattle.checked_replays.proofs.Eaches.{either}
-use Rattle.checked_replays.proofs.Runs.{no-refusal}
-use Rattle.checked_replays.proofs.Scripts.{takes-all}
+use Rattle.schedule_replay.specs.Replaying.{is_input, steps_of}
+use Rattle.permitted_claims.proofs.Eaches.{either}
+use Rattle.permitted_claims.proofs.Runs.{no-refusal}
 
 -- a script has a million steps at most
 module _ {I : Type 0} (f : List ℕ → Option I) where
@@ -70,9 +68,8 @@ module _ {I : Type 0} (f : List ℕ → Option I) where
   script-count most number events (l ∷ ls) within =
       line-count (read_line most f number events l) number events (λ e. script most f (number + 1) e ls) (few-line most number events l) within (λ e low. script-count most (number + 1) e ls low)
 
-  pub taken-few : {S K O M : Type 0} (st : Stack S K I O M) (most number : ℕ) (ls : List (List ℕ)) → (replayed_script st true (script most f number 0 ls)).refused ≡ None → length (taken st (script most f number 0 ls)) ≤ 1000000
-  taken-few st most number ls accepted =
-      subst (λ ss. length ss ≤ 1000000) (sym (takes-all st (script most f number 0 ls) accepted)) (let all = script-count most number 0 ls (omega arith) in omega (arith, all))
+  pub steps-few : (most number : ℕ) (ls : List (List ℕ)) → length (steps_of (script most f number 0 ls)) ≤ 1000000
+  steps-few most number ls = let all = script-count most number 0 ls (omega arith) in omega (arith, all)
 
 -- a step takes one input at most
 pub counted-first : {I O : Type 0} (x : Item I O) (xs : List (Item I O)) → count_by is_input (x ∷ xs) ≡ cond (is_input x) 1 0 + count_by is_input xs

@@ -21,13 +21,14 @@ use Rattle.check_text.specs.Forms.{Form, behind_below, claim_of, headed, headed_
 use Rattle.check_text.specs.ImageLines.{counted_line, image_header, image_unless, line_of_image}
 use Rattle.check_text.specs.Reading.{Reading, Whole, read_map}
 use Rattle.check_text.specs.TraceLines.{most_lines}
-use Rattle.check_text.specs.declared.heading.Heading.{Heading}
+use Rattle.vst_base.specs.declared.stack.StackId.{StackId}
 use Rattle.check_text.specs.declared.image_line.ImageLine.{ImageLine}
 use Rattle.check_text.specs.declared.image_line.ImageLine.TheVariants as line
 use Rattle.schedule_replay.specs.Replaying.{is_input}
-use Rattle.schedule_replay.specs.Stacks.{header_lines}
+use Rattle.stacks.specs.ClaimTexts.{header_lines}
 use Rattle.checked_replays.proofs.PlainLines.{IsPlain, lines-are, lines-behind, printed}
-use Rattle.checked_replays.proofs.TraceReading.{IsShort, enough, first-none, IsTextItem, plain-trace, trace-read}
+use Rattle.checked_replays.proofs.TraceReading.{IsShort, enough, first-none, plain-trace, trace-read}
+use Rattle.permitted_claims.proofs.TextItems.{IsTextItem}
 
 unless-none : {X : Type 0} (o : Option Why) (l : ImageLine X) → o ≡ None → image_unless o l ≡ l
 unless-none o l e = rw e refl
@@ -54,7 +55,7 @@ module _ {I O X : Type 0} (form : Form I O X) where
   header-some : (o : Option Header) (h : Header) (number : ℕ) (r : Reading (List X)) → o ≡ Some h → headed form o number r ≡ read_map (only_image (Some h)) r
   header-some o h number r e = rw e refl
 
-  pub headed-read : (kind : Heading) (number : ℕ) (h : Header) (ls : List (List ℕ)) (xs : List X) → image_header kind (header_text h) ≡ Some h → IsShort (header_text h) → number ≤ most_lines
+  pub headed-read : (kind : Option StackId) (number : ℕ) (h : Header) (ls : List (List ℕ)) (xs : List X) → image_header kind (header_text h) ≡ Some h → IsShort (header_text h) → number ≤ most_lines
       → image_from form.says (number + 1) 0 ls ≡ Whole xs → with_header form kind number (header_text h ∷ ls) ≡ Whole (only_image (Some h) xs)
   headed-read kind number h ls xs is short within rest =
       header-none (first_of (line_refusals most_lines number (header_text h))) number (headed form (image_header kind (header_text h)) number (image_from form.says (number + 1) 0 ls)) (allows most_lines number (header_text h) short within)
@@ -73,7 +74,7 @@ lines-of-parts ls below head rest plain plain_below plain_head =
 abbrev pub IsHeadedBy : {I O X : Type 0} → Form I O X → Option Header → Type 0
 IsHeadedBy {X = X} form head =
     (number : ℕ) (ls : List (List ℕ)) (xs : List X) → Each IsShort (header_lines head) → number + length (header_lines head) ≤ most_lines + 1
-    → image_from form.says (number + length (header_lines head)) 0 ls ≡ Whole xs → behind_below form form.heading number (header_lines head ++ ls) ≡ Whole (only_image head xs)
+    → image_from form.says (number + length (header_lines head)) 0 ls ≡ Whole xs → behind_below form form.below number (header_lines head ++ ls) ≡ Whole (only_image head xs)
 
 -- the whole text of a claim, whose image is spelled so, below this header, if it has one
 module _ {I O X : Type 0} (form : Form I O X) (t : I → List ℕ) (u : O → List ℕ) (HasIn : I → Type 0) (HasOut : O → Type 0) (few_nodes : form.nodes < 4294967296) (ins : IsSpelling HasIn form.input_of t) (outs : IsSpelling HasOut form.output_of u)

@@ -1,53 +1,47 @@
--- A check of what a replay of the key-value machine alone wrote is permitted.
-use Rattle.std.specs.Prelude.{◌≡◌, ℕ, true, List, Some, None, Ok, refl}
-use Rattle.std.proofs.Common.{ap, ◌∙◌, subst, sym, arith}
-use Rattle.app_text.specs.KvTexts as texts
+-- What a replay of the key-value machine alone wrote is read as a claim.
+use Rattle.std.specs.Prelude.{◌≡◌, List, None, length, ◌≤◌, refl}
+use Rattle.std.proofs.Common.{arith}
 use Rattle.app_text.specs.KvTextLaws.{inputs_are_spelled, outputs_are_spelled}
-use Rattle.linearizability.specs.Linearizable.{Each}
+use Rattle.app_text.specs.KvTexts as texts
+use Rattle.check_text.specs.Forms.{claim_of}
+use Rattle.check_text.specs.Reading.{Whole}
 use Rattle.kv_machine.specs.Kv.{Store, kv}
 use Rattle.kv_machine.specs.declared.cmd.KvCmd.{KvCmd}
-use Rattle.net_semantics.specs.Worlds.{first_world}
+use Rattle.kv_machine.specs.declared.out.KvOut.{KvOut}
+use Rattle.linearizability.specs.Linearizable.{Each}
+use Rattle.line_reader.specs.Lines.{lines_of}
 use Rattle.net_semantics.specs.Runs.{no_recovery}
-use Rattle.single_node.specs.SingleNode.{single_node}
-use Rattle.schedule_text.specs.Schedules.{script}
+use Rattle.net_semantics.specs.Worlds.{first_world}
+use Rattle.schedule_text.specs.Headers.{IsHeader}
 use Rattle.schedule_text.specs.Spellable.{IsSpellable}
-use Rattle.trace_check.specs.Checks.{kv_form, kv_verdict, said}
-use Rattle.schedule_replay.specs.Replaying.{replayed_script, taken, trace_of}
-use Rattle.schedule_replay.specs.Replays.{kv_header, kv_stack, kv_texts, most_lines}
-use Rattle.schedule_replay.specs.Stacks.{Stack, schedule_image}
-use Rattle.schedule_replay.proofs.Explained.{all-allowed}
+use Rattle.single_node.specs.SingleNode.{single_node}
+use Rattle.stacks.specs.ClaimTexts.{claim_by, claim_text}
+use Rattle.stacks.specs.Kinds.{by_itself, header_on}
+use Rattle.stacks.specs.Stack.{Play}
+use Rattle.stacks.specs.Table.{kv_texts}
+use Rattle.trace_check.specs.Checks.{form_on}
 use Rattle.vst_base.specs.declared.net.Net.TheVariants as net
 use Rattle.vst_base.specs.declared.stack.StackId.TheVariants as stack
-use Rattle.xform_stack.specs.Running.{system_of}
-use Rattle.checked_replays.proofs.Headers.{kv-image, kv-plain, kv-short}
-use Rattle.checked_replays.proofs.Counts.{taken-few}
+use Rattle.vst_base.specs.declared.step.Step.{Step}
+use Rattle.permitted_claims.proofs.KvRuns.{IsCommand, IsOutput, IsTextStore, kv-keeps, single-keeps}
+use Rattle.permitted_claims.proofs.Runs.{trace-texts}
+use Rattle.checked_replays.proofs.Counts.{trace-inputs}
+use Rattle.checked_replays.proofs.Headers.{head-image, head-plain, head-short}
 use Rattle.checked_replays.proofs.Lengths.{brief-commands, brief-outputs, short-steps}
 use Rattle.checked_replays.proofs.Outputs.{single-once, trace-length}
-use Rattle.checked_replays.proofs.KvRuns.{IsCommand, IsOutput, IsTextStore, kv-keeps, single-keeps}
-use Rattle.checked_replays.proofs.Openings.{AreHeaded}
-use Rattle.checked_replays.proofs.Runs.{trace-texts}
-use Rattle.checked_replays.proofs.Scripts.{script-spellable, takes-all}
 use Rattle.checked_replays.proofs.StackReading.{stack-read}
 use Rattle.checked_replays.proofs.StepImages.{headed-by, plain-steps, steps-said}
-use Rattle.checked_replays.proofs.Verdicts.{is-permitted}
 
--- the steps that a stack of the machine takes have lines
-pub kv-steps : {S K O M : Type 0} (st : Stack S K KvCmd O M) (number : ℕ) (ls : List (List ℕ)) → (replayed_script st true (script most_lines texts.input_of number 0 ls)).refused ≡ None
-    → Each (IsSpellable IsCommand) (taken st (script most_lines texts.input_of number 0 ls))
-kv-steps st number ls accepted =
-    subst (Each (IsSpellable IsCommand)) (sym (takes-all st (script most_lines texts.input_of number 0 ls) accepted)) (script-spellable texts.input_of IsCommand inputs_are_spelled.has_text most_lines number 0 ls)
+abbrev p : Play KvCmd KvOut (Step KvCmd)
+p = (by_itself stack.Kv kv kv_texts).stack.play
 
-pub kv-headed : AreHeaded stack.Kv
-kv-headed h number ls good is explained accepted within =
-    let sc = script most_lines texts.input_of number 0 ls in
-    let ss = taken kv_stack sc in
-    let allowed = all-allowed kv_stack sc accepted in
-    let steps = kv-steps kv_stack number ls accepted in
+pub kv-read : IsHeader (header_on stack.Kv 1) → (ss : List (Step KvCmd)) → Each (IsSpellable IsCommand) ss → length ss ≤ 1000000 → p.refused ss ≡ None
+    → claim_of (form_on 1 p) (lines_of (claim_text p (claim_by p ss))) ≡ Whole (claim_by p ss)
+kv-read good ss steps few allowed =
     let items = trace-texts net.One (single_node kv) (no_recovery {S = Store}) IsCommand IsOutput (λ n s. IsTextStore s) (λ _. Unit {0}) (single-keeps kv IsCommand IsOutput IsTextStore kv-keeps) ss allowed steps in
-    let few = taken-few texts.input_of kv_stack most_lines number ls accepted in
     let seen = trace-length (single_node kv) (no_recovery {S = Store}) (single-once kv) (first_world (single_node kv)) ss in
-    ap (said kv_verdict)
-    (stack-read (system_of net.One (single_node kv) (λ ss. ss)) kv_texts (schedule_image kv_header texts.input_text) kv_form IsCommand IsOutput (omega arith) inputs_are_spelled outputs_are_spelled brief-commands brief-outputs (headed-by kv_form kv_header (λ number ls. refl) kv-image)
-    (kv-plain, tt) (kv-short, tt) sc accepted items (plain-steps texts.input_of texts.input_text IsCommand inputs_are_spelled ss steps) (steps-said texts.input_of texts.input_text IsCommand inputs_are_spelled ss steps)
-    (omega (arith, few, seen)) (short-steps texts.input_text IsCommand brief-commands ss steps) few few)
-    ∙ ap Ok (is-permitted texts.input_text texts.output_text net.One (single_node kv) (record { trace = trace_of kv_stack ss; header = Some kv_header; image = ss }) allowed refl)
+    let inputs = trace-inputs (single_node kv) (no_recovery {S = Store}) (first_world (single_node kv)) ss in
+    stack-read 1 p IsCommand IsOutput (omega arith) inputs_are_spelled outputs_are_spelled brief-commands brief-outputs
+    (headed-by (form_on 1 p) (header_on stack.Kv 1) (λ number ls. refl) (head-image stack.Kv 1 (omega arith) good)) (head-plain stack.Kv 1 (omega arith) refl, tt) (head-short stack.Kv 1 (omega arith) (omega arith), tt)
+    ss items (plain-steps texts.input_of texts.input_text IsCommand inputs_are_spelled ss steps) (steps-said texts.input_of texts.input_text IsCommand inputs_are_spelled ss steps)
+    (omega (arith, few, seen)) (short-steps texts.input_text IsCommand brief-commands ss steps) (omega (arith, inputs, few)) few

@@ -23,8 +23,9 @@ use Rattle.vst_base.specs.declared.step.Item.{Item}
 use Rattle.vst_base.specs.declared.step.Item.TheVariants as item
 use Rattle.vst_base.specs.declared.step.Step.{Step}
 use Rattle.vst_base.specs.declared.step.Step.TheVariants as step
-use Rattle.checked_replays.proofs.KvRuns.{IsCommand, IsOutput}
-use Rattle.checked_replays.proofs.TraceReading.{IsShort, IsTextItem}
+use Rattle.permitted_claims.proofs.KvRuns.{IsCommand, IsOutput}
+use Rattle.checked_replays.proofs.TraceReading.{IsShort}
+use Rattle.permitted_claims.proofs.TextItems.{IsTextItem}
 
 -- values whose texts have so many bytes at most
 abbrev pub AreWithin : {V : Type 0} → ℕ → (V → Type 0) → (V → List ℕ) → Type 0

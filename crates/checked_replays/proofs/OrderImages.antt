@@ -32,7 +32,7 @@ module _ {C : Type 0} (HasIn : C → Type 0) (command_of : List ℕ → Option C
   plain-orders (q ∷ order) has = (none-append 10 (codes "order ") (raft_input_text command_text q) refl (plain-text (raft_input_text command_text q) (spelled.one_line q has.0)), plain-orders order has.1)
 
 -- without a header
-pub unheaded : {I O X : Type 0} (form : Form I O X) → ((number : ℕ) (ls : List (List ℕ)) → behind_below form form.heading number ls ≡ read_map (only_image None) (image_from form.says number 0 ls)) → IsHeadedBy form None
+pub unheaded : {I O X : Type 0} (form : Form I O X) → ((number : ℕ) (ls : List (List ℕ)) → behind_below form form.below number ls ≡ read_map (only_image None) (image_from form.says number 0 ls)) → IsHeadedBy form None
 unheaded form headed number ls xs short within image =
     let same : number ≡ number + 0 = omega arith in
     headed number ls ∙ (ap (λ n. read_map (only_image None) (image_from form.says n 0 ls)) same ∙ ap (λ r. read_map (only_image None) r) image)

@@ -24,7 +24,7 @@ use Rattle.vst_base.specs.declared.step.Item.{Item}
 use Rattle.vst_base.specs.declared.step.Item.TheVariants as item
 use Rattle.vst_base.specs.declared.step.Step.{Step}
 use Rattle.vst_base.specs.declared.step.Step.TheVariants as step
-use Rattle.checked_replays.proofs.Eaches.{IfThere, either}
+use Rattle.permitted_claims.proofs.Eaches.{IfThere, either}
 
 abbrev TellsOne : {S O M : Type 0} → Effect S O M → Type 0
 TellsOne e = length e.outputs ≤ 1

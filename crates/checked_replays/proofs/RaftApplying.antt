@@ -18,8 +18,8 @@ use Rattle.vst_base.specs.Machines.{MachineMeaning}
 use Rattle.vst_base.specs.declared.entry.Entry.{Entry}
 use Rattle.vst_base.specs.declared.what.What.{What}
 use Rattle.vst_base.specs.declared.what.What.TheVariants.{Noop, Request}
-use Rattle.checked_replays.proofs.Eaches.{IfThere, each-both, either}
-use Rattle.checked_replays.proofs.KvRuns.{MachineKeeps}
+use Rattle.permitted_claims.proofs.Eaches.{IfThere, each-both, either}
+use Rattle.permitted_claims.proofs.KvRuns.{MachineKeeps}
 
 module _ {S C O : Type 0} (m : MachineMeaning S C O) (HasIn : C → Type 0) (HasOut : O → Type 0) (Sound : S → Type 0) (keeps : MachineKeeps m HasIn HasOut Sound) where
   -- what it asks for has a text, if it asks for anything

@@ -30,10 +30,10 @@ use Rattle.vst_base.specs.declared.entry.Entry.{Entry}
 use Rattle.vst_base.specs.declared.net.Net.TheVariants as net
 use Rattle.vst_base.specs.declared.what.What.{What}
 use Rattle.vst_base.specs.declared.what.What.TheVariants.{Noop, Request}
-use Rattle.checked_replays.proofs.Eaches.{each-both, each-drop, each-take, either}
-use Rattle.checked_replays.proofs.KvRuns.{MachineKeeps}
+use Rattle.permitted_claims.proofs.Eaches.{each-both, each-drop, each-take, either}
+use Rattle.permitted_claims.proofs.KvRuns.{MachineKeeps}
 use Rattle.checked_replays.proofs.RaftApplying.{AreTextSessions, IsTextEntry, all-text, no-sessions, replies-text}
-use Rattle.checked_replays.proofs.Runs.{IsFine, KeepsTexts}
+use Rattle.permitted_claims.proofs.Runs.{IsFine, KeepsTexts}
 
 -- old entries and new ones
 merged-each : {C : Type 0} (P : Entry C → Type 0) (old es : List (Entry C)) → Each P old → Each P es → Each P (merged old es)

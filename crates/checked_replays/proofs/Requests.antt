@@ -1,14 +1,21 @@
 -- Requests of different names that clients put in are no more than the inputs.
-use Rattle.std.specs.Prelude.{◌≡◌, ℕ, suc, ◌≤◌, Bool, true, false, List, [], ◌∷◌, length, count_by, cond, refl}
+use Rattle.std.specs.Prelude.{◌≡◌, ℕ, suc, ◌≤◌, Bool, true, false, ◌==◌, List, [], ◌∷◌, length, count_by, cond, refl}
 use Rattle.std.proofs.Common.{ap, ◌∙◌, sym, inl, inr, arith}
+use Rattle.std.proofs.lemmas.Bool.{and_from}
+use Rattle.std.proofs.lemmas.Bool.Decides.{nat_tests}
 use Rattle.linearizability.specs.Linearizable.{AreDistinct, AreOther, Each, HasInput, is_named}
 use Rattle.raft_types.specs.declared.client.RaftInput.{RaftInput}
 use Rattle.vst_base.specs.declared.step.Item.{Item}
 use Rattle.vst_base.specs.declared.step.Item.TheVariants as item
 use Rattle.schedule_replay.specs.Replaying.{is_input}
 use Rattle.checked_replays.proofs.Counts.{counted-first}
-use Rattle.checked_replays.proofs.Eaches.{either}
-use Rattle.checked_replays.proofs.RaftVerdicts.{own-name}
+use Rattle.permitted_claims.proofs.Eaches.{either}
+
+same-number : (n : ℕ) → (n == n) ≡ true
+same-number n = grind (arith, nat_tests)
+
+own-name : {C : Type 0} (r : RaftInput C) → is_named r.client r.request r ≡ true
+own-name r = and_from (r.client == r.client) (r.request == r.request) (same-number r.client) (same-number r.request)
 
 module _ {C : Type 0} (j : RaftInput C) where
   -- all but the first that has the name of this one

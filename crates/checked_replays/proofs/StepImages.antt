@@ -41,6 +41,6 @@ plain-steps f t HasIn spelled [] has = tt
 plain-steps f t HasIn spelled (s ∷ ss) has = (plain-step f t HasIn spelled.reads_back spelled.one_line s has.0, plain-steps f t HasIn spelled ss has.1)
 
 -- below a header of this kind
-pub headed-by : {I O X : Type 0} (form : Form I O X) (h : Header) → ((number : ℕ) (ls : List (List ℕ)) → behind_below form form.heading number ls ≡ with_header form form.heading number ls) → image_header form.heading (header_text h) ≡ Some h
+pub headed-by : {I O X : Type 0} (form : Form I O X) (h : Header) → ((number : ℕ) (ls : List (List ℕ)) → behind_below form form.below number ls ≡ with_header form form.below number ls) → image_header form.below (header_text h) ≡ Some h
     → IsHeadedBy form (Some h)
-headed-by form h headed is number ls xs short within image = headed number (header_text h ∷ ls) ∙ headed-read form form.heading number h ls xs is short.0 (omega (arith, within)) image
+headed-by form h headed is number ls xs short within image = headed number (header_text h ∷ ls) ∙ headed-read form form.below number h ls xs is short.0 (omega (arith, within)) image

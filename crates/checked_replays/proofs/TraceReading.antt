@@ -1,10 +1,8 @@
 -- The lines of a trace whose inputs and outputs have texts are read as the trace.
-use Rattle.std.specs.Prelude.{◌≡◌, ℕ, Bool, true, false, ◌+◌, ◌<◌, ◌≤◌, ◌&&◌, nat_lt, nat_le, is_none, List, [], ◌∷◌, ◌++◌, length, map, count_by, Option, Some, None, cond, codes, refl}
+use Rattle.std.specs.Prelude.{◌≡◌, ℕ, Bool, true, false, ◌+◌, ◌<◌, ◌≤◌, ◌&&◌, nat_le, List, [], ◌∷◌, ◌++◌, length, map, count_by, Option, Some, None, cond, codes, refl}
 use Rattle.std.specs.Fmt.{decimal}
 use Rattle.std.proofs.Common.{ap, ◌∙◌, arith}
-use Rattle.std.proofs.lemmas.Bool.{lt-ltb}
 use Rattle.std.proofs.lemmas.Bool.Decides.{nat_tests}
-use Rattle.std.proofs.lemmas.Fmt.{digits_decimal}
 use Rattle.std.proofs.lemmas.List.Sums.{sum_by-cons}
 use Rattle.app_text.specs.Spelling.{IsSpelling}
 use Rattle.vst_base.specs.Firsts.{first_of}
@@ -17,29 +15,15 @@ use Rattle.line_reader.proofs.Cutting.{none-append, none-from}
 use Rattle.line_reader.proofs.Taking.{allows}
 use Rattle.linearizability.specs.Linearizable.{Each}
 use Rattle.schedule_text.specs.Printing.{item_text, numbered}
-use Rattle.schedule_text.specs.Reading.{number_of}
-use Rattle.schedule_text.specs.Words.{cut, is_text}
-use Rattle.schedule_text.proofs.NumeralLaws.{number_of-decimal, own}
-use Rattle.schedule_text.proofs.ReadBackLaws.{cut-digits}
 use Rattle.schedule_text.proofs.PrintedLaws.{plain-number, plain-text}
 use Rattle.check_text.specs.Claims.{Claim}
 use Rattle.check_text.specs.Drafts.{behind_items}
 use Rattle.check_text.specs.Forms.{Form, behind_below, claim_from, claim_line}
 use Rattle.check_text.specs.Reading.{Whole, read_map}
-use Rattle.check_text.specs.TraceLines.{ItemParts, begins_as_input, count_item, counted_says, is_beyond, item_of, item_or_refusal, item_parts, most_lines, node_in, trace_line, trace_says, trace_unless}
+use Rattle.check_text.specs.TraceLines.{begins_as_input, count_item, counted_says, item_or_refusal, most_lines, trace_line, trace_says, trace_unless}
 use Rattle.schedule_replay.specs.Replaying.{is_input}
+use Rattle.permitted_claims.proofs.TextItems.{IsTextItem, item-said}
 use Rattle.checked_replays.proofs.PlainLines.{IsPlain}
-
--- an item at a node below so many, whose input or output has a text
-abbrev pub IsTextItem : {I O : Type 0} → ℕ → (I → Type 0) → (O → Type 0) → Item I O → Type 0
-IsTextItem nodes HasIn HasOut (item.Input n i) = (n < nodes) × HasIn i
-IsTextItem nodes HasIn HasOut (item.Output n o) = (n < nodes) × HasOut o
-
--- fewer nodes are below more
-pub more-nodes : {I O : Type 0} (few many : ℕ) (HasIn : I → Type 0) (HasOut : O → Type 0) → few ≤ many → (items : List (Item I O)) → Each (IsTextItem few HasIn HasOut) items → Each (IsTextItem many HasIn HasOut) items
-more-nodes few many HasIn HasOut le [] all = tt
-more-nodes few many HasIn HasOut le (item.Input n i ∷ items) all = ((omega (arith, le, all.0.0), all.0.1), more-nodes few many HasIn HasOut le items all.1)
-more-nodes few many HasIn HasOut le (item.Output n o ∷ items) all = ((omega (arith, le, all.0.0), all.0.1), more-nodes few many HasIn HasOut le items all.1)
 
 abbrev pub IsShort : List ℕ → Type 0
 IsShort line = length line ≤ 4096
@@ -56,41 +40,11 @@ and-false false u e = refl
 
 module _ {I O X : Type 0} (form : Form I O X) (input_text : I → List ℕ) (output_text : O → List ℕ) (HasIn : I → Type 0) (HasOut : O → Type 0)
     (few_nodes : form.nodes < 4294967296) (inputs_spelled : IsSpelling HasIn form.input_of input_text) (outputs_spelled : IsSpelling HasOut form.output_of output_text) where
-  -- by what it is tested for. What the line below a trace says stands for that it is this line
-  says-by : (t : Bool) (p : Option ItemParts) (k : Option ℕ) (x : Option (Item I O)) (q : ItemParts) (n : ℕ) (y : Item I O)
-      → t ≡ false → p ≡ Some q → k ≡ Some n → nat_lt n form.nodes ≡ true → x ≡ Some y
-      → cond t (trace_says form.input_of form.output_of form.nodes (codes "below"))
-      (item_or_refusal (cond (is_none p) (Some why.UnknownWord) (cond (is_none k) (Some why.Number) (cond (is_beyond form.nodes k) (Some why.NoSuchNode) (cond (is_none x) (Some why.Text) None)))) x) ≡ item_or_refusal None (Some y)
-  says-by t p k x q n y e1 e2 e3 e4 e5 = rw (e1, e2, e3, e4, e5) refl
-
   unless-counted : (o : Option Why) (inputs : ℕ) (line : List ℕ) → o ≡ None → trace_unless o (counted_says form.input_of form.output_of form.nodes inputs line) ≡ counted_says form.input_of form.output_of form.nodes inputs line
   unless-counted o inputs line e = rw e refl
 
   unless-said : (o : Option Why) (line : List ℕ) → o ≡ None → trace_unless o (trace_says form.input_of form.output_of form.nodes line) ≡ trace_says form.input_of form.output_of form.nodes line
   unless-said o line e = rw e refl
-
-  front : (n : ℕ) (text : List ℕ) → n < form.nodes → cut (decimal n ++ 32 ∷ text) ≡ Some (decimal n, text)
-  front n text low = cut-digits (decimal n) text (digits_decimal own n (omega (arith, low, few_nodes)))
-
-  number : (n : ℕ) → n < form.nodes → number_of (decimal n) ≡ Some n
-  number n low = number_of-decimal n (omega (arith, low, few_nodes))
-
-  -- a line of an item says the item
-  pub item-said : (x : Item I O) → IsTextItem form.nodes HasIn HasOut x → trace_says form.input_of form.output_of form.nodes (item_text input_text output_text x) ≡ item_or_refusal None (Some x)
-  item-said (item.Input n i) has =
-      let line = item_text input_text output_text (item.Input n i) in
-      let parts : item_parts line ≡ Some (record { is_input = true; number = decimal n; text = input_text i }) = rw (front n (input_text i) has.0) refl in
-      let node : node_in line ≡ Some n = rw (front n (input_text i) has.0, number n has.0) refl in
-      let is : item_of form.input_of form.output_of line ≡ Some (item.Input n i) = rw (front n (input_text i) has.0, number n has.0, inputs_spelled.reads_back i has.1) refl in
-      says-by (is_text line (codes "below")) (item_parts line) (node_in line) (item_of form.input_of form.output_of line)
-      (record { is_input = true; number = decimal n; text = input_text i }) n (item.Input n i) refl parts node (lt-ltb n form.nodes has.0) is
-  item-said (item.Output n o) has =
-      let line = item_text input_text output_text (item.Output n o) in
-      let parts : item_parts line ≡ Some (record { is_input = false; number = decimal n; text = output_text o }) = rw (front n (output_text o) has.0) refl in
-      let node : node_in line ≡ Some n = rw (front n (output_text o) has.0, number n has.0) refl in
-      let is : item_of form.input_of form.output_of line ≡ Some (item.Output n o) = rw (front n (output_text o) has.0, number n has.0, outputs_spelled.reads_back o has.1) refl in
-      says-by (is_text line (codes "below")) (item_parts line) (node_in line) (item_of form.input_of form.output_of line)
-      (record { is_input = false; number = decimal n; text = output_text o }) n (item.Output n o) refl parts node (lt-ltb n form.nodes has.0) is
 
   -- so many inputs come before the line, or it is no input
   abbrev HasRoom : ℕ → Item I O → Type 0
@@ -108,7 +62,7 @@ module _ {I O X : Type 0} (form : Form I O X) (input_text : I → List ℕ) (out
       unless-counted (first_of (line_refusals most_lines line_number line)) inputs line (allows most_lines line_number line short within)
       ∙ (unless-said (cond (begins_as_input line && nat_le 1000000 inputs) (Some why.TooManyEvents) None) line
       (first-none (begins_as_input line && nat_le 1000000 inputs) why.TooManyEvents (room inputs x low))
-      ∙ item-said x has)
+      ∙ item-said form input_text output_text HasIn HasOut few_nodes inputs_spelled outputs_spelled x has)
 
   below-read : (line_number inputs : ℕ) → line_number ≤ most_lines → trace_line form.input_of form.output_of form.nodes line_number inputs (codes "below") ≡ trace_says form.input_of form.output_of form.nodes (codes "below")
   below-read line_number inputs within =
@@ -127,18 +81,18 @@ module _ {I O X : Type 0} (form : Form I O X) (input_text : I → List ℕ) (out
   pub trace-read : (line_number inputs : ℕ) (items : List (Item I O)) (below : List (List ℕ)) (c : Claim I O X)
       → Each (IsTextItem form.nodes HasIn HasOut) items → Each IsShort (map (item_text input_text output_text) items)
       → line_number + length items ≤ most_lines → inputs + count_by is_input items ≤ 1000000
-      → behind_below form form.heading (line_number + length items + 1) below ≡ Whole c
+      → behind_below form form.below (line_number + length items + 1) below ≡ Whole c
       → claim_from form line_number inputs (map (item_text input_text output_text) items ++ codes "below" ∷ below) ≡ Whole (behind_items items c)
   trace-read line_number inputs [] below c has short within few is =
       let next : line_number + 0 + 1 ≡ line_number + 1 = omega arith in
-      ap (λ l. claim_line form l line_number inputs (λ n. claim_from form (line_number + 1) n below) (behind_below form form.heading (line_number + 1) below)) (below-read line_number inputs (omega (arith, within)))
-      ∙ (ap (λ n. behind_below form form.heading n below) (omega arith) ∙ is)
+      ap (λ l. claim_line form l line_number inputs (λ n. claim_from form (line_number + 1) n below) (behind_below form form.below (line_number + 1) below)) (below-read line_number inputs (omega (arith, within)))
+      ∙ (ap (λ n. behind_below form form.below n below) (omega arith) ∙ is)
   trace-read line_number inputs (x ∷ items) below c has short within few is =
       let fits = room-of inputs x items few in
       let rest = map (item_text input_text output_text) items ++ codes "below" ∷ below in
-      ap (λ l. claim_line form l line_number inputs (λ n. claim_from form (line_number + 1) n rest) (behind_below form form.heading (line_number + 1) rest)) (item-read line_number inputs x has.0 short.0 (omega (arith, within)) fits.0)
+      ap (λ l. claim_line form l line_number inputs (λ n. claim_from form (line_number + 1) n rest) (behind_below form form.below (line_number + 1) rest)) (item-read line_number inputs x has.0 short.0 (omega (arith, within)) fits.0)
       ∙ ap (λ r. read_map (λ (d : Claim I O X). record { trace = x ∷ d.trace; header = d.header; image = d.image }) r)
-      (trace-read (line_number + 1) (count_item inputs x) items below c has.1 short.1 (omega (arith, within)) fits.1 (ap (λ n. behind_below form form.heading n below) (omega arith) ∙ is))
+      (trace-read (line_number + 1) (count_item inputs x) items below c has.1 short.1 (omega (arith, within)) fits.1 (ap (λ n. behind_below form form.below n below) (omega arith) ∙ is))
 
   -- and none of them holds a newline
   plain-item : (x : Item I O) → IsTextItem form.nodes HasIn HasOut x → IsPlain (item_text input_text output_text x)

@@ -4,7 +4,7 @@ ghost use Rattle.line_reader.specs.Lines.{lines_of};
 ghost use Rattle.line_reader.specs.declared.why.Why.TheVariants.{Header};
 ghost use Rattle.schedule_replay.specs.Replays.{replayed};
 ghost use Rattle.trace_check.specs.Checks.{checked};
-ghost use Rattle.trace_check.specs.declared.verdict.Verdict.TheVariants.{Yes};
+ghost use Rattle.claim_verdicts.specs.declared.verdict.Verdict.TheVariants.{Yes};
 ghost use Rattle.vst_base.specs.declared.stack.StackId.TheVariants as stack;
 
 /// Worked schedules, each of which is replayed, and checked again; and what is within the limits of a check.

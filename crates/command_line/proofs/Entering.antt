@@ -11,10 +11,10 @@ use Rattle.clap.specs.Simple.{App, Shape, argument_words, built, built_leaf, ent
 use Rattle.clap.specs.Facts.{explicit_source}
 use Rattle.clap.specs.Takes.{default_passes, entered_passes, is_given, is_valid, level_passes, other_passes, settle_passes, step_passes, takes, turn_passes, values_pass, walk_passes, word_passes}
 use Rattle.clap.proofs.WalkLemmas.{both}
-use Rattle.command_line.specs.CommandSet.{command_entered, command_of, command_set, entered_by, one_of, stack_option, takes_words}
-use Rattle.command_line.specs.Stacks.{stack_named, stack_words}
+use Rattle.command_line.specs.CommandSet.{command_entered, command_of, command_set, entered_by, one_of, stack_option, stack_words, takes_words}
 use Rattle.command_line.specs.declared.command.Command.{Command}
 use Rattle.command_line.specs.declared.command.Command.TheVariants.{Check}
+use Rattle.vst_base.specs.Stacks.{stack_named}
 use Rattle.vst_base.specs.declared.stack.StackId.{StackId}
 use Rattle.command_line.proofs.Kept.{first_fits, fits, fits_row, level_fits, level_gives}
 

@@ -16,11 +16,17 @@ use Rattle.clap.specs.declared.builder.value_parser.ValueParser.TheVariants as p
 use Rattle.clap.specs.declared.error.kind.ErrorKind.{ErrorKind}
 use Rattle.clap.specs.declared.error.kind.ErrorKind.TheVariants.{OutOfMemory}
 use Rattle.clap.specs.declared.parser.matches.ArgMatches.{ArgMatches}
-use Rattle.command_line.specs.CommandSet.{IsCommandSet, behind, command_entered, command_of, command_set, commands_with, entered_by, one_of, takes_words}
+use Rattle.command_line.specs.CommandSet.{behind, command_entered, command_of, command_set, commands_with, entered_by, one_of, stack_words, takes_words}
 use Rattle.command_line.specs.declared.command.Command.{Command}
 use Rattle.command_line.proofs.Entering.{none_exactly_refused}
 use Rattle.command_line.proofs.Faultless.{faultless_is_taken}
 use Rattle.command_line.proofs.Seen.{subcommand_same, takes_same}
+
+-- a command of clap's is the command set, wherever the list of stacks that it borrows stands
+pub record IsCommandSet (app : App) : Type 0 where
+  pub stacks : Bor (List (Bor Text))
+  pub words : texts stacks.now ≡ stack_words
+  pub commands : app ≡ commands_with (parser.Names stacks)
 
 -- ---- where the list of stacks stands plays no part
 

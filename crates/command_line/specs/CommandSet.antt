@@ -1,5 +1,5 @@
 -- The command set, which words it takes, and what they ask for. The words are texts, the program's name first.
-use Rattle.std.specs.Prelude.{◌≡◌, ℕ, Bool, true, List, map, Option, None, Some, codes, option_and_then, option_map, if◌then◌else◌}
+use Rattle.std.specs.Prelude.{ℕ, Bool, true, List, map, Option, None, Some, codes, option_and_then, option_map, if◌then◌else◌}
 use Rattle.std.specs.Borrow.{Bor}
 use Rattle.std.specs.Str.{bytes_eq}
 use Rattle.clap.specs.Words.{App, Row, Rule, first_of, new_app, new_rule, subcommand_of, takes, with_rule, with_subcommand}
@@ -8,11 +8,15 @@ use Rattle.clap.specs.declared.builder.value_parser.ValueParser.{ValueParser}
 use Rattle.clap.specs.declared.builder.value_parser.ValueParser.TheVariants.{Names}
 use Rattle.command_line.specs.declared.command.Command.{Command}
 use Rattle.command_line.specs.declared.command.Command.TheVariants.{Check, Replay}
-use Rattle.command_line.specs.Stacks.{stack_named, stack_words}
+use Rattle.vst_base.specs.Stacks.{stack_named, stack_word, stacks}
 
 -- a command of which a subcommand has to be named
 abbrev pub with_subcommand_required : App → App
 with_subcommand_required app = record app { top = record app.top { subcommand_required = true } }
+
+-- the words of the stacks
+abbrev pub stack_words : List (List ℕ)
+stack_words = map stack_word stacks
 
 -- the option by which check is told a stack, one of these values
 abbrev pub stack_option : ValueParser → Rule
@@ -33,17 +37,11 @@ one_of words = Names (behind (map behind words))
 abbrev pub command_set : App
 command_set = commands_with (one_of stack_words)
 
--- a command of clap's is the command set, wherever its list of stacks stands
-pub record IsCommandSet (app : App) : Type 0 where
-  pub stacks : Bor (List (Bor (List ℕ)))
-  pub words : map (λ word. word.now) stacks.now ≡ stack_words
-  pub commands : app ≡ commands_with (Names stacks)
-
 -- clap takes the words: they name a command and what it takes, and ask for no help
 unfoldable pub takes_words : List (List ℕ) → Bool
 takes_words words = takes command_set words
 
--- the command of a name and of the options that stand behind it
+-- the command of a name and of the options after it
 abbrev pub command_entered : List ℕ × List Row → Option Command
 command_entered entered =
     if bytes_eq entered.0 (codes "replay") then Some Replay

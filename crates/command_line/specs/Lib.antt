@@ -1,2 +1,1 @@
 pub mod CommandSet
-pub mod Stacks

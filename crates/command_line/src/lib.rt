@@ -4,7 +4,6 @@
 mod command;
 mod command_set;
 mod examples;
-mod stacks;
 mod words;
 
 pub use command::Command;

@@ -1,11 +1,10 @@
 ghost use Rattle.std.specs.Prelude.{◌≡◌, ◌↔◌, map, false, string_bytes, IsErr, IsNone, IfOk, None, codes, option_and_then};
 ghost use Rattle.clap.specs.Words.{first_of, found_of, rows_of, subcommand_rows_of};
 ghost use Rattle.command_line.specs.CommandSet.{command_entered, command_of, takes_words};
-ghost use Rattle.command_line.specs.Stacks.{stack_named};
+ghost use Rattle.vst_base.specs.Stacks.{stack_named};
 
 use crate::Command;
-use crate::command_set::command_set;
-use crate::stacks::stack_named;
+use crate::command_set::{command_set, stack_words};
 use clap::ArgMatches;
 use clap::error::ErrorKind;
 use std::alloc::{AllocError, Global};
@@ -17,7 +16,8 @@ pub fn read_words(alloc: Global, words: &[String]) -> Result<Option<Command>, Al
     ensures command { IfOk result (λ command. command ≡ command_of (map string_bytes words.now)) }
     ensures refused { IfOk result (λ command. IsNone command ↔ (takes_words (map string_bytes words.now) ≡ false)) }
 {
-    match command_set(alloc)?.try_get_matches_from(words) {
+    let stacks = stack_words(alloc)?;
+    match command_set(alloc, &stacks)?.try_get_matches_from(words) {
         Ok(matches) => Ok(command_entered(&matches)),
         Err(error) => refused_by(error.kind()),
     }
@@ -46,7 +46,7 @@ fn command_named(name: &str, options: &ArgMatches<'_>) -> Option<Command>
 fn stack_in(options: &ArgMatches<'_>) -> Option<StackId>
     ensures { result ≡ option_and_then stack_named (first_of (codes "stack") (rows_of (found_of options.now))) }
 {
-    stack_named(options.get_str("stack")?)
+    StackId::named(options.get_str("stack")?)
 }
 
 // What a parse that gave no matches comes to: want of memory stays what it is, and by any other kind the words are

@@ -68,10 +68,20 @@ HasReadCause old faults faults' fault.End = Unit {0}
 HasReadCause old faults faults' fault.Memory = Unit {0}
 HasReadCause old faults faults' (fault.Refused number w) = Unit {0}
 
+-- where a reader stops that has no line. At the end nothing is ahead, and the end was met. At a failed read nothing is ahead,
+-- the end was not met, and the line is what came of the one that broke off. At a refusal at most 4,096 bytes are ahead, and
+-- at most as many in the line
+abbrev pub StopsAt : ReaderView → LineFault → Type 0
+StopsAt new fault.End = (new.line ≡ []) × (new.ahead ≡ []) × (new.ended ≡ true)
+StopsAt new fault.Read = (cut_at 10 new.line ≡ None) × (length new.line ≤ 4096) × (new.ahead ≡ []) × (new.ended ≡ false)
+StopsAt new (fault.Refused number w) = (length new.line ≤ 4096) × (length new.ahead ≤ 4096)
+StopsAt new fault.Write = ⊥
+StopsAt new fault.Memory = Unit {0}
+
 -- the only fault of a read by itself
 abbrev pub CannotRead : ReaderView → ReaderView → ℕ → ℕ → LineFault → Type 0
 CannotRead old new faults faults' found =
-    (found ≡ fault.Read) × Rose faults faults' × (old.ended ≡ false) × (new.ahead ≡ [])
+    (found ≡ fault.Read) × Rose faults faults' × (old.ended ≡ false) × (new.ahead ≡ []) × (new.ended ≡ false)
 
 -- a piece of a line was taken from what was read ahead
 abbrev pub TakesPiece : ReaderView → ReaderView → Piece → Type 0

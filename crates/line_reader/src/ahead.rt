@@ -1,4 +1,4 @@
-ghost use Rattle.std.specs.Prelude.{◌≡◌, ◌≤◌, [], length, drop};
+ghost use Rattle.std.specs.Prelude.{◌≡◌, ◌≢◌, ◌≤◌, [], length, drop};
 ghost use Rattle.line_reader.specs.Filling.{Fills};
 
 use outside::{ReadOutcome, Source};
@@ -62,6 +62,7 @@ impl Ahead {
     pub fn refill<S: Source>(&mut self, source: &mut S) -> ReadOutcome
         ensures fills { Fills (S.left source.old) (S.left source.new) (S.faults source.old) (S.faults source.new) self.new result }
         ensures few { length self.new ≤ 4096 }
+        ensures quiet { result ≢ ReadOutcome.Failed → S.faults source.new ≡ S.faults source.old }
         ensures counts { S.faults source.old ≤ S.faults source.new }
     {
         self.start = 0;

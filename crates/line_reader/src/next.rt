@@ -1,5 +1,5 @@
-ghost use Rattle.std.specs.Prelude.{◌≡◌, ◌+◌, ◌≤◌, ℕ, List, true, length, IfErr, OnOk, OnErr};
-ghost use Rattle.line_reader.specs.Outcomes.{HasReadCause, ReadsLine};
+ghost use Rattle.std.specs.Prelude.{◌≡◌, ◌≢◌, ◌+◌, ◌≤◌, ℕ, List, true, length, Err, IfErr, OnOk, OnErr};
+ghost use Rattle.line_reader.specs.Outcomes.{HasReadCause, ReadsLine, StopsAt};
 ghost use Rattle.line_reader.specs.Readers.{HasRest};
 
 use crate::piece::Piece;
@@ -8,7 +8,8 @@ use outside::Source;
 
 /// Reads the next line: up to its newline, or to the end of the source where that comes first. `End` comes exactly where
 /// no byte is left. A line of more than 4,096 bytes is refused at its 4,097th byte, and one whose number is over the
-/// greatest once it was read. A line that a failed read breaks off is given up.
+/// greatest once it was read. A line that a failed read breaks off is given up. A read failed only where `Read` is
+/// answered.
 pub fn next_line<S: Source>(reader: &mut Reader, source: &mut S) -> Result<(), LineFault>
     ensures told { (rest : List ℕ) → HasRest reader.old (S.left source.old) rest → ReadsLine reader.old reader.new (S.left source.new) rest result }
     ensures number { OnOk result ((reader.new.number ≡ reader.old.number + 1) × (reader.new.number ≤ reader.new.most)) }
@@ -16,7 +17,9 @@ pub fn next_line<S: Source>(reader: &mut Reader, source: &mut S) -> Result<(), L
     ensures length { OnOk result (length reader.new.line ≤ 4096) }
     ensures kept { (reader.new.most ≡ reader.old.most) × (reader.new.events ≡ reader.old.events) }
     ensures stays { reader.old.ended ≡ true → reader.new.ended ≡ true }
+    ensures after { IfErr result (StopsAt reader.new) }
     ensures fault { IfErr result (HasReadCause reader.old (S.faults source.old) (S.faults source.new)) }
+    ensures quiet { result ≢ Err LineFault.Read → S.faults source.new ≡ S.faults source.old }
     ensures counts { S.faults source.old ≤ S.faults source.new }
 {
     reader.begin_line();

@@ -1,4 +1,4 @@
-ghost use Rattle.std.specs.Prelude.{◌≡◌, ◌+◌, ◌-◌, ◌≤◌, ◌<◌, ◌^◌, ℕ, List, [], ◌++◌, false, true, length, drop, IfOk, IfErr, OnOk, Ok};
+ghost use Rattle.std.specs.Prelude.{◌≡◌, ◌≢◌, ◌+◌, ◌-◌, ◌≤◌, ◌<◌, ◌^◌, ℕ, List, [], ◌++◌, false, true, length, drop, IfOk, IfErr, OnOk, Ok, Err};
 ghost use Rattle.line_reader.specs.Outcomes.{CannotRead, EndsLine, TakesPiece};
 ghost use Rattle.line_reader.specs.Readers.{HasRest, fresh};
 
@@ -27,7 +27,7 @@ pub struct Reader {
 }
 
 impl Model for Reader {
-    ghost use Rattle.std.specs.Prelude.{◌≤◌, ◌<◌, ◌-◌, ◌^◌, length};
+    ghost use Rattle.std.specs.Prelude.{◌≡◌, ◌≤◌, ◌<◌, ◌-◌, ◌^◌, [], true, length};
     ghost use Rattle.line_reader.specs.Readers.{ReaderView};
 
     ghost Value = { ReaderView };
@@ -41,7 +41,7 @@ impl Model for Reader {
       ended = r.ended;
     } };
 
-    ghost invariant = { λ r. (r.number ≤ r.most) × (r.most < 2 ^ 32 - 1) × (length r.ahead ≤ 4096) };
+    ghost invariant = { λ r. (r.number ≤ r.most) × (r.most < 2 ^ 32 - 1) × (length r.ahead ≤ 4096) × (r.ended ≡ true → r.ahead ≡ []) };
 }
 
 // Adds a part to a line, if the line stays short enough.
@@ -128,8 +128,9 @@ impl Reader {
         ensures kept { self.new ≡ record self.old { ahead = self.new.ahead; ended = self.new.ended } }
         ensures stays { self.old.ended ≡ true → self.new.ended ≡ true }
         ensures going { result ≡ Ok true → (0 < length self.new.ahead) × (self.new.ended ≡ self.old.ended) }
-        ensures over { result ≡ Ok false → self.new.ended ≡ true }
+        ensures over { result ≡ Ok false → (self.new.ahead ≡ []) × (self.new.ended ≡ true) }
         ensures failed { IfErr result (CannotRead self.old self.new (S.faults source.old) (S.faults source.new)) }
+        ensures quiet { result ≢ Err LineFault.Read → S.faults source.new ≡ S.faults source.old }
         ensures counts { S.faults source.old ≤ S.faults source.new }
     {
         if self.ended {

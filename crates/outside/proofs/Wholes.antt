@@ -10,11 +10,6 @@ pub gained-more : (old mid new : Option (List ℕ)) (done more : List ℕ) → G
 gained-more None mid new done more gained is = tt
 gained-more (Some held) mid new done more gained is = is ∙ (ap (option_map (λ bytes. bytes ++ more)) gained ∙ ap Some (append_assoc held done more))
 
--- a write that takes nothing leaves what was gained
-pub gained-same : (old mid new : Option (List ℕ)) (done : List ℕ) → Gained old mid done → new ≡ mid → Gained old new done
-gained-same None mid new done gained is = tt
-gained-same (Some held) mid new done gained is = is ∙ gained
-
 -- some of a text, and then the rest of it
 pub gained-front : (old new : Option (List ℕ)) (done rest text : List ℕ) → text ≡ done ++ rest → Gained old new done → GainedFront old new text
 gained-front None new done rest text whole gained = tt

@@ -12,10 +12,10 @@ pub record Gives (bytes : List ℕ) (n : ℕ) (before after : List ℕ) : Type 0
   pub enough : n ≤ length bytes
   pub at_end : n ≡ 0 → 0 < length before → bytes ≡ []
 
--- a read of a source with these contents and counts of faults, into this buffer
+-- a read of a source with these contents and counts of faults, into this buffer. It counts a fault exactly where it failed
 abbrev pub IsRead : Option (List ℕ) → Option (List ℕ) → ℕ → ℕ → List ℕ → List ℕ → ReadOutcome → Type 0
 IsRead old new faults faults' before after (read.Got n) =
-    (n ≤ length before) × (new ≡ option_map (drop n) old) × IfSome old (λ bytes. Gives bytes n before after)
+    (n ≤ length before) × (new ≡ option_map (drop n) old) × IfSome old (λ bytes. Gives bytes n before after) × (faults' ≡ faults)
 IsRead old new faults faults' before after read.Failed = (new ≡ old) × Rose faults faults'
 
 -- n bytes of a piece were taken, and none only of an empty piece

@@ -19,7 +19,7 @@ pub trait Source {
     ghost faults: { Self → ℕ };
 
     /// Reads up to the buffer's length of the bytes that are left, which go away. A read that fails
-    /// leaves them.
+    /// leaves them, and counts a fault. No other read counts one.
     fn read(&mut self, buf: &mut [u8]) -> ReadOutcome
         ensures read { IsRead (left self.old) (left self.new) (faults self.old) (faults self.new) buf.old buf.new result }
         ensures counts { faults self.old ≤ faults self.new };

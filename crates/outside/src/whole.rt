@@ -13,11 +13,12 @@ pub enum WriteFault {
     Memory,
 }
 
-/// Writes all the bytes, in as many writes as it takes. At an `Err` a front of them was written.
+/// Writes all the bytes, in as many writes as it takes. At an `Err` a front of them was written. At `Ok` no write failed
+/// or wanted memory, at `Failed` none wanted memory, and at `Memory` none failed.
 pub fn write_all<K: Sink>(sink: &mut K, bytes: &[u8]) -> Result<(), WriteFault>
     ensures ok { OnOk result (Gained (K.written sink.old) (K.written sink.new) bytes.now) }
     ensures err { OnErr result (GainedFront (K.written sink.old) (K.written sink.new) bytes.now) }
-    ensures failed { IsErrOf result WriteFault.Failed → Rose (K.faults sink.old) (K.faults sink.new) }
+    ensures failed { IsErrOf result WriteFault.Failed → Rose (K.faults sink.old) (K.faults sink.new) × (K.wants sink.new ≡ K.wants sink.old) }
     ensures memory { IsErrOf result WriteFault.Memory → (K.faults sink.new ≡ K.faults sink.old) × Rose (K.wants sink.old) (K.wants sink.new) }
     ensures quiet { OnOk result ((K.faults sink.new ≡ K.faults sink.old) × (K.wants sink.new ≡ K.wants sink.old)) }
     ensures counts { K.faults sink.old ≤ K.faults sink.new }

@@ -6,7 +6,8 @@ use crate::unread::Unread;
 use outside::{ReadOutcome, Source};
 use std::marker::Model;
 
-/// A source over memory that follows a script: it cuts its reads, and fails at stated calls.
+/// A source over memory that follows a script: it cuts its reads, and fails at stated calls. Each call that fails counts a
+/// fault, and no other does.
 #[derive(Drop)]
 pub struct MemorySource {
     unread: Unread,

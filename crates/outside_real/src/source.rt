@@ -10,8 +10,8 @@ use std::marker::Model;
 /// Standard input as a source.
 pub type StandardInput = ReaderSource<Stdin>;
 
-/// A reader as a source: each read is one of the reader's, and each of its errors a fault. As a source
-/// it tells no bytes.
+/// A reader as a source: each read is one of the reader's, and each of its errors a fault. No other read counts one. As a
+/// source it tells no bytes.
 #[derive(Drop)]
 pub struct ReaderSource<R> {
     reader: R,

@@ -1,67 +1,64 @@
--- What a claim on a primary and its backup of the key-value machine holds has texts, where the claim was read, and so the lines of
--- its image tell its steps.
+-- What a claim on a machine under primary-backup holds has texts, where the claim was read, and so the lines of its image tell its
+-- steps.
 use Rattle.std.specs.Prelude.{◌≡◌, ◌↔◌, ℕ, List, map}
 use Rattle.std.proofs.Common.{ap}
-use Rattle.app_text.specs.KvTexts as texts
-use Rattle.app_text.specs.KvTextLaws.{inputs_are_spelled, no_redirect, outputs_are_spelled}
 use Rattle.app_text.specs.PbTexts.{IsPbOutput}
 use Rattle.app_text.specs.PbTextLaws.{pb_outputs_are_spelled}
 use Rattle.check_text.specs.Forms.{claim_of}
 use Rattle.check_text.specs.Reading.{Whole}
-use Rattle.check_text.specs.declared.heading.Heading.TheVariants as heading
-use Rattle.kv_machine.specs.Kv.{kv}
-use Rattle.kv_machine.specs.declared.cmd.KvCmd.{KvCmd}
-use Rattle.kv_machine.specs.declared.out.KvOut.{KvOut}
+use Rattle.claim_verdicts.specs.Backups.{BackupClaim, backup_verdict}
+use Rattle.claim_verdicts.specs.Laws.{AreSpelledReplies, IsExplained, IsSpelledReply}
+use Rattle.claim_verdicts.specs.declared.verdict.Verdict.TheVariants.{Yes}
 use Rattle.linearizability.specs.Linearizable.{Each}
 use Rattle.net_semantics.specs.BelowPb.{below_pb, inputs_at, outputs_at, replies_in}
 use Rattle.schedule_text.specs.Printing.{step_text}
-use Rattle.schedule_text.specs.Spellable.{IsSpellable}
-use Rattle.trace_check.specs.Backups.{BackupClaim}
-use Rattle.trace_check.specs.Checks.{kv_pb_form}
-use Rattle.trace_check.specs.Laws.{AreSpelledReplies, IsExplained, IsSpelledReply}
+use Rattle.stacks.specs.Kinds.{IsOneMachine, backed, pb_texts}
+use Rattle.stacks.specs.Stack.{Texts}
 use Rattle.trace_maps.specs.Replying.{alone}
+use Rattle.vst_base.specs.Machines.{MachineMeaning}
 use Rattle.vst_base.specs.declared.pb_out.PbOut.{PbOut}
 use Rattle.vst_base.specs.declared.pb_out.PbOut.TheVariants as pb
+use Rattle.vst_base.specs.declared.stack.StackId.{StackId}
 use Rattle.vst_base.specs.declared.step.Item.{Item}
 use Rattle.vst_base.specs.declared.step.Item.TheVariants as item
-use Rattle.checked_replays.proofs.Eaches.{each-take, each-weaker}
-use Rattle.checked_replays.proofs.KvRuns.{IsCommand, IsOutput}
-use Rattle.checked_replays.proofs.PbRuns.{alone-spellable, inputs-text}
-use Rattle.checked_replays.proofs.TraceReading.{IsTextItem}
-use Rattle.permitted_claims.specs.Permitted.{IsOneMachine}
-use Rattle.permitted_claims.proofs.ImageSteps.{same-steps, step-text}
-use Rattle.permitted_claims.proofs.MachineTexts.{kv-fold-text}
-use Rattle.permitted_claims.proofs.ReadClaims.{IsReadClaim, read-whole}
+use Rattle.permitted_claims.proofs.Eaches.{each-take, each-weaker}
+use Rattle.permitted_claims.proofs.ImageSteps.{same-steps}
+use Rattle.permitted_claims.proofs.PbRuns.{alone-spellable, inputs-text}
+use Rattle.permitted_claims.proofs.ReadClaims.{AreApart}
+use Rattle.permitted_claims.proofs.ScheduleClaims.{IsReadSchedule, schedule-read, schedule_form}
+use Rattle.permitted_claims.proofs.TextItems.{IsTextItem}
+use Rattle.permitted_claims.proofs.TextMachines.{IsTextMachine, fold-text}
+use Rattle.permitted_claims.proofs.Verdicts.{IsDecided}
 
 reply-spelled : {C O : Type 0} (nodes : ℕ) (HasIn : C → Type 0) (HasOut : O → Type 0) (x : Item C (PbOut O)) → IsTextItem nodes HasIn (IsPbOutput HasOut) x → IsSpelledReply HasOut x
 reply-spelled nodes HasIn HasOut (item.Input n c) has = tt
 reply-spelled nodes HasIn HasOut (item.Output n (pb.Reply o)) has = has.1
 reply-spelled nodes HasIn HasOut (item.Output n pb.Redirect) has = tt
 
-module _ (ls : List (List ℕ)) (c : BackupClaim KvCmd KvOut) (is : claim_of kv_pb_form ls ≡ Whole c) where
-  read : IsReadClaim 2 IsCommand (IsPbOutput IsOutput) (IsSpellable IsCommand) heading.Kv c
-  read =
-      read-whole kv_pb_form IsCommand (IsPbOutput IsOutput) (IsSpellable IsCommand) inputs_are_spelled.has_text (pb_outputs_are_spelled outputs_are_spelled no_redirect).has_text
-      (step-text texts.input_of texts.input_text IsCommand inputs_are_spelled) ls c is
+module _ {S C O : Type 0} (apart : AreApart) (nodes : ℕ) (own : StackId) (m : MachineMeaning S C O) (t : Texts C O) (HasIn : C → Type 0) (HasOut : O → Type 0) (Sound : S → Type 0) (spelled : IsTextMachine m t HasIn HasOut Sound)
+    (law : (c : BackupClaim C O) → AreSpelledReplies HasOut m c → (backup_verdict t.input_text t.output_text m c ≡ Yes) ↔ IsExplained t.input_text m c) where
+  module _ (ls : List (List ℕ)) (c : BackupClaim C O) (is : claim_of (schedule_form nodes own (pb_texts t)) ls ≡ Whole c) where
+    read : IsReadSchedule nodes own HasIn (IsPbOutput HasOut) c
+    read = schedule-read apart nodes own (pb_texts t) HasIn (IsPbOutput HasOut) spelled.ins (pb_outputs_are_spelled spelled.outs spelled.no_redirect) ls c is
 
-  inputs : Each IsCommand (inputs_at 0 c.trace)
-  inputs = inputs-text 2 0 IsCommand IsOutput c.trace read.trace
+    inputs : Each HasIn (inputs_at 0 c.trace)
+    inputs = inputs-text nodes 0 HasIn HasOut c.trace read.trace
 
-  pub backup-spelled : AreSpelledReplies IsOutput kv c
-  backup-spelled = record {
-    trace = each-weaker (IsTextItem 2 IsCommand (IsPbOutput IsOutput)) (IsSpelledReply IsOutput) (reply-spelled 2 IsCommand IsOutput) c.trace read.trace;
-    outputs = kv-fold-text (inputs_at 0 c.trace) inputs;
-  }
+    replies-spelled : AreSpelledReplies HasOut m c
+    replies-spelled = record {
+      trace = each-weaker (IsTextItem nodes HasIn (IsPbOutput HasOut)) (IsSpelledReply HasOut) (reply-spelled nodes HasIn HasOut) c.trace read.trace;
+      outputs = fold-text m HasIn HasOut Sound spelled.keeps (inputs_at 0 c.trace) inputs;
+    }
 
-  one-machine : IsExplained texts.input_text kv c → IsOneMachine kv c
-  one-machine by = record {
-    machine = by.machine;
-    image = same-steps texts.input_of texts.input_text IsCommand inputs_are_spelled c.image (alone (below_pb c.trace)) read.image
-        (alone-spellable IsCommand (below_pb c.trace) (each-take IsCommand (replies_in (outputs_at 0 c.trace)) (inputs_at 0 c.trace) inputs)) by.image;
-  }
+    one-machine : IsExplained t.input_text m c → IsOneMachine m c
+    one-machine by = record {
+      machine = by.machine;
+      image = same-steps t.input_of t.input_text HasIn spelled.ins c.image (alone (below_pb c.trace)) read.image
+          (alone-spellable HasIn (below_pb c.trace) (each-take HasIn (replies_in (outputs_at 0 c.trace)) (inputs_at 0 c.trace) inputs)) by.image;
+    }
 
-  explained : IsOneMachine kv c → IsExplained texts.input_text kv c
-  explained by = record { machine = by.machine; image = ap (map (step_text texts.input_text)) by.image }
+    explained : IsOneMachine m c → IsExplained t.input_text m c
+    explained by = record { machine = by.machine; image = ap (map (step_text t.input_text)) by.image }
 
-  pub yes-one-machine : (Yes : Type 0) → Yes ↔ IsExplained texts.input_text kv c → Yes ↔ IsOneMachine kv c
-  yes-one-machine Yes law = (λ y. one-machine (law.0 y), λ by. law.1 (explained by))
+  pub backup-decided : IsDecided nodes (backed own m t)
+  backup-decided ls c is = let yes = law c (replies-spelled ls c is) in (λ y. one-machine ls c is (yes.0 y), λ by. yes.1 (explained ls c is by))

@@ -1,32 +1,29 @@
--- What a claim on a cluster of the key-value machine holds has texts, where the claim was read.
-use Rattle.vst_base.specs.declared.node.TheConstants.{MAX_NODES}
-use Rattle.std.specs.Prelude.{◌≡◌, ℕ, List, [], ◌∷◌, map, Option, Some, None, is_none, option_and_then, refl}
-use Rattle.app_text.specs.KvTexts as texts
-use Rattle.app_text.specs.KvTextLaws.{inputs_are_spelled, outputs_are_spelled}
-use Rattle.check_text.specs.Forms.{claim_of}
+-- What a claim on a machine on a cluster holds has texts, where the claim was read.
+use Rattle.std.specs.Prelude.{◌≡◌, ◌↔◌, ℕ, List, [], ◌∷◌, map, Option, Some, None, is_none, option_and_then, refl}
+use Rattle.check_text.specs.Forms.{Form, claim_of, form_of}
 use Rattle.check_text.specs.ImageLines.{behind_order, order_of, order_says}
 use Rattle.check_text.specs.Reading.{Whole}
-use Rattle.kv_machine.specs.Kv.{kv}
-use Rattle.kv_machine.specs.declared.cmd.KvCmd.{KvCmd}
-use Rattle.kv_machine.specs.declared.out.KvOut.{KvOut}
+use Rattle.claim_verdicts.specs.Clusters.{ClusterClaim, cluster_verdict}
+use Rattle.claim_verdicts.specs.Laws.{AreSpelled, IsSpelledItem}
+use Rattle.claim_verdicts.specs.declared.verdict.Verdict.TheVariants.{Yes}
 use Rattle.line_reader.specs.declared.why.Why.TheVariants as why
-use Rattle.linearizability.specs.Linearizable.{Each}
-use Rattle.raft_text.specs.RaftTexts.{IsRaftInput, IsRaftOutput, raft_input_of}
+use Rattle.linearizability.specs.Linearizable.{Each, IsLinearizable}
+use Rattle.raft_text.specs.RaftTexts.{IsRaftInput, IsRaftOutput, raft_input_of, raft_output_of}
 use Rattle.raft_text.specs.RaftTextLaws.{raft_inputs_are_spelled, raft_outputs_are_spelled}
 use Rattle.raft_types.specs.declared.client.RaftInput.{RaftInput}
 use Rattle.raft_types.specs.declared.client.RaftOut.{RaftOut}
 use Rattle.raft_types.specs.declared.client.RaftOut.TheVariants as told
-use Rattle.trace_check.specs.Checks.{kv_raft_form}
-use Rattle.trace_check.specs.Clusters.{ClusterClaim}
-use Rattle.trace_check.specs.Laws.{AreSpelled, IsSpelledItem}
+use Rattle.stacks.specs.Kinds.{clustered}
+use Rattle.stacks.specs.Stack.{Texts}
 use Rattle.vst_base.specs.Firsts.{first_of}
+use Rattle.vst_base.specs.Machines.{MachineMeaning}
 use Rattle.vst_base.specs.declared.step.Item.{Item}
 use Rattle.vst_base.specs.declared.step.Item.TheVariants as item
-use Rattle.checked_replays.proofs.Eaches.{IfThere, each-weaker}
-use Rattle.checked_replays.proofs.KvRuns.{IsCommand, IsOutput}
-use Rattle.checked_replays.proofs.TraceReading.{IsTextItem}
-use Rattle.permitted_claims.proofs.MachineTexts.{kv-fold-text}
-use Rattle.permitted_claims.proofs.ReadClaims.{IfSays, read-whole, said-there}
+use Rattle.permitted_claims.proofs.Eaches.{IfThere, each-weaker}
+use Rattle.permitted_claims.proofs.ReadClaims.{AreApart, IfSays, read-whole, said-there}
+use Rattle.permitted_claims.proofs.TextItems.{IsTextItem}
+use Rattle.permitted_claims.proofs.TextMachines.{IsTextMachine, fold-text}
+use Rattle.permitted_claims.proofs.Verdicts.{IsDecided}
 
 commands-text : {C : Type 0} (HasIn : C → Type 0) (order : List (RaftInput C)) → Each (IsRaftInput HasIn) order → Each HasIn (map (λ r. r.cmd) order)
 commands-text HasIn [] all = tt
@@ -44,22 +41,31 @@ module _ {I : Type 0} (f : List ℕ → Option I) (HasIn : I → Type 0) (has_te
   text-there bs None is = tt
   text-there bs (Some i) is = has_text bs i is
 
-  behind-there : (o : Option (List ℕ)) → IfThere HasIn (option_and_then f o)
-  behind-there None = tt
-  behind-there (Some bs) = text-there bs (f bs) refl
+  rest-there : (o : Option (List ℕ)) → IfThere HasIn (option_and_then f o)
+  rest-there None = tt
+  rest-there (Some bs) = text-there bs (f bs) refl
 
   order-text : (l : List ℕ) → IfSays HasIn (order_says f l)
   order-text l =
-      said-there HasIn (first_of ((why.UnknownWord, is_none (behind_order l)) ∷ (why.Text, is_none (order_of f l)) ∷ [])) (order_of f l) (behind-there (behind_order l))
+      said-there HasIn (first_of ((why.UnknownWord, is_none (behind_order l)) ∷ (why.Text, is_none (order_of f l)) ∷ [])) (order_of f l) (rest-there (behind_order l))
 
-pub cluster-spelled : (ls : List (List ℕ)) (c : ClusterClaim KvCmd KvOut) → claim_of kv_raft_form ls ≡ Whole c → AreSpelled IsCommand IsOutput kv c
-cluster-spelled ls c is =
-    let requests = raft_inputs_are_spelled inputs_are_spelled in
-    let answers = raft_outputs_are_spelled outputs_are_spelled in
-    let read = read-whole kv_raft_form (IsRaftInput IsCommand) (IsRaftOutput IsOutput) (IsRaftInput IsCommand) requests.has_text answers.has_text
-    (order-text (raft_input_of texts.input_of) (IsRaftInput IsCommand) requests.has_text) ls c is in
-    record {
-      trace = each-weaker (IsTextItem MAX_NODES (IsRaftInput IsCommand) (IsRaftOutput IsOutput)) (IsSpelledItem IsCommand IsOutput) (item-spelled MAX_NODES IsCommand IsOutput) c.trace read.trace;
-      order = each-weaker (IsRaftInput IsCommand) (λ r. IsCommand r.cmd) (λ r has. has.2) c.image read.image;
-      outputs = kv-fold-text (map (λ r. r.cmd) c.image) (commands-text IsCommand c.image read.image);
-    }
+-- how a claim is spelled whose image is an order of requests
+abbrev pub order_form : {C O : Type 0} → ℕ → Texts C O → Form (RaftInput C) (RaftOut O) (RaftInput C)
+order_form nodes t = form_of nodes (raft_input_of t.input_of) (raft_output_of t.output_of) None (order_says (raft_input_of t.input_of))
+
+module _ {S C O : Type 0} (apart : AreApart) (nodes : ℕ) (m : MachineMeaning S C O) (t : Texts C O) (HasIn : C → Type 0) (HasOut : O → Type 0) (Sound : S → Type 0) (spelled : IsTextMachine m t HasIn HasOut Sound)
+    (law : (c : ClusterClaim C O) → AreSpelled HasIn HasOut m c → (cluster_verdict t.input_text t.output_text m c ≡ Yes) ↔ IsLinearizable m c.image c.trace) where
+  cluster-spelled : (ls : List (List ℕ)) (c : ClusterClaim C O) → claim_of (order_form nodes t) ls ≡ Whole c → AreSpelled HasIn HasOut m c
+  cluster-spelled ls c is =
+      let requests = raft_inputs_are_spelled spelled.ins in
+      let answers = raft_outputs_are_spelled spelled.outs in
+      let read = read-whole apart (order_form nodes t) (IsRaftInput HasIn) (IsRaftOutput HasOut) (IsRaftInput HasIn) requests.has_text answers.has_text
+      (order-text (raft_input_of t.input_of) (IsRaftInput HasIn) requests.has_text) ls c is in
+      record {
+        trace = each-weaker (IsTextItem nodes (IsRaftInput HasIn) (IsRaftOutput HasOut)) (IsSpelledItem HasIn HasOut) (item-spelled nodes HasIn HasOut) c.trace read.trace;
+        order = each-weaker (IsRaftInput HasIn) (λ r. HasIn r.cmd) (λ r has. has.2) c.image read.image;
+        outputs = fold-text m HasIn HasOut Sound spelled.keeps (map (λ r. r.cmd) c.image) (commands-text HasIn c.image read.image);
+      }
+
+  pub cluster-decided : (n : ℕ) → IsDecided nodes (clustered m t n)
+  cluster-decided n ls c is = law c (cluster-spelled ls c is)

@@ -11,7 +11,7 @@ use Rattle.schedule_text.specs.Spellable.{IsSpellable}
 use Rattle.schedule_text.proofs.ReadBackLaws.{step-reads-back}
 use Rattle.vst_base.specs.Firsts.{first_of}
 use Rattle.vst_base.specs.declared.step.Step.{Step}
-use Rattle.checked_replays.proofs.Scripts.{step-spellable}
+use Rattle.permitted_claims.proofs.ReadSteps.{step-spellable}
 use Rattle.permitted_claims.proofs.ReadClaims.{IfSays, said-there}
 
 -- lists of which each element has a text of its own are the same where their texts are

@@ -1,8 +1,11 @@
 -- What holds of each value that a text is read as holds of the claims that are read.
 use Rattle.std.specs.Prelude.{◌≡◌, ℕ, Bool, true, false, ◌+◌, not, ◌&&◌, nat_lt, nat_le, is_none, List, [], ◌∷◌, Option, Some, None, option_map, option_and_then, cond, codes, refl}
+use Rattle.std.specs.Str.{bytes_eq}
 use Rattle.std.proofs.Common.{subst, sym}
 use Rattle.std.proofs.lemmas.Bool.{ltb-true}
 use Rattle.vst_base.specs.Firsts.{first_of}
+use Rattle.vst_base.specs.Stacks.{stack_word}
+use Rattle.vst_base.specs.declared.stack.StackId.{StackId}
 use Rattle.vst_base.specs.declared.step.Item.{Item}
 use Rattle.vst_base.specs.declared.step.Item.TheVariants as item
 use Rattle.line_reader.specs.declared.why.Why.{Why}
@@ -18,13 +21,11 @@ use Rattle.check_text.specs.Forms.{Form, behind_below, claim_from, claim_line, c
 use Rattle.check_text.specs.ImageLines.{IsHeaded, counted_line, header_if, heads, image_header, image_unless, line_of_image, said_or_refused}
 use Rattle.check_text.specs.Reading.{Reading, Whole, RefusedAt, EndedAt, read_map}
 use Rattle.check_text.specs.TraceLines.{ItemParts, begins_as_input, count_item, counted_says, is_beyond, item_of, item_or_refusal, item_parts, item_refusals, item_with, most_lines, trace_line, trace_says, trace_unless}
-use Rattle.check_text.specs.declared.heading.Heading.{Heading}
-use Rattle.check_text.specs.declared.heading.Heading.TheVariants as heading
 use Rattle.check_text.specs.declared.image_line.ImageLine.{ImageLine}
 use Rattle.check_text.specs.declared.image_line.ImageLine.TheVariants as line
-use Rattle.check_text.proofs.LockHeaders.{header-nodes}
-use Rattle.checked_replays.proofs.Eaches.{IfThere}
-use Rattle.checked_replays.proofs.TraceReading.{IsTextItem}
+use Rattle.check_text.proofs.ImageHeaders.{header-headed}
+use Rattle.permitted_claims.proofs.Eaches.{IfThere}
+use Rattle.permitted_claims.proofs.TextItems.{IsTextItem}
 
 -- what was read whole is so
 abbrev pub IfWhole : {A : Type 0} → (A → Type 0) → Reading A → Type 0
@@ -47,25 +48,30 @@ said-there P (Some w) o has = tt
 said-there P None None has = tt
 said-there P None (Some x) has = has
 
+-- no two stacks have one word
+abbrev pub AreApart : Type 0
+AreApart = (s t : StackId) → bytes_eq (stack_word s) (stack_word t) ≡ true → s ≡ t
+
 -- of a header that was found
-header-by : (kind : Heading) (l : List ℕ) (h : Header) → header_of l ≡ Some h → (b : Bool) → heads kind h.stack ≡ b → IfThere (λ g. IsHeaded kind (Some g)) (cond b (Some h) None)
-header-by kind l h is true e = header-nodes kind l h (sym is) e
-header-by kind l h is false e = tt
+module _ (apart : AreApart) (below : Option StackId) (l : List ℕ) where
+  header-by : (h : Header) → header_of l ≡ Some h → (b : Bool) → heads below h.stack ≡ b → IfThere (λ g. IsHeaded below (Some g)) (cond b (Some h) None)
+  header-by h is true e = header-headed apart below l h (sym is) e
+  header-by h is false e = tt
 
-header-there : (kind : Heading) (l : List ℕ) (o : Option Header) → header_of l ≡ o → IfThere (λ g. IsHeaded kind (Some g)) (option_and_then (header_if kind) o)
-header-there kind l None is = tt
-header-there kind l (Some h) is = header-by kind l h is (heads kind h.stack) refl
+  header-there : (o : Option Header) → header_of l ≡ o → IfThere (λ g. IsHeaded below (Some g)) (option_and_then (header_if below) o)
+  header-there None is = tt
+  header-there (Some h) is = header-by h is (heads below h.stack) refl
 
--- what a claim is whose parts were read, below a header of this kind
-pub record IsReadClaim {I O X : Type 0} (nodes : ℕ) (HasIn : I → Type 0) (HasOut : O → Type 0) (HasImage : X → Type 0) (kind : Heading) (c : Claim I O X) : Type 0 where
+-- what a claim is whose parts were read, where its image has the header of a schedule of this stack, or none
+pub record IsReadClaim {I O X : Type 0} (nodes : ℕ) (HasIn : I → Type 0) (HasOut : O → Type 0) (HasImage : X → Type 0) (below : Option StackId) (c : Claim I O X) : Type 0 where
   pub trace : Each (IsTextItem nodes HasIn HasOut) c.trace
-  pub header : IsHeaded kind c.header
+  pub header : IsHeaded below c.header
   pub image : Each HasImage c.image
 
-module _ {I O X : Type 0} (form : Form I O X) (HasIn : I → Type 0) (HasOut : O → Type 0) (HasImage : X → Type 0)
+module _ {I O X : Type 0} (apart : AreApart) (form : Form I O X) (HasIn : I → Type 0) (HasOut : O → Type 0) (HasImage : X → Type 0)
     (ins : (bs : List ℕ) (i : I) → form.input_of bs ≡ Some i → HasIn i) (outs : (bs : List ℕ) (o : O) → form.output_of bs ≡ Some o → HasOut o) (says : (l : List ℕ) → IfSays HasImage (form.says l)) where
-  abbrev IsRead : Heading → Claim I O X → Type 0
-  IsRead kind c = IsReadClaim form.nodes HasIn HasOut HasImage kind c
+  abbrev IsRead : Claim I O X → Type 0
+  IsRead c = IsReadClaim form.nodes HasIn HasOut HasImage form.below c
 
   -- an item that is not refused has a text
   abbrev IfItem : Option Why → Option (Item I O) → Type 0
@@ -123,60 +129,63 @@ module _ {I O X : Type 0} (form : Form I O X) (HasIn : I → Type 0) (HasOut : O
   image-each number count [] = tt
   image-each number count (l ∷ ls) = onto-each (line_of_image form.says number count l) number (image_from form.says (number + 1) (count + 1) ls) (line-says number count l) (image-each (number + 1) (count + 1) ls)
 
-  -- an image behind a header, or alone
-  only-claim : (kind : Heading) (h : Option Header) → IsHeaded kind h → (r : Reading (List X)) → IfWhole (Each HasImage) r → IfWhole (IsRead kind) (read_map (only_image h) r)
-  only-claim kind h has r all = whole-map (Each HasImage) (IsRead kind) (only_image h) (λ xs rest. record { trace = tt; header = has; image = rest }) r all
+  -- an image after a header, or alone
+  only-claim : (h : Option Header) → IsHeaded form.below h → (r : Reading (List X)) → IfWhole (Each HasImage) r → IfWhole IsRead (read_map (only_image h) r)
+  only-claim h has r all = whole-map (Each HasImage) IsRead (only_image h) (λ xs rest. record { trace = tt; header = has; image = rest }) r all
 
-  headed-claim : (kind : Heading) (o : Option Header) (number : ℕ) (r : Reading (List X)) → IfThere (λ h. IsHeaded kind (Some h)) o → IfWhole (Each HasImage) r → IfWhole (IsRead kind) (headed form o number r)
-  headed-claim kind None number r has all = tt
-  headed-claim kind (Some h) number r has all = only-claim kind (Some h) has r all
+  headed-claim : (o : Option Header) (number : ℕ) (r : Reading (List X)) → IfThere (λ h. IsHeaded form.below (Some h)) o → IfWhole (Each HasImage) r → IfWhole IsRead (headed form o number r)
+  headed-claim None number r has all = tt
+  headed-claim (Some h) number r has all = only-claim (Some h) has r all
 
-  unless-claim : (kind : Heading) (o : Option Why) (number : ℕ) (r : Reading (Claim I O X)) → IfWhole (IsRead kind) r → IfWhole (IsRead kind) (headed_unless form o number r)
-  unless-claim kind (Some w) number r has = tt
-  unless-claim kind None number r has = has
+  unless-claim : (o : Option Why) (number : ℕ) (r : Reading (Claim I O X)) → IfWhole IsRead r → IfWhole IsRead (headed_unless form o number r)
+  unless-claim (Some w) number r has = tt
+  unless-claim None number r has = has
 
-  header-claim : (kind : Heading) (number : ℕ) (ls : List (List ℕ)) → IfWhole (IsRead kind) (with_header form kind number ls)
-  header-claim kind number [] = tt
-  header-claim kind number (l ∷ ls) =
+  header-claim : (number : ℕ) (ls : List (List ℕ)) → IfWhole IsRead (with_header form form.below number ls)
+  header-claim number [] = tt
+  header-claim number (l ∷ ls) =
       let rest = image_from form.says (number + 1) 0 ls in
-      unless-claim kind (first_of (line_refusals most_lines number l)) number (headed form (image_header kind l) number rest)
-      (headed-claim kind (image_header kind l) number rest (header-there kind l (header_of l) refl) (image-each (number + 1) 0 ls))
+      unless-claim (first_of (line_refusals most_lines number l)) number (headed form (image_header form.below l) number rest)
+      (headed-claim (image_header form.below l) number rest (header-there apart form.below l (header_of l) refl) (image-each (number + 1) 0 ls))
 
-  below-claim : (kind : Heading) (number : ℕ) (ls : List (List ℕ)) → IfWhole (IsRead kind) (behind_below form kind number ls)
-  below-claim heading.Lock number ls = header-claim heading.Lock number ls
-  below-claim heading.Kv number ls = header-claim heading.Kv number ls
-  below-claim heading.Absent number ls = only-claim heading.Absent None tt (image_from form.says number 0 ls) (image-each number 0 ls)
+  -- by whether an image has a header
+  below-by : (below : Option StackId) → form.below ≡ below → (number : ℕ) (ls : List (List ℕ)) → IfWhole IsRead (behind_below form below number ls)
+  below-by None is number ls = only-claim None (subst (λ b. IsHeaded b None) (sym is) tt) (image_from form.says number 0 ls) (image-each number 0 ls)
+  below-by (Some s) is number ls = subst (λ b. IfWhole IsRead (with_header form b number ls)) is (header-claim number ls)
+
+  below-claim : (number : ℕ) (ls : List (List ℕ)) → IfWhole IsRead (behind_below form form.below number ls)
+  below-claim number ls = below-by form.below refl number ls
 
   -- a line of a trace, before lines of which the rest of the claim is read, or the image if it is `below`. What `below` says
   -- stands for that it is this line
   module _ (number inputs : ℕ) (l : List ℕ) (rest : ℕ → Reading (Claim I O X)) (image : Reading (Claim I O X))
-      (more : (n : ℕ) → IfWhole (IsRead form.heading) (rest n)) (below : IfWhole (IsRead form.heading) image) where
-    item-claim : (w : Option Why) (o : Option (Item I O)) → IfItem w o → IfWhole (IsRead form.heading) (claim_line form (item_or_refusal w o) number inputs rest image)
+      (more : (n : ℕ) → IfWhole IsRead (rest n)) (below : IfWhole IsRead image) where
+    item-claim : (w : Option Why) (o : Option (Item I O)) → IfItem w o → IfWhole IsRead (claim_line form (item_or_refusal w o) number inputs rest image)
     item-claim (Some w) o has = tt
     item-claim None None has = tt
     item-claim None (Some x) has =
-        whole-map (IsRead form.heading) (IsRead form.heading) (with_item x) (λ c is. record { trace = (has, is.trace); header = is.header; image = is.image }) (rest (count_item inputs x)) (more (count_item inputs x))
+        whole-map IsRead IsRead (with_item x) (λ c is. record { trace = (has, is.trace); header = is.header; image = is.image }) (rest (count_item inputs x)) (more (count_item inputs x))
 
-    said-claim : (b : Bool) → IfWhole (IsRead form.heading)
+    said-claim : (b : Bool) → IfWhole IsRead
         (claim_line form (cond b (trace_says form.input_of form.output_of form.nodes (codes "below")) (item_or_refusal (first_of (item_refusals form.input_of form.output_of form.nodes l)) (item_of form.input_of form.output_of l))) number inputs rest image)
     said-claim true = below
     said-claim false = item-claim (first_of (item_refusals form.input_of form.output_of form.nodes l)) (item_of form.input_of form.output_of l) (parts-said (item_parts l))
 
-    unless-said : (o : Option Why) → IfWhole (IsRead form.heading) (claim_line form (trace_unless o (trace_says form.input_of form.output_of form.nodes l)) number inputs rest image)
+    unless-said : (o : Option Why) → IfWhole IsRead (claim_line form (trace_unless o (trace_says form.input_of form.output_of form.nodes l)) number inputs rest image)
     unless-said (Some w) = tt
     unless-said None = said-claim (is_text l (codes "below"))
 
-    unless-counted : (o : Option Why) → IfWhole (IsRead form.heading) (claim_line form (trace_unless o (counted_says form.input_of form.output_of form.nodes inputs l)) number inputs rest image)
+    unless-counted : (o : Option Why) → IfWhole IsRead (claim_line form (trace_unless o (counted_says form.input_of form.output_of form.nodes inputs l)) number inputs rest image)
     unless-counted (Some w) = tt
     unless-counted None = unless-said (first_of ((why.TooManyEvents, begins_as_input l && nat_le 1000000 inputs) ∷ []))
 
-    line-claim : IfWhole (IsRead form.heading) (claim_line form (trace_line form.input_of form.output_of form.nodes number inputs l) number inputs rest image)
+    line-claim : IfWhole IsRead (claim_line form (trace_line form.input_of form.output_of form.nodes number inputs l) number inputs rest image)
     line-claim = unless-counted (first_of (line_refusals most_lines number l))
 
-  claim-read : (number inputs : ℕ) (ls : List (List ℕ)) → IfWhole (IsRead form.heading) (claim_from form number inputs ls)
+  claim-read : (number inputs : ℕ) (ls : List (List ℕ)) → IfWhole IsRead (claim_from form number inputs ls)
   claim-read number inputs [] = tt
   claim-read number inputs (l ∷ ls) =
-      line-claim number inputs l (λ n. claim_from form (number + 1) n ls) (behind_below form form.heading (number + 1) ls) (λ n. claim-read (number + 1) n ls) (below-claim form.heading (number + 1) ls)
+      line-claim number inputs l (λ n. claim_from form (number + 1) n ls) (behind_below form form.below (number + 1) ls) (λ n. claim-read (number + 1) n ls) (below-claim (number + 1) ls)
 
-  pub read-whole : (ls : List (List ℕ)) (c : Claim I O X) → claim_of form ls ≡ Whole c → IsReadClaim form.nodes HasIn HasOut HasImage form.heading c
-  read-whole ls c is = subst (IfWhole (IsRead form.heading)) is (claim-read 1 0 ls)
+  pub read-whole : (ls : List (List ℕ)) (c : Claim I O X) → claim_of form ls ≡ Whole c → IsReadClaim form.nodes HasIn HasOut HasImage form.below c
+  read-whole ls c is = subst (IfWhole IsRead) is (claim-read 1 0 ls)

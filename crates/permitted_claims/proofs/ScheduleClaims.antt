@@ -1,101 +1,103 @@
 -- Claims whose image is a schedule: where they were read, the lines of a trace tell its items.
 use Rattle.std.specs.Prelude.{◌≡◌, ◌↔◌, ℕ, ◌<◌, ◌≤◌, List, map, Option, Some, None}
-use Rattle.std.proofs.Common.{ap, ◌∙◌, sym, arith}
-use Rattle.app_text.specs.KvTexts as kv_texts
-use Rattle.app_text.specs.KvTextLaws as kv_laws
-use Rattle.app_text.specs.LockTexts as lock_texts
-use Rattle.app_text.specs.LockTextLaws as lock_laws
+use Rattle.std.proofs.Common.{ap, ◌∙◌, subst, sym}
 use Rattle.app_text.specs.Spelling.{IsSpelling}
-use Rattle.check_text.specs.Forms.{Form, claim_of}
-use Rattle.check_text.specs.ImageLines.{IsHeaded}
+use Rattle.check_text.specs.Forms.{Form, claim_of, form_of}
+use Rattle.check_text.specs.ImageLines.{IsHeaded, step_says}
 use Rattle.check_text.specs.Reading.{Whole}
 use Rattle.check_text.specs.TraceLines.{item_or_refusal, trace_says}
-use Rattle.check_text.specs.declared.heading.Heading.TheVariants as heading
+use Rattle.claim_verdicts.specs.Laws.{IsShown}
+use Rattle.claim_verdicts.specs.Schedules.{ScheduleClaim, schedule_verdict}
+use Rattle.claim_verdicts.specs.declared.verdict.Verdict.TheVariants.{Yes}
 use Rattle.handler_trait.specs.Handling.{Meaning}
-use Rattle.kv_machine.specs.Kv.{Store, kv}
-use Rattle.kv_machine.specs.declared.cmd.KvCmd.{KvCmd}
-use Rattle.kv_machine.specs.declared.out.KvOut.{KvOut}
 use Rattle.linearizability.specs.Linearizable.{Each}
-use Rattle.lock_server.specs.Locks.{lock_server}
-use Rattle.lock_server.specs.declared.state.LockState.{LockState}
-use Rattle.net_semantics.specs.Runs.{IsAllowed, no_recovery, trace}
-use Rattle.schedule_text.specs.declared.header.Header.{Header}
+use Rattle.net_semantics.specs.Runs.{IsAllowed, machine_trace, no_recovery, trace}
+use Rattle.schedule_text.specs.Headers.{IsBy, IsHeader}
 use Rattle.schedule_text.specs.Printing.{item_text}
 use Rattle.schedule_text.specs.Spellable.{IsSpellable}
+use Rattle.schedule_text.specs.declared.header.Header.{Header}
+use Rattle.single_node.specs.Commands.{commands}
 use Rattle.single_node.specs.SingleNode.{single_node}
-use Rattle.trace_check.specs.Checks.{kv_form, lock_form, nodes_of}
-use Rattle.trace_check.specs.Laws.{IsShown}
-use Rattle.trace_check.specs.Schedules.{ScheduleClaim}
-use Rattle.vst_base.specs.declared.lock.LockInput.{LockInput}
-use Rattle.vst_base.specs.declared.lock.LockOutput.{LockOutput}
-use Rattle.vst_base.specs.declared.lock.LockMsg.{LockMsg}
+use Rattle.stacks.specs.Kinds.{IsWhatClientsSee, by_itself, nodes_of, own_verdict, plain}
+use Rattle.stacks.specs.Stack.{Texts}
+use Rattle.vst_base.specs.Machines.{MachineMeaning}
+use Rattle.vst_base.specs.Stacks.{row_of}
 use Rattle.vst_base.specs.declared.net.Net.{Net}
 use Rattle.vst_base.specs.declared.net.Net.TheVariants as net
+use Rattle.vst_base.specs.declared.stack.StackId.{StackId}
 use Rattle.vst_base.specs.declared.step.Item.{Item}
 use Rattle.vst_base.specs.declared.step.Step.{Step}
-use Rattle.checked_replays.proofs.KvRuns.{IsCommand, IsOutput, IsTextStore, kv-keeps, single-keeps}
-use Rattle.checked_replays.proofs.LockRuns.{WaitsBelow, lock-keeps}
-use Rattle.checked_replays.proofs.Runs.{trace-texts}
-use Rattle.checked_replays.proofs.TraceReading.{IsTextItem, item-said, more-nodes}
-use Rattle.permitted_claims.specs.Permitted.{IsWhatClientsSee}
 use Rattle.permitted_claims.proofs.ImageSteps.{same-by, step-text}
-use Rattle.permitted_claims.proofs.ReadClaims.{IsReadClaim, read-whole}
+use Rattle.permitted_claims.proofs.KvRuns.{single-keeps}
+use Rattle.permitted_claims.proofs.ReadClaims.{AreApart, IsReadClaim, read-whole}
+use Rattle.permitted_claims.proofs.Runs.{KeepsTexts, trace-texts}
+use Rattle.permitted_claims.proofs.TextItems.{IsTextItem, item-said, more-nodes}
+use Rattle.permitted_claims.proofs.TextMachines.{IsTextMachine}
+use Rattle.permitted_claims.proofs.Verdicts.{IsDecided}
 
-module _ {S I O M : Type 0} (form : Form I O (Step I)) (t : I → List ℕ) (u : O → List ℕ) (HasIn : I → Type 0) (HasOut : O → Type 0) (few_nodes : form.nodes < 4294967296)
-    (ins : IsSpelling HasIn form.input_of t) (outs : IsSpelling HasOut form.output_of u) (n : Net) (m : Meaning S I O M) (c : ScheduleClaim I O) where
-  item-apart : (a b : Item I O) → IsTextItem form.nodes HasIn HasOut a → IsTextItem form.nodes HasIn HasOut b → item_text t u a ≡ item_text t u b → a ≡ b
-  item-apart a b one two e =
-      let same : item_or_refusal None (Some a) ≡ item_or_refusal None (Some b) =
-      sym (item-said form t u HasIn HasOut few_nodes ins outs a one) ∙ (ap (trace_says form.input_of form.output_of form.nodes) e ∙ item-said form t u HasIn HasOut few_nodes ins outs b two) in
-      cc
+-- how a claim is spelled whose image is a schedule of this stack, and what it is once it was read
+abbrev pub schedule_form : {I O : Type 0} → ℕ → StackId → Texts I O → Form I O (Step I)
+schedule_form nodes own t = form_of nodes t.input_of t.output_of (Some own) (step_says t.input_of)
 
-  module _ (read : Each (IsTextItem form.nodes HasIn HasOut) c.trace) (seen : IsAllowed n m (no_recovery {S = S}) c.image → Each (IsTextItem form.nodes HasIn HasOut) (trace m (no_recovery {S = S}) c.image)) where
-    clients-see : IsShown t u n m c → IsWhatClientsSee n m c
-    clients-see by = record {
-      allowed = by.allowed;
-      trace = same-by (IsTextItem form.nodes HasIn HasOut) (item_text t u) item-apart c.trace (trace m (no_recovery {S = S}) c.image) read (seen by.allowed) by.trace;
-    }
+abbrev pub IsReadSchedule : {I O : Type 0} → ℕ → StackId → (I → Type 0) → (O → Type 0) → ScheduleClaim I O → Type 0
+IsReadSchedule nodes own HasIn HasOut c = IsReadClaim nodes HasIn HasOut (IsSpellable HasIn) (Some own) c
 
-    shown : IsWhatClientsSee n m c → IsShown t u n m c
-    shown by = record { allowed = by.allowed; trace = ap (map (item_text t u)) by.trace }
+module _ {I O : Type 0} (apart : AreApart) (nodes : ℕ) (own : StackId) (t : Texts I O) (HasIn : I → Type 0) (HasOut : O → Type 0) (ins : IsSpelling HasIn t.input_of t.input_text) (outs : IsSpelling HasOut t.output_of t.output_text) where
+  pub schedule-read : (ls : List (List ℕ)) (c : ScheduleClaim I O) → claim_of (schedule_form nodes own t) ls ≡ Whole c → IsReadSchedule nodes own HasIn HasOut c
+  schedule-read ls c is =
+      read-whole apart (schedule_form nodes own t) HasIn HasOut (IsSpellable HasIn) ins.has_text outs.has_text (step-text t.input_of t.input_text HasIn ins) ls c is
 
-    yes-by : (Yes : Type 0) → Yes ↔ IsShown t u n m c → Yes ↔ IsWhatClientsSee n m c
-    yes-by Yes law = (λ y. clients-see (law.0 y), λ by. law.1 (shown by))
+  module _ (few_nodes : nodes < 4294967296) where
+    item-apart : (a b : Item I O) → IsTextItem nodes HasIn HasOut a → IsTextItem nodes HasIn HasOut b → item_text t.input_text t.output_text a ≡ item_text t.input_text t.output_text b → a ≡ b
+    item-apart a b one two e =
+        let said = item-said (schedule_form nodes own t) t.input_text t.output_text HasIn HasOut few_nodes ins outs in
+        let same : item_or_refusal None (Some a) ≡ item_or_refusal None (Some b) = sym (said a one) ∙ (ap (trace_says t.input_of t.output_of nodes) e ∙ said b two) in
+        cc
 
--- of the lock server
-few-nodes : (o : Option Header) → IsHeaded heading.Lock o → nodes_of o ≤ 9
-few-nodes None is = omega arith
-few-nodes (Some h) is = is.1
+    -- handlers that keep what they are given in texts, on no more nodes than a trace may name
+    module _ {S M : Type 0} (on : Net) (m : Meaning S I O M) (Sound : ℕ → S → Type 0) (Fine : M → Type 0) (keeps : KeepsTexts on m (no_recovery {S = S}) HasIn HasOut Sound Fine) (fits : m.nodes ≤ nodes)
+        (c : ScheduleClaim I O) (read : IsReadSchedule nodes own HasIn HasOut c) where
+      seen : IsAllowed on m (no_recovery {S = S}) c.image → Each (IsTextItem nodes HasIn HasOut) (trace m (no_recovery {S = S}) c.image)
+      seen allowed = more-nodes m.nodes nodes HasIn HasOut fits (trace m (no_recovery {S = S}) c.image) (trace-texts on m (no_recovery {S = S}) HasIn HasOut Sound Fine keeps c.image allowed read.image)
 
-abbrev IsAny : {A : Type 0} → A → Type 0
-IsAny x = Unit {0}
+      clients-see : IsShown t.input_text t.output_text on m c → IsWhatClientsSee on m c
+      clients-see by = record {
+        allowed = by.allowed;
+        trace = same-by (IsTextItem nodes HasIn HasOut) (item_text t.input_text t.output_text) item-apart c.trace (trace m (no_recovery {S = S}) c.image) read.trace (seen by.allowed) by.trace;
+      }
 
-module _ (ls : List (List ℕ)) (c : ScheduleClaim LockInput LockOutput) (is : claim_of lock_form ls ≡ Whole c) where
-  abbrev server : Meaning LockState LockInput LockOutput LockMsg
-  server = lock_server (nodes_of c.header)
+      shown : IsWhatClientsSee on m c → IsShown t.input_text t.output_text on m c
+      shown by = record { allowed = by.allowed; trace = ap (map (item_text t.input_text t.output_text)) by.trace }
 
-  lock-read : IsReadClaim 9 IsAny IsAny (IsSpellable IsAny) heading.Lock c
-  lock-read = read-whole lock_form IsAny IsAny (IsSpellable IsAny) lock_laws.inputs_are_spelled.has_text lock_laws.outputs_are_spelled.has_text
-      (step-text lock_texts.input_of lock_texts.input_text IsAny lock_laws.inputs_are_spelled) ls c is
+      pub sees : (Says : Type 0) → Says ↔ IsShown t.input_text t.output_text on m c → Says ↔ IsWhatClientsSee on m c
+      sees Says law = (λ y. clients-see (law.0 y), λ by. law.1 (shown by))
 
-  lock-seen : IsAllowed net.Bag server (no_recovery {S = LockState}) c.image → Each (IsTextItem 9 IsAny IsAny) (trace server (no_recovery {S = LockState}) c.image)
-  lock-seen allowed =
-      more-nodes (nodes_of c.header) 9 IsAny IsAny (few-nodes c.header lock-read.header) (trace server (no_recovery {S = LockState}) c.image)
-      (trace-texts net.Bag server (no_recovery {S = LockState}) IsAny IsAny (WaitsBelow (nodes_of c.header)) IsAny (lock-keeps (nodes_of c.header)) c.image allowed lock-read.image)
+-- on handlers that are a stack by themselves: an image has as many nodes as its header says
+module _ {S I O M : Type 0} (apart : AreApart) (own_row : (h : Header) → IsHeader h → IsBy (row_of h.stack) h) (nodes : ℕ) (few_nodes : nodes < 4294967296) (own : StackId) (handlers : ℕ → Meaning S I O M) (t : Texts I O)
+    (HasIn : I → Type 0) (HasOut : O → Type 0) (ins : IsSpelling HasIn t.input_of t.input_text) (outs : IsSpelling HasOut t.output_of t.output_text) (Sound : ℕ → ℕ → S → Type 0) (Fine : M → Type 0)
+    (keeps : (k : ℕ) → KeepsTexts (row_of own).net (handlers k) (no_recovery {S = S}) HasIn HasOut (Sound k) Fine) (fits : (k : ℕ) → k ≤ (row_of own).most → (handlers k).nodes ≤ nodes)
+    (law : (c : ScheduleClaim I O) → (own_verdict own handlers t c ≡ Yes) ↔ IsShown t.input_text t.output_text (row_of own).net (handlers (nodes_of c.header)) c) where
+  nodes-within : (o : Option Header) → IsHeaded (Some own) o → nodes_of o ≤ (row_of own).most
+  nodes-within None is = absurd is
+  nodes-within (Some h) is = subst (λ (s : StackId). h.nodes ≤ (row_of s).most) is.1 (own_row h is.0).most
 
-  pub yes-lock : (Yes : Type 0) → Yes ↔ IsShown lock_texts.input_text lock_texts.output_text net.Bag server c → Yes ↔ IsWhatClientsSee net.Bag server c
-  yes-lock = yes-by lock_form lock_texts.input_text lock_texts.output_text IsAny IsAny (omega arith) lock_laws.inputs_are_spelled lock_laws.outputs_are_spelled net.Bag server c lock-read.trace lock-seen
+  pub own-decided : (n : ℕ) → IsDecided nodes (plain own handlers t n)
+  own-decided n ls c is =
+      let read = schedule-read apart nodes own t HasIn HasOut ins outs ls c is in
+      let k = nodes_of c.header in
+      sees apart nodes own t HasIn HasOut ins outs few_nodes (row_of own).net (handlers k) (Sound k) Fine (keeps k) (fits k (nodes-within c.header read.header)) c read (own_verdict own handlers t c ≡ Yes) (law c)
 
--- of the key-value machine alone
-module _ (ls : List (List ℕ)) (c : ScheduleClaim KvCmd KvOut) (is : claim_of kv_form ls ≡ Whole c) where
-  kv-read : IsReadClaim 1 IsCommand IsOutput (IsSpellable IsCommand) heading.Kv c
-  kv-read = read-whole kv_form IsCommand IsOutput (IsSpellable IsCommand) kv_laws.inputs_are_spelled.has_text kv_laws.outputs_are_spelled.has_text
-      (step-text kv_texts.input_of kv_texts.input_text IsCommand kv_laws.inputs_are_spelled) ls c is
-
-  kv-seen : IsAllowed net.One (single_node kv) (no_recovery {S = Store}) c.image → Each (IsTextItem 1 IsCommand IsOutput) (trace (single_node kv) (no_recovery {S = Store}) c.image)
-  kv-seen allowed =
-      trace-texts net.One (single_node kv) (no_recovery {S = Store}) IsCommand IsOutput (λ n s. IsTextStore s) (λ _. Unit {0})
-      (single-keeps kv IsCommand IsOutput IsTextStore kv-keeps) c.image allowed kv-read.image
-
-  pub yes-kv : (Yes : Type 0) → Yes ↔ IsShown kv_texts.input_text kv_texts.output_text net.One (single_node kv) c → Yes ↔ IsWhatClientsSee net.One (single_node kv) c
-  yes-kv = yes-by kv_form kv_texts.input_text kv_texts.output_text IsCommand IsOutput (omega arith) kv_laws.inputs_are_spelled kv_laws.outputs_are_spelled net.One (single_node kv) c kv-read.trace kv-seen
+-- on a machine alone, which shows each command with its answer
+module _ {S C O : Type 0} (apart : AreApart) (nodes : ℕ) (few_nodes : nodes < 4294967296) (one : 1 ≤ nodes) (own : StackId) (m : MachineMeaning S C O) (t : Texts C O)
+    (HasIn : C → Type 0) (HasOut : O → Type 0) (Sound : S → Type 0) (spelled : IsTextMachine m t HasIn HasOut Sound)
+    (shows : (ss : List (Step C)) → IsAllowed net.One (single_node m) (no_recovery {S = S}) ss → trace (single_node m) (no_recovery {S = S}) ss ≡ machine_trace m (commands ss))
+    (law : (c : ScheduleClaim C O) → (schedule_verdict t.input_text t.output_text net.One (single_node m) c ≡ Yes) ↔ IsShown t.input_text t.output_text net.One (single_node m) c) where
+  pub alone-decided : IsDecided nodes (by_itself own m t)
+  alone-decided ls c is =
+      let read = schedule-read apart nodes own t HasIn HasOut spelled.ins spelled.outs ls c is in
+      let keeps = single-keeps m HasIn HasOut Sound spelled.keeps in
+      let seen = sees apart nodes own t HasIn HasOut spelled.ins spelled.outs few_nodes net.One (single_node m) (λ n s. Sound s) (λ _. Unit {0}) keeps one c read
+      (schedule_verdict t.input_text t.output_text net.One (single_node m) c ≡ Yes) (law c) in (
+        λ y. let by = seen.0 y in record { allowed = by.allowed; trace = by.trace ∙ shows c.image by.allowed },
+        λ by. seen.1 (record { allowed = by.allowed; trace = by.trace ∙ sym (shows c.image by.allowed) }),
+      )

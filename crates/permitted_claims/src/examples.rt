@@ -1,5 +1,5 @@
 ghost use Rattle.std.specs.Prelude.{codes};
-ghost use Rattle.permitted_claims.specs.Permitted.{IsPermitted};
+ghost use Rattle.trace_check.specs.Checks.{IsNotPermitted, IsPermitted};
 ghost use Rattle.vst_base.specs.declared.stack.StackId.TheVariants as stack;
 
 use crate::permitted_claims_are_explained;
@@ -11,8 +11,10 @@ pub fn worked()
     ensures no_image { IsPermitted stack.KvRaft (codes "in 0 7 1 put a x\n") → ⊥ }
     ensures locked { IsPermitted stack.Lock (codes "in 1 lock\nout 1 locked\nbelow\nschedule 1 bag lock 2\nin 1 lock\ndeliver 0\ndeliver 1\n") }
     ensures locked_too_early { IsPermitted stack.Lock (codes "in 1 lock\nout 1 locked\nbelow\nschedule 1 bag lock 2\nin 1 lock\ndeliver 0\n") → ⊥ }
+    ensures refused_step { IsNotPermitted stack.LockSeq (codes "in 1 lock\nbelow\nschedule 1 bag lock 2\nin 1 lock\ndeliver 1\n") }
     ensures replied { IsPermitted stack.KvPb (codes "in 0 put a x\nout 0 a =x -\nin 1 get a\nout 1 redirect\nbelow\nschedule 1 one kv 1\nin 0 put a x\n") }
     ensures another_reply { IsPermitted stack.KvPb (codes "in 0 put a x\nout 0 a =y -\nbelow\nschedule 1 one kv 1\nin 0 put a x\n") → ⊥ }
+    ensures read_misses_the_write { IsNotPermitted stack.Kv (codes "in 0 put a x\nout 0 a =x -\nin 0 get a\nout 0 a - -\nbelow\nschedule 1 one kv 1\nin 0 put a x\nin 0 get a\n") }
 {
     permitted_claims_are_explained();
 }

@@ -1,5 +1,5 @@
-//! What a check's yes means, from the bytes of a text on: the laws of verdicts at the machines that there are claims on, whose
-//! commands and outputs have texts wherever a claim was read. There is no code here but the law.
+//! What a check's yes and its no mean, from the bytes of a text on: the laws of verdicts at each stack, whose inputs and outputs
+//! have texts wherever a claim was read. There is no code here but the law.
 #![tactic(auto)]
 
 mod examples;

@@ -1,8 +1,7 @@
 -- What a replay comes to, by where its steps ended.
-use Rattle.std.specs.Prelude.{◌≡◌, ℕ, Bool, true, false, ◌+◌, ◌-◌, ◌≤◌, List, [], ◌∷◌, ◌++◌, map, length, Option, Some, None, Ok, Err, codes, refl}
-use Rattle.std.specs.List.{flat_map}
+use Rattle.std.specs.Prelude.{◌≡◌, ℕ, Bool, true, false, ◌+◌, ◌-◌, ◌≤◌, List, [], ◌++◌, length, Option, Some, None, Ok, Err, refl}
 use Rattle.std.proofs.Common.{ap, ◌∙◌, sym, subst, append_assoc, arith, length-append, zero-add}
-use Rattle.std.proofs.lemmas.List.{append-nil, length-map}
+use Rattle.std.proofs.lemmas.List.{append-nil}
 use Rattle.vst_base.specs.declared.step.Step.{Step}
 use Rattle.vst_base.specs.declared.step.Item.{Item}
 use Rattle.net_semantics.specs.Runs.{trace}
@@ -16,7 +15,6 @@ use Rattle.line_reader.specs.declared.fault.LineFault.{LineFault}
 use Rattle.line_reader.specs.declared.fault.LineFault.TheVariants as line
 use Rattle.schedule_text.specs.Sending.{HasWriteCause}
 use Rattle.schedule_replay.specs.Faults.{replay_fault}
-use Rattle.schedule_text.specs.Printing.{as_line, lines_text}
 use Rattle.schedule_text.specs.Schedules.{Script, script}
 use Rattle.xform_stack.specs.Running.{Progress, System}
 use Rattle.schedule_replay.specs.declared.done.Done.{Done}
@@ -24,9 +22,10 @@ use Rattle.schedule_replay.specs.declared.fault.ReplayFault.TheVariants as fault
 use Rattle.schedule_replay.specs.declared.halt.Halt.{Halt}
 use Rattle.schedule_replay.specs.declared.halt.Halt.TheVariants as halt
 use Rattle.schedule_replay.specs.declared.tally.Tally.{Tally}
-use Rattle.schedule_replay.specs.Stacks.{ImageText, Stack, Texts, header_lines, stack_of}
+use Rattle.stacks.specs.ClaimTexts.{image_text}
+use Rattle.stacks.specs.Stack.{ImageTexts, Play, Texts, play_of}
 use Rattle.schedule_replay.specs.Tallying.{tallied}
-use Rattle.schedule_replay.specs.Finishing.{image_text, counted_done}
+use Rattle.schedule_replay.specs.Finishing.{counted_done}
 use Rattle.schedule_replay.specs.Replaying.{Replayed, ended, replayed_script, stop, taken, trace_lines, image_lines, counts_of}
 use Rattle.schedule_replay.specs.Replays.{stack_whole, stack_so_far}
 use Rattle.schedule_replay.specs.Outcomes.{HasGiven, ComesTo, HasCause}
@@ -34,7 +33,7 @@ use Rattle.schedule_replay.specs.Playing.{TraceWritten, Halted}
 use Rattle.schedule_replay.proofs.Plays.{written-front}
 
 -- a script by what is taken of it and where it stops
-ended-at : {S K I O M : Type 0} (st : Stack S K I O M) (whole : Bool) (sc : Script I) (ss : List (Step I)) (o : Option (ℕ × Why)) → taken st sc ≡ ss → stop st sc ≡ o → replayed_script st whole sc ≡ ended st whole ss o
+ended-at : {I O G : Type 0} (st : Play I O G) (whole : Bool) (sc : Script I) (ss : List (Step I)) (o : Option (ℕ × Why)) → taken st sc ≡ ss → stop st sc ≡ o → replayed_script st whole sc ≡ ended st whole ss o
 ended-at st whole sc ss o e f = rw (e, f) refl
 
 -- what was given of a rest, where a reader stands at the byte that decided a line
@@ -50,21 +49,11 @@ given-of old new left' rest n s = (
   omega (arith, length-append s.used new.ahead, s.decides, s.few),
 )
 
--- the lines of things are the things' lines
-lines-map : {G : Type 0} (text : G → List ℕ) (gs : List G) → flat_map as_line (map text gs) ≡ lines_text text gs
-lines-map text [] = refl
-lines-map text (g ∷ gs) = ap (λ bs. as_line (text g) ++ bs) (lines-map text gs)
+counts-same : {S K I O M G : Type 0} (sys : System S K I O M G) (t : Texts I O) (i : ImageTexts G) (ss : List (Step I))
+    → counted_done (tallied t.is_reply (record { inputs = 0; outputs = 0; replies = 0 }) (trace sys.meaning sys.recovery ss)) (length ss) (sys.image ss) ≡ counts_of (play_of sys t i) ss
+counts-same sys t i ss = rw (zero-add, zero-add, zero-add) refl
 
-module _ {S K I O M G : Type 0} (sys : System S K I O M G) (t : Texts I O) (i : ImageText G) where
-  image-same : (ss : List (Step I)) → image_text i (sys.image ss) ≡ image_lines (stack_of sys t i) ss
-  image-same ss =
-      append_assoc (as_line (codes "below")) (flat_map as_line (header_lines i.header)) (lines_text i.line (sys.image ss))
-      ∙ ap (λ bs. as_line (codes "below") ++ (flat_map as_line (header_lines i.header) ++ bs)) (sym (lines-map i.line (sys.image ss)))
-
-  counts-same : (ss : List (Step I)) → counted_done (tallied t.is_reply (record { inputs = 0; outputs = 0; replies = 0 }) (trace sys.meaning sys.recovery ss)) (length ss) (sys.image ss) ≡ counts_of (stack_of sys t i) ss
-  counts-same ss = rw (zero-add, zero-add, zero-add, length-map (sys.image ss) i.line) refl
-
-module _ {R S K I O M G : Type 0} (sys : System S K I O M G) (follows : R → List (Step I) → Type 0) (progress : R → Progress I O) (t : Texts I O) (i : ImageText G) where
+module _ {R S K I O M G : Type 0} (sys : System S K I O M G) (follows : R → List (Step I) → Type 0) (progress : R → Progress I O) (t : Texts I O) (i : ImageTexts G) where
   module _ (v : R) (tally : Tally) (old new : ReaderView) (left left' out mid : Option (List ℕ)) (rest : List ℕ) (has : HasRest old left rest) where
     all-gone : (x : Halt) (a : Halted sys follows progress t i v tally old new left left' out mid x) → a.gone ≡ trace sys.meaning sys.recovery a.steps
     all-gone x a = sym (ap (λ items. a.gone ++ items) a.empty ∙ append-nil a.gone) ∙ a.ran.traced
@@ -74,12 +63,12 @@ module _ {R S K I O M G : Type 0} (sys : System S K I O M G) (follows : R → Li
     all-written x a = subst (λ (items : List (Item I O)). TraceWritten t items out mid tally) (all-gone x a) a.written
 
     pub rest-read : Halted sys follows progress t i v tally old new left left' out mid halt.Read
-        → ComesTo (stack_whole (stack_of sys t i) old) (stack_so_far (stack_of sys t i) old) old.number rest left' out mid (Err fault.Read)
+        → ComesTo (stack_whole (play_of sys t i) old) (stack_so_far (play_of sys t i) old) old.number rest left' out mid (Err fault.Read)
     rest-read a =
         let by = a.halts rest has in
         let part = by.0 in
         let before = all-written halt.Read a in
-        let same = ended-at (stack_of sys t i) false (script old.most t.input_of (old.number + 1) old.events (whole_lines part)) a.steps None by.2.1 by.2.0 in
+        let same = ended-at (play_of sys t i) false (script old.most t.input_of (old.number + 1) old.events (whole_lines part)) a.steps None by.2.1 by.2.0 in
         record {
           given = part;
           gave = record { others = by.1.rest'; whole = by.1.whole; left_is = by.1.left_is };
@@ -90,11 +79,11 @@ module _ {R S K I O M G : Type 0} (sys : System S K I O M G) (follows : R → Li
         }
 
     pub rest-refused : (line : ℕ) (why : Why) → Halted sys follows progress t i v tally old new left left' out mid (halt.Refused line why)
-        → ComesTo (stack_whole (stack_of sys t i) old) (stack_so_far (stack_of sys t i) old) old.number rest left' out mid (Err (fault.Refused line why))
+        → ComesTo (stack_whole (play_of sys t i) old) (stack_so_far (play_of sys t i) old) old.number rest left' out mid (Err (fault.Refused line why))
     rest-refused line why a =
         let by = a.halts rest has in
         let before = all-written (halt.Refused line why) a in
-        let same = ended-at (stack_of sys t i) true (script old.most t.input_of (old.number + 1) old.events (lines_of rest)) a.steps (Some (line, why)) by.2 by.1 in
+        let same = ended-at (play_of sys t i) true (script old.most t.input_of (old.number + 1) old.events (lines_of rest)) a.steps (Some (line, why)) by.2 by.1 in
         let gave = given-of old new left' rest line by.0 in
         record {
           refused = ap (λ (r : Replayed). r.refused) same;
@@ -110,28 +99,28 @@ module _ {R S K I O M G : Type 0} (sys : System S K I O M G) (follows : R → Li
       image-of : (a : Halted sys follows progress t i v tally old new left left' out mid halt.End) → shown ≡ sys.image a.steps
       image-of a = shows a.steps a.ran.followed
 
-      pub rest-finishing : (out' : Option (List ℕ)) → Halted sys follows progress t i v tally old new left left' out mid halt.End → GainedFront mid out' (image_text i shown)
-          → GainedFront out out' (stack_whole (stack_of sys t i) old rest).out
+      pub rest-finishing : (out' : Option (List ℕ)) → Halted sys follows progress t i v tally old new left left' out mid halt.End → GainedFront mid out' (image_text i.header i.line shown)
+          → GainedFront out out' (stack_whole (play_of sys t i) old rest).out
       rest-finishing out' a more =
           let by = a.halts rest has in
           let before = all-written halt.End a in
-          let same = ended-at (stack_of sys t i) true (script old.most t.input_of (old.number + 1) old.events (lines_of rest)) a.steps None by.2 by.1 in
-          let image = ap (image_text i) (image-of a) ∙ image-same sys t i a.steps in
-          let lines = trace_lines (stack_of sys t i) a.steps in
-          let below = image_lines (stack_of sys t i) a.steps in
+          let same = ended-at (play_of sys t i) true (script old.most t.input_of (old.number + 1) old.events (lines_of rest)) a.steps None by.2 by.1 in
+          let image = ap (image_text i.header i.line) (image-of a) in
+          let lines = trace_lines (play_of sys t i) a.steps in
+          let below = image_lines (play_of sys t i) a.steps in
           subst (λ (r : Replayed). GainedFront out out' r.out) (sym same)
           (gained-some out mid out' lines below (lines ++ below) [] (ap (λ bs. lines ++ bs) (sym (append-nil below))) before.written (subst (λ (bs : List ℕ). GainedFront mid out' bs) image more))
 
-      pub rest-done : (out' : Option (List ℕ)) (done : Done) (events : ℕ) → Halted sys follows progress t i v tally old new left left' out mid halt.End → Gained mid out' (image_text i shown)
+      pub rest-done : (out' : Option (List ℕ)) (done : Done) (events : ℕ) → Halted sys follows progress t i v tally old new left left' out mid halt.End → Gained mid out' (image_text i.header i.line shown)
           → done ≡ counted_done tally events shown → events ≡ (progress v).taken
-          → ComesTo (stack_whole (stack_of sys t i) old) (stack_so_far (stack_of sys t i) old) old.number rest left' out out' (Ok done)
+          → ComesTo (stack_whole (play_of sys t i) old) (stack_so_far (play_of sys t i) old) old.number rest left' out out' (Ok done)
       rest-done out' done events a more counts taken =
           let by = a.halts rest has in
           let before = all-written halt.End a in
-          let same = ended-at (stack_of sys t i) true (script old.most t.input_of (old.number + 1) old.events (lines_of rest)) a.steps None by.2 by.1 in
-          let image = ap (image_text i) (image-of a) ∙ image-same sys t i a.steps in
-          let lines = trace_lines (stack_of sys t i) a.steps in
-          let below = image_lines (stack_of sys t i) a.steps in
+          let same = ended-at (play_of sys t i) true (script old.most t.input_of (old.number + 1) old.events (lines_of rest)) a.steps None by.2 by.1 in
+          let image = ap (image_text i.header i.line) (image-of a) in
+          let lines = trace_lines (play_of sys t i) a.steps in
+          let below = image_lines (play_of sys t i) a.steps in
           record {
             ended = by.0;
             taken = ap (λ (r : Replayed). r.refused) same;

@@ -1,28 +1,66 @@
 -- The trace of a text that is not refused is explained.
 use Rattle.std.specs.Prelude.{◌≡◌, ℕ, ◌+◌, Bool, true, false, List, [], ◌∷◌, Option, Some, None, if◌then◌else◌, refl}
-use Rattle.std.proofs.Common.{subst}
+use Rattle.std.proofs.Common.{◌∙◌, ap, subst, sym}
+use Rattle.std.specs.Prelude.{◌-◌}
+use Rattle.vst_base.specs.declared.step.Step.{Step}
 use Rattle.vst_base.specs.Firsts.{first_of}
 use Rattle.vst_base.specs.declared.step.StepRefusal.{StepRefusal}
 use Rattle.line_reader.specs.declared.why.Why.{Why}
+use Rattle.line_reader.specs.declared.why.Why.TheVariants as why
 use Rattle.line_reader.specs.Limits.{line_refusals}
-use Rattle.net_semantics.specs.Runs.{IsAllowed, first_refused}
 use Rattle.schedule_text.specs.declared.header.Header.{Header}
 use Rattle.schedule_text.specs.HeaderLaws.{header_of-row}
 use Rattle.schedule_text.specs.Headers.{IsHeader, header_of}
 use Rattle.schedule_text.specs.Lines.{is_skipped}
-use Rattle.schedule_text.specs.Schedules.{Opening, Opened, RefusedAt, EndedAt, Script, opened, opening, opening_unless}
-use Rattle.schedule_replay.specs.Replaying.{ended, replayed_script, steps_of, stop_at, taken, taken_at}
-use Rattle.schedule_replay.specs.Stacks.{Stack}
+use Rattle.schedule_text.specs.Schedules.{Opening, Opened, RefusedAt, EndedAt, Script, opened, opening, opening_unless, script}
+use Rattle.schedule_replay.specs.Explained.{IsReplayOn}
+use Rattle.schedule_replay.specs.Replaying.{Replayed, ended, refused_at, replayed_script, steps_of, stop_at, taken_at}
+use Rattle.schedule_replay.specs.Replays.{most_lines, replayed_by}
+use Rattle.schedule_replay.proofs.Wholly.{taken-whole}
+use Rattle.stacks.specs.ClaimTexts.{claim_by, claim_text}
+use Rattle.stacks.specs.Explained.{ExplainsAll}
+use Rattle.stacks.specs.Stack.{Entry, Found, Here, IfFound, Nowhere, Play, found_or}
 
--- a stack takes the steps of a script at which it does not stop, and its network allows them
-module _ {S K I O M : Type 0} (st : Stack S K I O M) (sc : Script I) where
-  by-first : (o : Option (ℕ × StepRefusal)) → first_refused st.net st.meaning st.recovery (steps_of sc) ≡ o → (ended st true (taken_at sc o) (stop_at sc o)).refused ≡ None
-      → first_refused st.net st.meaning st.recovery (taken_at sc o) ≡ None
-  by-first None is e = is
-  by-first (Some p) is e = cc
+-- the steps of a script at which a replay does not stop: it has no fault, and the network allows them
+module _ {I O G : Type 0} (p : Play I O G) (sc : Script I) where
+  no-stop : (ss : List (Step I)) (o : Option (ℕ × Why)) → (ended p true ss o).refused ≡ None → o ≡ None
+  no-stop ss None e = refl
+  no-stop ss (Some r) e = cc
 
-  pub all-allowed : (replayed_script st true sc).refused ≡ None → IsAllowed st.net st.meaning st.recovery (taken st sc)
-  all-allowed e = by-first (first_refused st.net st.meaning st.recovery (steps_of sc)) refl e
+  by-first : (o : Option (ℕ × StepRefusal)) → p.refused (steps_of sc) ≡ o → (ended p true (taken_at sc o) (stop_at sc o)).refused ≡ None → (sc.fault ≡ None) × (p.refused (steps_of sc) ≡ None)
+  by-first None is e = (no-stop (steps_of sc) sc.fault e, is)
+  by-first (Some q) is e = cc
+
+  pub accepted : (replayed_script p true sc).refused ≡ None → (sc.fault ≡ None) × (p.refused (steps_of sc) ≡ None)
+  accepted e = by-first (p.refused (steps_of sc)) refl e
+
+-- what is found for a header replays lines that are not refused, and nothing else is a replay of them
+module _ (nodes number : ℕ) (ls : List (List ℕ)) where
+  abbrev made : Found Entry → Replayed
+  made found = found_or (refused_at (number - 1) why.Header) (λ e. replayed_by (e.of nodes).stack.play true most_lines number 0 ls) found
+
+  pub found-replays : (found : Found Entry) → IfFound found (λ e. ExplainsAll (e.of nodes)) → (made found).refused ≡ None → IfFound found (λ e. IsReplayOn (e.of nodes) number ls (made found).out)
+  found-replays Nowhere explains e = absurd explains
+  found-replays (Here entry) explains e =
+      let p = (entry.of nodes).stack.play in
+      let sc = script most_lines p.texts.input_of number 0 ls in
+      let both = accepted p sc e in
+      record {
+        steps = steps_of sc;
+        faultless = both.0;
+        says = refl;
+        allowed = both.1;
+        written = ap (λ (r : Replayed). r.out) (taken-whole p sc both.0 both.1);
+        explained = explains (steps_of sc) both.1;
+      }
+
+  pub found-written : (found : Found Entry) (text : List ℕ) → IfFound found (λ e. IsReplayOn (e.of nodes) number ls text) → ((made found).refused ≡ None) × (text ≡ (made found).out)
+  found-written Nowhere text none = absurd none
+  found-written (Here entry) text by =
+      let p = (entry.of nodes).stack.play in
+      let sc = script most_lines p.texts.input_of number 0 ls in
+      let whole = taken-whole p sc by.faultless (ap p.refused by.says ∙ by.allowed) in
+      (ap (λ (r : Replayed). r.refused) whole, by.written ∙ (ap (λ ss. claim_text p (claim_by p ss)) (sym by.says) ∙ sym (ap (λ (r : Replayed). r.out) whole)))
 
 -- the header with which a text opens is one
 abbrev IsGoodOpening : Opening → Type 0

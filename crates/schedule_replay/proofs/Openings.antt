@@ -1,10 +1,8 @@
 -- What a replay comes to, by how its text opens.
-use Rattle.std.specs.Prelude.{◌≡◌, ℕ, Bool, true, false, ◌+◌, ◌-◌, ◌≤◌, List, [], ◌++◌, length, Option, Some, None, IfSome, IfErr, Result, Ok, Err, refl}
+use Rattle.std.specs.Prelude.{◌≡◌, ◌≢◌, ℕ, Bool, true, false, ◌+◌, ◌-◌, ◌≤◌, List, [], ◌++◌, length, Option, Some, None, IfSome, IfErr, Result, Ok, Err, refl}
 use Rattle.std.proofs.Common.{ap, ◌∙◌, sym, subst, append_assoc, arith, length-append}
 use Rattle.outside.specs.Wholes.{Gained, GainedFront}
 use Rattle.outside.proofs.Wholes.{gained-nothing}
-use Rattle.vst_base.specs.declared.stack.StackId.{StackId}
-use Rattle.vst_base.specs.declared.stack.StackId.TheVariants as stack
 use Rattle.line_reader.specs.declared.why.Why.{Why}
 use Rattle.line_reader.specs.declared.fault.LineFault.{LineFault}
 use Rattle.line_reader.specs.declared.fault.LineFault.TheVariants as line
@@ -21,10 +19,12 @@ use Rattle.schedule_replay.specs.declared.done.Done.{Done}
 use Rattle.schedule_replay.specs.declared.fault.ReplayFault.{ReplayFault}
 use Rattle.schedule_replay.specs.declared.fault.ReplayFault.TheVariants as fault
 use Rattle.schedule_replay.specs.Faults.{replay_fault}
-use Rattle.schedule_replay.specs.Replaying.{Replayed}
-use Rattle.schedule_replay.specs.Replays.{kv_stack, kv_pb_stack, kv_pb_seq_stack, kv_raft_stack, lock_seq_stack, lock_stack, most_lines, replayed_by, replayed_stack, replayed_opening, replayed, replayed_so_far, stack_whole, stack_so_far, rest_whole, rest_so_far}
-use Rattle.schedule_replay.specs.Stacks.{Stack}
-use Rattle.schedule_replay.specs.Outcomes.{HasGiven, ComesTo, HasFault, HasCause}
+use Rattle.schedule_replay.specs.Replaying.{Replayed, refused_at}
+use Rattle.schedule_replay.specs.Replays.{most_lines, replayed_by, replayed_header, replayed_opening, replayed, replayed_so_far, rest_whole, rest_so_far}
+use Rattle.stacks.specs.Stack.{Entry, Found, Here, IfFound, ImageTexts, Nowhere, Play, Texts, found_or, play_of}
+use Rattle.xform_stack.specs.Running.{System}
+use Rattle.line_reader.specs.declared.why.Why.TheVariants as why
+use Rattle.schedule_replay.specs.Outcomes.{HasGiven, ComesTo, HasFault, HasCause, KeepsSink, ReplaysRest}
 use Rattle.schedule_replay.proofs.Endings.{given-of}
 use Rattle.schedule_replay.proofs.Finishing.{front-none}
 
@@ -72,10 +72,10 @@ header-fault old f f' w w' (line.Refused n x) cause = tt
 
 -- what a text is by its header
 module _ (h : Header) (r : ReaderView) (most : r.most ≡ most_lines) (events : r.events ≡ 0) (used : List ℕ) (opens : opening most_lines 1 (lines_of used) ≡ Opened h (r.number + 1) []) where
-  stack-same : (whole : Bool) (ls : List (List ℕ)) → replayed_stack whole h h.stack most_lines (r.number + 1) 0 ls ≡ replayed_stack whole h h.stack r.most (r.number + 1) r.events ls
+  stack-same : (whole : Bool) (ls : List (List ℕ)) → replayed_header whole h most_lines (r.number + 1) 0 ls ≡ replayed_header whole h r.most (r.number + 1) r.events ls
   stack-same whole ls = rw (most, events) refl
 
-  opened-same : (whole : Bool) (ls : List (List ℕ)) → replayed_opening whole (opening most_lines 1 (lines_of used ++ ls)) ≡ replayed_stack whole h h.stack r.most (r.number + 1) r.events ls
+  opened-same : (whole : Bool) (ls : List (List ℕ)) → replayed_opening whole (opening most_lines 1 (lines_of used ++ ls)) ≡ replayed_header whole h r.most (r.number + 1) r.events ls
   opened-same whole ls =
       ap (replayed_opening whole) (opening-append most_lines 1 (lines_of used) ls ∙ ap (λ (o : Opening). opening_with o ls most_lines) opens) ∙ stack-same whole ls
 
@@ -151,32 +151,24 @@ going-of ended f f' w w' result cause is =
     let both : HasCause ended f f' w w' fault.Read = subst (λ (r : Result Done ReplayFault). IfErr r (HasCause ended f f' w w')) is cause in
     both.1 refl
 
--- which stack a header names
-pub is-lock : (h : Header) (s : StackId) → s ≡ stack.Lock → (whole : Bool) (most n e : ℕ) (ls : List (List ℕ)) → replayed_stack whole h s most n e ls ≡ replayed_by (lock_stack h) whole most n e ls
-is-lock h s is whole most n e ls = rw is refl
+-- what replaying the rest of a text comes to, by what replay makes of its lines
+pub record FoundRest (makes : Bool → List (List ℕ) → Replayed) (r : ReaderView) (left left' : Option (List ℕ)) (read read' : ℕ) (out out' : Option (List ℕ)) (write write' wants wants' : ℕ)
+    (result : Result Done ReplayFault) : Type 0 where
+  pub told : (rest : List ℕ) → HasRest r left rest → ComesTo (λ bs. makes true (lines_of bs)) (λ bs. makes false (whole_lines bs)) r.number rest left' out out' result
+  pub reads_quiet : result ≢ Err fault.Read → read' ≡ read
+  pub fault : IfErr result (HasCause r.ended read read' write write')
+  pub quiet : KeepsSink write write' wants wants' result
+  pub reads : read ≤ read'
+  pub writes : write ≤ write'
 
-pub is-lock_seq : (h : Header) (s : StackId) → s ≡ stack.LockSeq → (whole : Bool) (most n e : ℕ) (ls : List (List ℕ)) → replayed_stack whole h s most n e ls ≡ replayed_by (lock_seq_stack h) whole most n e ls
-is-lock_seq h s is whole most n e ls = rw is refl
+-- what stands after a header comes to what the stack that is found for it makes of it
+pub found-comes : (found : Found Entry) (nodes : ℕ) (r : ReaderView) (left left' out out' : Option (List ℕ)) (read read' write write' wants wants' : ℕ) (result : Result Done ReplayFault)
+    → IfFound found (λ e. ReplaysRest (e.of nodes).stack.play r left left' read read' out out' write write' wants wants' result)
+    → FoundRest (λ whole ls. found_or (refused_at ((r.number + 1) - 1) why.Header) (λ e. replayed_by (e.of nodes).stack.play whole r.most (r.number + 1) r.events ls) found)
+    r left left' read read' out out' write write' wants wants' result
+found-comes Nowhere nodes r left left' out out' read read' write write' wants wants' result none = absurd none
+found-comes (Here e) nodes r left left' out out' read read' write write' wants wants' result a = record { told = a.told; reads_quiet = a.reads_quiet; fault = a.fault; quiet = a.quiet; reads = a.reads; writes = a.writes }
 
-pub is-kv_pb : (h : Header) (s : StackId) → s ≡ stack.KvPb → (whole : Bool) (most n e : ℕ) (ls : List (List ℕ)) → replayed_stack whole h s most n e ls ≡ replayed_by kv_pb_stack whole most n e ls
-is-kv_pb h s is whole most n e ls = rw is refl
-
-pub is-kv_pb_seq : (h : Header) (s : StackId) → s ≡ stack.KvPbSeq → (whole : Bool) (most n e : ℕ) (ls : List (List ℕ)) → replayed_stack whole h s most n e ls ≡ replayed_by kv_pb_seq_stack whole most n e ls
-is-kv_pb_seq h s is whole most n e ls = rw is refl
-
-pub is-kv_raft : (h : Header) (s : StackId) → s ≡ stack.KvRaft → (whole : Bool) (most n e : ℕ) (ls : List (List ℕ)) → replayed_stack whole h s most n e ls ≡ replayed_by (kv_raft_stack h) whole most n e ls
-is-kv_raft h s is whole most n e ls = rw is refl
-
-pub is-kv : (h : Header) (s : StackId) → s ≡ stack.Kv → (whole : Bool) (most n e : ℕ) (ls : List (List ℕ)) → replayed_stack whole h s most n e ls ≡ replayed_by kv_stack whole most n e ls
-is-kv h s is whole most n e ls = rw is refl
-
--- what stands behind a header comes to what its stack makes of it
-pub stack-comes : {S K I O M : Type 0} (st : Stack S K I O M) (h : Header) (r : ReaderView)
-    → ((whole : Bool) (most n e : ℕ) (ls : List (List ℕ)) → replayed_stack whole h h.stack most n e ls ≡ replayed_by st whole most n e ls)
-    → (before : ℕ) (rest : List ℕ) (left' out out' : Option (List ℕ)) (result : Result Done ReplayFault)
-    → ComesTo (stack_whole st r) (stack_so_far st r) before rest left' out out' result → ComesTo (rest_whole h r) (rest_so_far h r) before rest left' out out' result
-stack-comes st h r is before rest left' out out' result comes =
-    subst (λ (f : (List ℕ → Replayed) × (List ℕ → Replayed)). ComesTo f.0 f.1 before rest left' out out' result) (λ i. (
-      λ bytes. sym (is true r.most (r.number + 1) r.events (lines_of bytes)) i,
-      λ bytes. sym (is false r.most (r.number + 1) r.events (whole_lines bytes)) i,
-    )) comes
+-- how schedules of a stack play is known from what is run, the texts and the image
+pub same-play : {S K I O M G : Type 0} (p : Play I O G) (sys : System S K I O M G) (t : Texts I O) (i : ImageTexts G) → p ≡ play_of sys p.texts p.below → p.texts ≡ t → p.below ≡ i → play_of sys t i ≡ p
+same-play p sys t i runs texts below = sym (runs ∙ (ap (λ x. play_of sys x p.below) texts ∙ ap (λ x. play_of sys t x) below))

@@ -8,7 +8,7 @@ use Rattle.std.proofs.lemmas.Grind.{flat_map-append}
 use Rattle.vst_base.specs.declared.step.Step.{Step}
 use Rattle.vst_base.specs.declared.step.Item.{Item}
 use Rattle.net_semantics.specs.Worlds.{first_world}
-use Rattle.net_semantics.specs.Runs.{run, trace_from}
+use Rattle.net_semantics.specs.Runs.{run, trace, trace_from}
 use Rattle.net_semantics.specs.RunLaws.{trace_from-append}
 use Rattle.outside.specs.Wholes.{Gained, GainedFront}
 use Rattle.outside.proofs.Wholes.{gained-both, gained-front, gained-some, gained-nothing}
@@ -27,9 +27,9 @@ use Rattle.xform_stack.specs.RunningLaws.{has_run-forget}
 use Rattle.schedule_replay.specs.declared.halt.Halt.{Halt}
 use Rattle.schedule_replay.specs.declared.halt.Halt.TheVariants as halt
 use Rattle.schedule_replay.specs.declared.tally.Tally.{Tally}
-use Rattle.schedule_replay.specs.Stacks.{ImageText, Stack, Texts, stack_of}
+use Rattle.stacks.specs.Stack.{ImageTexts, Play, Texts, play_of}
 use Rattle.schedule_replay.specs.Tallying.{tallied}
-use Rattle.schedule_replay.specs.Replaying.{is_input, is_output, is_reply_by, why_of, stop, taken, trace_of, trace_lines, image_lines, ended, replayed_script}
+use Rattle.schedule_replay.specs.Replaying.{is_input, is_output, is_reply_by, why_of, stop, taken, trace_lines, image_lines, ended, replayed_script}
 use Rattle.schedule_replay.specs.Playing.{TraceWritten, TookStep, HaltsBy, Halted}
 use Rattle.schedule_replay.proofs.Scripts.{all-taken, refused-behind, taken-front}
 
@@ -50,19 +50,20 @@ pub record Played {R S K I O M G : Type 0} (sys : System S K I O M G) (follows :
   pub reads : (rest : List ℕ) → HasRest old left rest → Reads t.input_of old now left' rest steps
 
 -- how a replay's text begins
-module _ {S K I O M : Type 0} (st : Stack S K I O M) where
+module _ {I O G : Type 0} (st : Play I O G) where
   ended-front : (whole : Bool) (ss : List (Step I)) (o : Option (ℕ × Why)) → (more : List ℕ) × ((ended st whole ss o).out ≡ trace_lines st ss ++ more)
   ended-front whole ss (Some y) = ([], sym (append-nil (trace_lines st ss)))
   ended-front true ss None = (image_lines st ss, refl)
   ended-front false ss None = ([], sym (append-nil (trace_lines st ss)))
 
-  trace-front : (ss ts : List (Step I)) → (more : List ℕ) × (trace_lines st (ss ++ ts) ≡ trace_lines st ss ++ more)
-  trace-front ss ts =
-      let m = st.meaning in
-      let r = st.recovery in
-      let f = λ (x : Item I O). as_line (item_text st.input_text st.output_text x) in
-      let behind = trace_from m r (run m r ss) ts in
-      (flat_map f behind, ap (λ xs. flat_map f xs) (trace_from-append m r (first_world m) ss ts) ∙ flat_map-append f (trace_of st ss) behind)
+trace-front : {S K I O M G : Type 0} (sys : System S K I O M G) (t : Texts I O) (i : ImageTexts G) (ss ts : List (Step I))
+    → (more : List ℕ) × (trace_lines (play_of sys t i) (ss ++ ts) ≡ trace_lines (play_of sys t i) ss ++ more)
+trace-front {I = I} {O = O} sys t i ss ts =
+    let m = sys.meaning in
+    let r = sys.recovery in
+    let f = λ (x : Item I O). as_line (item_text t.input_text t.output_text x) in
+    let behind = trace_from m r (run m r ss) ts in
+    (flat_map f behind, ap (λ xs. flat_map f xs) (trace_from-append m r (first_world m) ss ts) ∙ flat_map-append f (trace m r ss) behind)
 
 count-append : {X : Type 0} (p : X → Bool) (xs ys : List X) → count_by p (xs ++ ys) ≡ count_by p xs + count_by p ys
 count-append p xs ys = sum_by-append (λ x. cond (p x) 1 0) xs ys
@@ -179,18 +180,18 @@ module _ {R S K I O M G : Type 0} (sys : System S K I O M G) (follows : R → Li
         reads-more t.input_of old now left' rest p.steps p.events p.most r new after s (reads r.uses.rest' r.uses.left);
   }
 
-module _ {R S K I O M G : Type 0} (sys : System S K I O M G) (follows : R → List (Step I) → Type 0) (progress : R → Progress I O) (t : Texts I O) (i : ImageText G) where
+module _ {R S K I O M G : Type 0} (sys : System S K I O M G) (follows : R → List (Step I) → Type 0) (progress : R → Progress I O) (t : Texts I O) (i : ImageTexts G) where
   -- where the steps end
   module _ (v u : R) (tally : Tally) (old now new : ReaderView) (left left' after out out' : Option (List ℕ)) (p : Played sys follows progress t v tally old now left left' out out') where
     front : (ran : HasRun sys follows progress (map (λ p. p.1) p.steps) p.gone u) → (rest : List ℕ) → HasRest old left rest
-        → (more : List (Step I)) × (taken (stack_of sys t i) (script old.most t.input_of (old.number + 1) old.events (lines_of rest)) ≡ map (λ p. p.1) p.steps ++ more)
+        → (more : List (Step I)) × (taken (play_of sys t i) (script old.most t.input_of (old.number + 1) old.events (lines_of rest)) ≡ map (λ p. p.1) p.steps ++ more)
     front ran rest has =
         let r = p.reads rest has in
         taken-front sys.net sys.meaning sys.recovery (first_world sys.meaning) p.steps ran.allowed (script now.most t.input_of (now.number + 1) now.events (lines_of r.uses.rest'))
         (script old.most t.input_of (old.number + 1) old.events (lines_of rest)) (script-rest t.input_of old now left' rest p.steps p.events p.most r)
 
     halts-by : (x : Halt) → TookStep sys follows progress t.input_of u (map (λ p. p.1) p.steps) p.gone now new left' after (Some x) → (ran : HasRun sys follows progress (map (λ p. p.1) p.steps) p.gone u)
-        → (rest : List ℕ) → HasRest old left rest → HaltsBy (stack_of sys t i) (map (λ p. p.1) p.steps) old new after rest x
+        → (rest : List ℕ) → HasRest old left rest → HaltsBy (play_of sys t i) (map (λ p. p.1) p.steps) old new after rest x
     halts-by halt.End (same, reads) ran rest has =
         let r = p.reads rest has in
         let read = reads r.uses.rest' r.uses.left in
@@ -240,12 +241,12 @@ module _ {R S K I O M G : Type 0} (sys : System S K I O M G) (follows : R → Li
 
   -- what was written is a front of what the whole rest makes
   module _ (v : R) (steps : List (Step I)) (gone : List (Item I O)) (ran : HasRun sys follows progress steps gone v) (whole : Bool) (sc : Script I)
-      (front : (more : List (Step I)) × (taken (stack_of sys t i) sc ≡ steps ++ more)) where
-    text-front : (more : List ℕ) × ((replayed_script (stack_of sys t i) whole sc).out ≡ trace_text t.input_text t.output_text gone ++ (trace_text t.input_text t.output_text (progress v).trace ++ more))
+      (front : (more : List (Step I)) × (taken (play_of sys t i) sc ≡ steps ++ more)) where
+    text-front : (more : List ℕ) × ((replayed_script (play_of sys t i) whole sc).out ≡ trace_text t.input_text t.output_text gone ++ (trace_text t.input_text t.output_text (progress v).trace ++ more))
     text-front =
-        let st = stack_of sys t i in
+        let st = play_of sys t i in
         let a = ended-front st whole (taken st sc) (stop st sc) in
-        let b = trace-front st steps front.0 in
+        let b = trace-front sys t i steps front.0 in
         let text = trace_text t.input_text t.output_text in
         let lines : trace_lines st steps ≡ text gone ++ text (progress v).trace = ap text (sym ran.traced) ∙ lines-append t gone (progress v).trace in (
           b.0 ++ a.0,
@@ -253,29 +254,29 @@ module _ {R S K I O M G : Type 0} (sys : System S K I O M G) (follows : R → Li
               ∙ (ap (λ xs. xs ++ (b.0 ++ a.0)) lines ∙ append_assoc (text gone) (text (progress v).trace) (b.0 ++ a.0))))),
         )
 
-    pub written-front : (out out' : Option (List ℕ)) (tally : Tally) → TraceWritten t gone out out' tally → GainedFront out out' (replayed_script (stack_of sys t i) whole sc).out
+    pub written-front : (out out' : Option (List ℕ)) (tally : Tally) → TraceWritten t gone out out' tally → GainedFront out out' (replayed_script (play_of sys t i) whole sc).out
     written-front out out' tally before = gained-front out out' (trace_text t.input_text t.output_text gone) (trace_text t.input_text t.output_text (progress v).trace ++ text-front.0) _ text-front.1 before.written
 
     pub writing-front : (out mid out' : Option (List ℕ)) (tally : Tally) → TraceWritten t gone out mid tally → GainedFront mid out' (trace_text t.input_text t.output_text (progress v).trace)
-        → GainedFront out out' (replayed_script (stack_of sys t i) whole sc).out
+        → GainedFront out out' (replayed_script (play_of sys t i) whole sc).out
     writing-front out mid out' tally before more =
         gained-some out mid out' (trace_text t.input_text t.output_text gone) (trace_text t.input_text t.output_text (progress v).trace) _ text-front.0 text-front.1 before.written more
 
 -- what was written while steps are played is a front of what the whole rest makes
-module _ {R S K I O M G : Type 0} (sys : System S K I O M G) (follows : R → List (Step I) → Type 0) (progress : R → Progress I O) (t : Texts I O) (i : ImageText G) (v : R) (tally : Tally) (old now : ReaderView) (left left' out out' : Option (List ℕ)) where
+module _ {R S K I O M G : Type 0} (sys : System S K I O M G) (follows : R → List (Step I) → Type 0) (progress : R → Progress I O) (t : Texts I O) (i : ImageTexts G) (v : R) (tally : Tally) (old now : ReaderView) (left left' out out' : Option (List ℕ)) where
   ahead : (p : Played sys follows progress t v tally old now left left' out out') → (rest : List ℕ) → HasRest old left rest
-      → (more : List (Step I)) × (taken (stack_of sys t i) (script old.most t.input_of (old.number + 1) old.events (lines_of rest)) ≡ map (λ p. p.1) p.steps ++ more)
+      → (more : List (Step I)) × (taken (play_of sys t i) (script old.most t.input_of (old.number + 1) old.events (lines_of rest)) ≡ map (λ p. p.1) p.steps ++ more)
   ahead p rest has =
       let r = p.reads rest has in
       taken-front sys.net sys.meaning sys.recovery (first_world sys.meaning) p.steps p.ran.allowed (script now.most t.input_of (now.number + 1) now.events (lines_of r.uses.rest'))
       (script old.most t.input_of (old.number + 1) old.events (lines_of rest)) (script-rest t.input_of old now left' rest p.steps p.events p.most r)
 
   pub played-front : (p : Played sys follows progress t v tally old now left left' out out') → (rest : List ℕ) → HasRest old left rest
-      → GainedFront out out' (replayed_script (stack_of sys t i) true (script old.most t.input_of (old.number + 1) old.events (lines_of rest))).out
+      → GainedFront out out' (replayed_script (play_of sys t i) true (script old.most t.input_of (old.number + 1) old.events (lines_of rest))).out
   played-front p rest has = written-front sys follows progress t i v (map (λ p. p.1) p.steps) p.gone p.ran true (script old.most t.input_of (old.number + 1) old.events (lines_of rest)) (ahead p rest has) out out' tally p.written
 
-pub playing-front : {R S K I O M G : Type 0} (sys : System S K I O M G) (follows : R → List (Step I) → Type 0) (progress : R → Progress I O) (t : Texts I O) (i : ImageText G) (v : R) (tally : Tally) (old now : ReaderView) (left left' out mid out' : Option (List ℕ))
+pub playing-front : {R S K I O M G : Type 0} (sys : System S K I O M G) (follows : R → List (Step I) → Type 0) (progress : R → Progress I O) (t : Texts I O) (i : ImageTexts G) (v : R) (tally : Tally) (old now : ReaderView) (left left' out mid out' : Option (List ℕ))
     → (p : Played sys follows progress t v tally old now left left' out mid) → (rest : List ℕ) → HasRest old left rest → GainedFront mid out' (trace_text t.input_text t.output_text (progress v).trace)
-    → GainedFront out out' (replayed_script (stack_of sys t i) true (script old.most t.input_of (old.number + 1) old.events (lines_of rest))).out
+    → GainedFront out out' (replayed_script (play_of sys t i) true (script old.most t.input_of (old.number + 1) old.events (lines_of rest))).out
 playing-front sys follows progress t i v tally old now left left' out mid out' p rest has more =
     writing-front sys follows progress t i v (map (λ p. p.1) p.steps) p.gone p.ran true (script old.most t.input_of (old.number + 1) old.events (lines_of rest)) (ahead sys follows progress t i v tally old now left left' out mid p rest has) out mid out' tally p.written more

@@ -1,4 +1,3 @@
-pub mod Stacks
 pub mod Replaying
 pub mod Replays
 pub mod Explained

@@ -1,6 +1,6 @@
 -- What a replay from a source to a sink comes to. It is said of the rest of a text, before which some lines stand, by what
 -- replay makes of a whole rest, and of the whole lines of one that broke off.
-use Rattle.std.specs.Prelude.{◌≡◌, ℕ, Bool, false, ◌+◌, ◌-◌, ◌<◌, ◌≤◌, List, [], ◌++◌, length, Option, Some, None, Result, Ok, Err}
+use Rattle.std.specs.Prelude.{◌≡◌, ◌≢◌, ℕ, Bool, false, ◌+◌, ◌-◌, ◌<◌, ◌≤◌, List, [], ◌++◌, length, Option, Some, None, Result, Ok, Err, IfErr}
 use Rattle.outside.specs.Counting.{Rose}
 use Rattle.outside.specs.Wholes.{Gained, GainedFront}
 use Rattle.line_reader.specs.declared.why.Why.{Why}
@@ -8,7 +8,10 @@ use Rattle.line_reader.specs.Lines.{decided, split_lines}
 use Rattle.schedule_replay.specs.declared.done.Done.{Done}
 use Rattle.schedule_replay.specs.declared.fault.ReplayFault.{ReplayFault}
 use Rattle.schedule_replay.specs.declared.fault.ReplayFault.TheVariants as fault
+use Rattle.line_reader.specs.Readers.{ReaderView, HasRest}
+use Rattle.stacks.specs.Stack.{Play}
 use Rattle.schedule_replay.specs.Replaying.{Replayed}
+use Rattle.schedule_replay.specs.Replays.{stack_so_far, stack_whole}
 
 -- of a rest these bytes were given, and the others are left
 pub record HasGiven (rest : List ℕ) (left' : Option (List ℕ)) (given : List ℕ) : Type 0 where
@@ -60,3 +63,22 @@ HasFault read read' write write' fault.Memory = Unit {0}
 -- and no read fails once the end was met
 abbrev pub HasCause : Bool → ℕ → ℕ → ℕ → ℕ → ReplayFault → Type 0
 HasCause ended read read' write write' found = HasFault read read' write write' found × (found ≡ fault.Read → ended ≡ false)
+
+-- a replay hides no fault of its sink: the sink's faults are as they were unless the replay answers a failed write, and its
+-- wants are as they were unless the replay answers want of memory
+abbrev pub KeepsSink : ℕ → ℕ → ℕ → ℕ → Result Done ReplayFault → Type 0
+KeepsSink faults faults' wants wants' (Ok done) = (faults' ≡ faults) × (wants' ≡ wants)
+KeepsSink faults faults' wants wants' (Err fault.Read) = (faults' ≡ faults) × (wants' ≡ wants)
+KeepsSink faults faults' wants wants' (Err (fault.Refused line why)) = (faults' ≡ faults) × (wants' ≡ wants)
+KeepsSink faults faults' wants wants' (Err fault.Write) = wants' ≡ wants
+KeepsSink faults faults' wants wants' (Err fault.Memory) = faults' ≡ faults
+
+-- what replaying the rest of a text comes to, as schedules of a stack play
+pub record ReplaysRest {I O G : Type 0} (p : Play I O G) (r : ReaderView) (left left' : Option (List ℕ)) (read read' : ℕ)
+    (out out' : Option (List ℕ)) (write write' wants wants' : ℕ) (result : Result Done ReplayFault) : Type 0 where
+  pub told : (rest : List ℕ) → HasRest r left rest → ComesTo (stack_whole p r) (stack_so_far p r) r.number rest left' out out' result
+  pub reads_quiet : result ≢ Err fault.Read → read' ≡ read
+  pub fault : IfErr result (HasCause r.ended read read' write write')
+  pub quiet : KeepsSink write write' wants wants' result
+  pub reads : read ≤ read'
+  pub writes : write ≤ write'

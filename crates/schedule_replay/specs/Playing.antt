@@ -18,7 +18,7 @@ use Rattle.xform_stack.specs.Running.{HasRun, Progress, System}
 use Rattle.schedule_replay.specs.declared.halt.Halt.{Halt}
 use Rattle.schedule_replay.specs.declared.halt.Halt.TheVariants as halt
 use Rattle.schedule_replay.specs.declared.tally.Tally.{Tally}
-use Rattle.schedule_replay.specs.Stacks.{ImageText, Stack, Texts, stack_of}
+use Rattle.stacks.specs.Stack.{ImageTexts, Play, Texts, play_of}
 use Rattle.schedule_replay.specs.Tallying.{tallied}
 use Rattle.schedule_replay.specs.Replaying.{why_of, stop, taken}
 
@@ -47,25 +47,25 @@ pub record TraceWritten {I O : Type 0} (t : Texts I O) (gone : List (Item I O)) 
   pub counted : tally ≡ tallied t.is_reply (record { inputs = 0; outputs = 0; replies = 0 }) gone
 
 -- where the steps of a rest end, these were taken
-abbrev pub HaltsBy : {S K I O M : Type 0} → Stack S K I O M → List (Step I) → ReaderView → ReaderView → Option (List ℕ) → List ℕ → Halt → Type 0
+abbrev pub HaltsBy : {I O G : Type 0} → Play I O G → List (Step I) → ReaderView → ReaderView → Option (List ℕ) → List ℕ → Halt → Type 0
 HaltsBy st ss old new left' rest halt.End =
-    let sc = script old.most st.input_of (old.number + 1) old.events (lines_of rest) in
+    let sc = script old.most st.texts.input_of (old.number + 1) old.events (lines_of rest) in
     (left' ≡ Some []) × (stop st sc ≡ None) × (taken st sc ≡ ss)
 HaltsBy st ss old new left' rest halt.Read =
     (part : List ℕ) × BreaksOff left' rest part
-    × (let sc = script old.most st.input_of (old.number + 1) old.events (whole_lines part) in (stop st sc ≡ None) × (taken st sc ≡ ss))
+    × (let sc = script old.most st.texts.input_of (old.number + 1) old.events (whole_lines part) in (stop st sc ≡ None) × (taken st sc ≡ ss))
 HaltsBy st ss old new left' rest (halt.Refused number why) =
-    let sc = script old.most st.input_of (old.number + 1) old.events (lines_of rest) in
+    let sc = script old.most st.texts.input_of (old.number + 1) old.events (lines_of rest) in
     StandsAt old new left' rest number × (stop st sc ≡ Some (number, why)) × (taken st sc ≡ ss)
 
 -- all steps of a rest were taken up to where they end, and their whole trace was written
-pub record Halted {R S K I O M G : Type 0} (sys : System S K I O M G) (follows : R → List (Step I) → Type 0) (progress : R → Progress I O) (t : Texts I O) (i : ImageText G) (r : R) (tally : Tally) (old new : ReaderView)
+pub record Halted {R S K I O M G : Type 0} (sys : System S K I O M G) (follows : R → List (Step I) → Type 0) (progress : R → Progress I O) (t : Texts I O) (i : ImageTexts G) (r : R) (tally : Tally) (old new : ReaderView)
     (left left' out out' : Option (List ℕ)) (h : Halt) : Type 0 where
   pub steps : List (Step I)
   pub gone : List (Item I O)
   pub ran : HasRun sys follows progress steps gone r
   pub empty : (progress r).trace ≡ []
   pub written : TraceWritten t gone out out' tally
-  pub halts : (rest : List ℕ) → HasRest old left rest → HaltsBy (stack_of sys t i) steps old new left' rest h
+  pub halts : (rest : List ℕ) → HasRest old left rest → HaltsBy (play_of sys t i) steps old new left' rest h
   pub front : (rest : List ℕ) → HasRest old left rest
-      → (more : List (Step I)) × (taken (stack_of sys t i) (script old.most t.input_of (old.number + 1) old.events (lines_of rest)) ≡ steps ++ more)
+      → (more : List (Step I)) × (taken (play_of sys t i) (script old.most t.input_of (old.number + 1) old.events (lines_of rest)) ≡ steps ++ more)

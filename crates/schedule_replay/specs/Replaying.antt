@@ -1,7 +1,6 @@
 -- What replay makes of a text: the run of its steps up to the first that the network or the grammar refuses, its
 -- trace, and, where none is refused, the image below it.
-use Rattle.std.specs.Prelude.{ℕ, zero, suc, Bool, true, false, List, [], ◌∷◌, ◌++◌, map, length, take, count_by, Option, Some, None, codes}
-use Rattle.std.specs.List.{flat_map}
+use Rattle.std.specs.Prelude.{ℕ, zero, suc, Bool, true, false, List, [], ◌∷◌, ◌++◌, map, length, take, count_by, Option, Some, None}
 use Rattle.handler_trait.specs.Handling.{Meaning, Recovery}
 use Rattle.vst_base.specs.declared.net.Net.{Net}
 use Rattle.vst_base.specs.declared.step.Step.{Step}
@@ -9,14 +8,15 @@ use Rattle.vst_base.specs.declared.step.Item.{Item}
 use Rattle.vst_base.specs.declared.step.Item.TheVariants as item
 use Rattle.vst_base.specs.declared.step.StepRefusal.{StepRefusal}
 use Rattle.vst_base.specs.declared.step.StepRefusal.TheVariants as refusal
-use Rattle.net_semantics.specs.Worlds.{World, first_world}
-use Rattle.net_semantics.specs.Runs.{first_refused_from, trace}
+use Rattle.net_semantics.specs.Worlds.{World}
+use Rattle.net_semantics.specs.Runs.{first_refused_from}
 use Rattle.line_reader.specs.declared.why.Why.{Why}
 use Rattle.line_reader.specs.declared.why.Why.TheVariants as why
 use Rattle.schedule_text.specs.Schedules.{Script}
-use Rattle.schedule_text.specs.Printing.{as_line, trace_text}
+use Rattle.schedule_text.specs.Printing.{trace_text}
 use Rattle.schedule_replay.specs.declared.done.Done.{Done}
-use Rattle.schedule_replay.specs.Stacks.{Stack}
+use Rattle.stacks.specs.ClaimTexts.{image_text}
+use Rattle.stacks.specs.Stack.{Play}
 
 -- a world's refusal as a line's. Want of memory is no refusal, and never stands here
 abbrev pub why_of : StepRefusal → Why
@@ -55,23 +55,20 @@ module _ {S K I O M : Type 0} (net : Net) (m : Meaning S I O M) (r : Recovery S 
   abbrev pub taken_from : World S K M → Script I → List (Step I)
   taken_from w sc = taken_at sc (first_refused_from net m r w (steps_of sc))
 
--- and of a stack, from the first world on
-module _ {S K I O M : Type 0} (st : Stack S K I O M) where
+-- and by how schedules of a stack play
+module _ {I O G : Type 0} (p : Play I O G) where
   abbrev pub stop : Script I → Option (ℕ × Why)
-  stop sc = stop_from st.net st.meaning st.recovery (first_world st.meaning) sc
+  stop sc = stop_at sc (p.refused (steps_of sc))
 
   abbrev pub taken : Script I → List (Step I)
-  taken sc = taken_from st.net st.meaning st.recovery (first_world st.meaning) sc
-
-  abbrev pub trace_of : List (Step I) → List (Item I O)
-  trace_of ss = trace st.meaning st.recovery ss
+  taken sc = taken_at sc (p.refused (steps_of sc))
 
   -- the lines of the trace, and of the image below it
   abbrev pub trace_lines : List (Step I) → List ℕ
-  trace_lines ss = trace_text st.input_text st.output_text (trace_of ss)
+  trace_lines ss = trace_text p.texts.input_text p.texts.output_text (p.trace ss)
 
   abbrev pub image_lines : List (Step I) → List ℕ
-  image_lines ss = as_line (codes "below") ++ flat_map as_line st.image_header ++ flat_map as_line (st.image ss)
+  image_lines ss = image_text p.below.header p.below.line (p.image ss)
 
 abbrev pub is_input : {I O : Type 0} → Item I O → Bool
 is_input (item.Input n i) = true
@@ -85,13 +82,13 @@ abbrev pub is_reply_by : {I O : Type 0} → (O → Bool) → Item I O → Bool
 is_reply_by test (item.Input n i) = false
 is_reply_by test (item.Output n o) = test o
 
-abbrev pub counts_of : {S K I O M : Type 0} → Stack S K I O M → List (Step I) → Done
-counts_of st ss = record {
+abbrev pub counts_of : {I O G : Type 0} → Play I O G → List (Step I) → Done
+counts_of p ss = record {
   events = length ss;
-  inputs = count_by is_input (trace_of st ss);
-  outputs = count_by is_output (trace_of st ss);
-  replies = count_by (is_reply_by st.is_reply) (trace_of st ss);
-  image = length (st.image ss);
+  inputs = count_by is_input (p.trace ss);
+  outputs = count_by is_output (p.trace ss);
+  replies = count_by (is_reply_by p.texts.is_reply) (p.trace ss);
+  image = length (p.image ss);
 }
 
 abbrev pub no_counts : Done
@@ -108,10 +105,10 @@ abbrev pub refused_at : ℕ → Why → Replayed
 refused_at number w = record { out = []; refused = Some (number, w); counts = no_counts }
 
 -- where no line is refused, the image stands below the trace, if the text was read to its end
-abbrev pub ended : {S K I O M : Type 0} → Stack S K I O M → Bool → List (Step I) → Option (ℕ × Why) → Replayed
-ended st whole ss (Some r) = record { out = trace_lines st ss; refused = Some r; counts = no_counts }
-ended st true ss None = record { out = trace_lines st ss ++ image_lines st ss; refused = None; counts = counts_of st ss }
-ended st false ss None = record { out = trace_lines st ss; refused = None; counts = no_counts }
+abbrev pub ended : {I O G : Type 0} → Play I O G → Bool → List (Step I) → Option (ℕ × Why) → Replayed
+ended p whole ss (Some r) = record { out = trace_lines p ss; refused = Some r; counts = no_counts }
+ended p true ss None = record { out = trace_lines p ss ++ image_lines p ss; refused = None; counts = counts_of p ss }
+ended p false ss None = record { out = trace_lines p ss; refused = None; counts = no_counts }
 
-abbrev pub replayed_script : {S K I O M : Type 0} → Stack S K I O M → Bool → Script I → Replayed
-replayed_script st whole sc = ended st whole (taken st sc) (stop st sc)
+abbrev pub replayed_script : {I O G : Type 0} → Play I O G → Bool → Script I → Replayed
+replayed_script p whole sc = ended p whole (taken p sc) (stop p sc)

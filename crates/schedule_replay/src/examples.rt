@@ -1,19 +1,9 @@
-ghost use Rattle.std.specs.Prelude.{◌≡◌, ◌↔◌, [], ◌∷◌, ◌++◌, Some, None, codes};
-ghost use Rattle.kv_machine.specs.Kv.{kv};
-ghost use Rattle.kv_machine.specs.declared.cmd.KvCmd.TheVariants as cmd;
-ghost use Rattle.linearizability.specs.Linearizable.{IsLinearizable};
-ghost use Rattle.net_semantics.specs.BelowPb.{IsExplainedBy};
-ghost use Rattle.app_text.specs.KvTexts.{kv_out};
-ghost use Rattle.raft_text.specs.RaftTexts.{asked};
-ghost use Rattle.raft_types.specs.declared.client.RaftOut.TheVariants as told;
-ghost use Rattle.schedule_replay.specs.Explained.{IsExplained, IsRunOf};
-ghost use Rattle.vst_base.specs.declared.pb_out.PbOut.TheVariants as pb;
-ghost use Rattle.vst_base.specs.declared.step.Item.TheVariants as item;
-ghost use Rattle.vst_base.specs.declared.step.Step.TheVariants as step;
+ghost use Rattle.std.specs.Prelude.{◌≡◌, ℕ, List, [], Some, None, codes};
+ghost use Rattle.schedule_replay.specs.Explained.{IsReplay};
 ghost use Rattle.line_reader.specs.declared.why.Why.TheVariants.{Header, NoCopy, NodeDown, NodeUp, NoInputHere, NoSuchNode, Number, Text, UnknownWord, NotThisNet};
-ghost use Rattle.schedule_replay.specs.Replays.{lock_stack, replayed, replayed_so_far};
+ghost use Rattle.schedule_replay.specs.Replays.{replayed, replayed_so_far};
 
-use vst_base::{LockInput, LockOutput, Net, StackId};
+use crate::replays_are_explained;
 
 /// Worked schedules of each stack: what is written, and which line is refused.
 pub fn worked()
@@ -99,19 +89,16 @@ pub fn worked()
     ensures broken_off_behind_no_header { (replayed_so_far (codes "schedule 1\nin 1 lo")).refused ≡ Some (1, Header) }
 {}
 
-/// What it is that the trace of a text is explained: on the lock server that its own run, of the steps that the image has, shows
-/// clients these items; with one machine below, that it explains them. Without a header nothing is explained.
-pub fn worked_explanations()
-    ensures handed_over { IsExplained (codes "schedule 1 bag lock 2\nin 1 lock\ndeliver 0\ndeliver 1\n")
-        ↔ IsRunOf (lock_stack (record { net = Net.Bag; stack = StackId.Lock; nodes = 2 })) (step.In 1 LockInput.Lock ∷ step.Deliver 0 ∷ step.Deliver 1 ∷ []) (item.Input 1 LockInput.Lock ∷ item.Output 1 LockOutput.Locked ∷ []) }
-    ensures copied { IsExplained (codes "schedule 1 dup lock/seq 2\nin 1 lock\ndup 0\ndeliver 0\ndeliver 1\ndeliver 0\n")
-        ↔ IsRunOf (lock_stack (record { net = Net.Bag; stack = StackId.Lock; nodes = 2 })) (step.In 1 LockInput.Lock ∷ step.Deliver 0 ∷ step.Deliver 1 ∷ []) (item.Input 1 LockInput.Lock ∷ item.Output 1 LockOutput.Locked ∷ []) }
-    ensures up_to_the_refused_line { IsExplained (codes "schedule 1 bag lock 2\nin 1 lock\ndeliver 7\ndeliver 0\n")
-        ↔ IsRunOf (lock_stack (record { net = Net.Bag; stack = StackId.Lock; nodes = 2 })) (step.In 1 LockInput.Lock ∷ []) (item.Input 1 LockInput.Lock ∷ []) }
-    ensures redirected { IsExplained (codes "schedule 1 bag kv/pb 2\nin 1 get a\n")
-        ↔ IsExplainedBy kv (item.Input 1 (cmd.Get (codes "a")) ∷ item.Output 1 pb.Redirect ∷ []) }
-    ensures ordered { IsExplained (codes "schedule 1 fail kv/raft 1\ntick 0\nin 0 7 1 put a x\n")
-        ↔ IsLinearizable kv (asked 7 1 (cmd.Put (codes "a") (codes "x")) ∷ []) (item.Input 0 (asked 7 1 (cmd.Put (codes "a") (codes "x"))) ∷ item.Output 0 (told.Reply 7 1 (kv_out (codes "a") (Some (codes "x")) None)) ∷ []) }
-    ensures no_header { ¬ IsExplained [] }
-    ensures another_header { ¬ IsExplained (codes "schedule 1 bag kv/raft 1\n") }
-{}
+/// What a replay is: the text of a trace and an image that explains it, and no other text; none of a text that is refused.
+pub fn worked_replays()
+    ensures handed_over { IsReplay (codes "schedule 1 bag lock 2\nin 1 lock\ndeliver 0\ndeliver 1\n") (codes "in 1 lock\nout 1 locked\nbelow\nschedule 1 bag lock 2\nin 1 lock\ndeliver 0\ndeliver 1\n") }
+    ensures not_silent { ¬ IsReplay (codes "schedule 1 bag lock 2\nin 1 lock\ndeliver 0\ndeliver 1\n") (codes "below\nschedule 1 bag lock 2\nin 1 lock\ndeliver 0\ndeliver 1\n") }
+    ensures not_another_image { ¬ IsReplay (codes "schedule 1 bag lock 2\n") (codes "below\nschedule 1 bag lock 3\n") }
+    ensures not_without_an_image { ¬ IsReplay (codes "schedule 1 bag lock 2\n") [] }
+    ensures not_of_a_refused_step { (text : List ℕ) → ¬ IsReplay (codes "schedule 1 bag lock 2\nin 1 lock\ndeliver 7\n") text }
+    ensures not_of_a_refused_line { (text : List ℕ) → ¬ IsReplay (codes "schedule 1 bag lock 2\nin 1 grab\n") text }
+    ensures not_of_another_header { (text : List ℕ) → ¬ IsReplay (codes "schedule 1 bag kv/raft 1\n") text }
+    ensures not_of_nothing { (text : List ℕ) → ¬ IsReplay [] text }
+{
+    replays_are_explained();
+}

@@ -1,7 +1,8 @@
-ghost use Rattle.std.specs.Prelude.{◌≡◌, ◌≤◌, IfErr, IfOk, OnErr, OnOk};
+ghost use Rattle.std.specs.Prelude.{◌≡◌, ◌≤◌, IfErr, IfOk, IsErrOf, OnErr, OnOk};
 ghost use Rattle.outside.specs.Wholes.{Gained, GainedFront};
 ghost use Rattle.schedule_text.specs.Sending.{HasWriteCause};
-ghost use Rattle.schedule_replay.specs.Finishing.{counted_done, image_head, image_text};
+ghost use Rattle.schedule_replay.specs.Finishing.{counted_done};
+ghost use Rattle.stacks.specs.ClaimTexts.{image_head, image_text};
 
 use crate::Done;
 use crate::tally::Tally;
@@ -32,10 +33,13 @@ pub(crate) fn finish<A: AppText, L: Printed<A>, K: Sink>(
     tally: &Tally,
     sink: &mut K,
 ) -> Result<Done, LineFault>
-    ensures ok { OnOk result (Gained (K.written sink.old) (K.written sink.new) (image_text (record { header = header; line = L.text }) image.now)) }
-    ensures err { OnErr result (GainedFront (K.written sink.old) (K.written sink.new) (image_text (record { header = header; line = L.text }) image.now)) }
+    ensures ok { OnOk result (Gained (K.written sink.old) (K.written sink.new) (image_text header L.text image.now)) }
+    ensures err { OnErr result (GainedFront (K.written sink.old) (K.written sink.new) (image_text header L.text image.now)) }
     ensures done { IfOk result (λ done. done ≡ counted_done tally.now events image.now) }
     ensures fault { IfErr result (HasWriteCause (K.faults sink.old) (K.faults sink.new)) }
+    ensures unfailed { IsErrOf result LineFault.Memory → K.faults sink.new ≡ K.faults sink.old }
+    ensures unwanted { IsErrOf result LineFault.Write → K.wants sink.new ≡ K.wants sink.old }
+    ensures quiet { OnOk result ((K.faults sink.new ≡ K.faults sink.old) × (K.wants sink.new ≡ K.wants sink.old)) }
     ensures counts { K.faults sink.old ≤ K.faults sink.new }
 {
     let head = image_head(alloc, header)?;

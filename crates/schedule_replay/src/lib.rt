@@ -18,10 +18,7 @@ mod tallying;
 mod writing;
 
 pub use done::Done;
-pub use examples::{worked, worked_explanations};
+pub use examples::{worked, worked_replays};
 pub use fault::ReplayFault;
-pub use laws::{
-    machine_explains_clusters, machine_explains_images, machine_takes_images, same_under_images,
-    traces_are_explained,
-};
+pub use laws::replays_are_explained;
 pub use stream::replay;

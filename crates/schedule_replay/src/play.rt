@@ -1,4 +1,4 @@
-ghost use Rattle.std.specs.Prelude.{◌≡◌, ◌+◌, ◌≤◌, ℕ, true, false, List, [], Ok, IfErr, IfOk, OnOk};
+ghost use Rattle.std.specs.Prelude.{◌≡◌, ◌≢◌, ◌+◌, ◌≤◌, ℕ, true, false, List, [], Ok, IfErr, IfOk, IsErrOf, OnOk};
 ghost use Rattle.line_reader.specs.Lines.{lines_of};
 ghost use Rattle.line_reader.specs.Readers.{HasRest};
 ghost use Rattle.outside.specs.Counting.{Rose};
@@ -8,7 +8,7 @@ ghost use Rattle.schedule_text.specs.Sending.{HasWriteCause};
 ghost use Rattle.xform_stack.specs.Running.{HasRun};
 ghost use Rattle.schedule_replay.specs.Playing.{Halted};
 ghost use Rattle.schedule_replay.specs.Replaying.{replayed_script};
-ghost use Rattle.schedule_replay.specs.Stacks.{ImageText, stack_of, texts_of};
+ghost use Rattle.stacks.specs.Stack.{ImageTexts, play_of, texts_of};
 
 use crate::halt::Halt;
 use crate::taking::take_step;
@@ -32,13 +32,17 @@ pub(crate) fn play<R: Runs, A: AppText<Input = R::Input, Output = R::Output>, S:
     requires sound { R.sound running.old }
     requires started { HasRun (R.system running.old) R.follows R.progress [] [] running.old }
     requires tally { tally.old ≡ record { inputs = 0; outputs = 0; replies = 0 } }
-    ensures halted { IfOk result (λ halt. (i : ImageText R.Line) → Halted (R.system running.old) R.follows R.progress (texts_of A.input_of A.input_text A.output_text A.replies) i
+    ensures halted { IfOk result (λ halt. (i : ImageTexts R.Line) → Halted (R.system running.old) R.follows R.progress (texts_of A.input_of A.input_text A.output_of A.output_text A.replies) i
         running.new tally.new reader.old reader.new (S.left source.old) (S.left source.new) (K.written sink.old) (K.written sink.new) halt) }
-    ensures front { IfErr result (λ _. (i : ImageText R.Line) (rest : List ℕ) → HasRest reader.old (S.left source.old) rest → GainedFront (K.written sink.old) (K.written sink.new)
-        (replayed_script (stack_of (R.system running.old) (texts_of A.input_of A.input_text A.output_text A.replies) i) true (script reader.old.most A.input_of (reader.old.number + 1) reader.old.events (lines_of rest))).out) }
+    ensures front { IfErr result (λ _. (i : ImageTexts R.Line) (rest : List ℕ) → HasRest reader.old (S.left source.old) rest → GainedFront (K.written sink.old) (K.written sink.new)
+        (replayed_script (play_of (R.system running.old) (texts_of A.input_of A.input_text A.output_of A.output_text A.replies) i) true (script reader.old.most A.input_of (reader.old.number + 1) reader.old.events (lines_of rest))).out) }
     ensures fault { IfErr result (HasWriteCause (K.faults sink.old) (K.faults sink.new)) }
     ensures read { result ≡ Ok Halt.Read → Rose (S.faults source.old) (S.faults source.new) }
     ensures going { result ≡ Ok Halt.Read → reader.old.ended ≡ false }
+    ensures reads_quiet { result ≢ Ok Halt.Read → S.faults source.new ≡ S.faults source.old }
+    ensures unfailed { IsErrOf result LineFault.Memory → K.faults sink.new ≡ K.faults sink.old }
+    ensures unwanted { IsErrOf result LineFault.Write → K.wants sink.new ≡ K.wants sink.old }
+    ensures quiet { OnOk result ((K.faults sink.new ≡ K.faults sink.old) × (K.wants sink.new ≡ K.wants sink.old)) }
     ensures reads { S.faults source.old ≤ S.faults source.new }
     ensures writes { K.faults sink.old ≤ K.faults sink.new }
     ensures system { OnOk result (R.system running.new ≡ R.system running.old) }

@@ -1,9 +1,10 @@
-ghost use Rattle.std.specs.Prelude.{◌≡◌, ◌≤◌, ℕ, List, [], IfErr};
+ghost use Rattle.std.specs.Prelude.{◌≡◌, ◌≢◌, ◌≤◌, ℕ, List, [], Err, IfErr};
 ghost use Rattle.line_reader.specs.Readers.{HasRest};
 ghost use Rattle.xform_stack.specs.Running.{HasRun};
-ghost use Rattle.schedule_replay.specs.Outcomes.{ComesTo, HasCause};
+ghost use Rattle.schedule_replay.specs.Outcomes.{ComesTo, HasCause, KeepsSink};
 ghost use Rattle.schedule_replay.specs.Replays.{stack_so_far, stack_whole};
-ghost use Rattle.schedule_replay.specs.Stacks.{stack_of, texts_of};
+ghost use Rattle.check_text.specs.declared.image_line.ImageLine.{ImageLine};
+ghost use Rattle.stacks.specs.Stack.{image_of, play_of, texts_of};
 
 use crate::finish::finish;
 use crate::halt::Halt;
@@ -34,11 +35,13 @@ pub(crate) fn replay_rest<
 ) -> Result<Done, ReplayFault>
     requires started { HasRun (R.system running) R.follows R.progress [] [] running }
     requires sound { R.sound running }
-    ensures told { (rest : List ℕ) → HasRest reader.old (S.left source.old) rest
-        → ComesTo (stack_whole (stack_of (R.system running) (texts_of A.input_of A.input_text A.output_text A.replies) (record { header = below; line = L.text })) reader.old)
-        (stack_so_far (stack_of (R.system running) (texts_of A.input_of A.input_text A.output_text A.replies) (record { header = below; line = L.text })) reader.old)
+    ensures told { (says : List ℕ → ImageLine L) (rest : List ℕ) → HasRest reader.old (S.left source.old) rest
+        → ComesTo (stack_whole (play_of (R.system running) (texts_of A.input_of A.input_text A.output_of A.output_text A.replies) (image_of below L.text says)) reader.old)
+        (stack_so_far (play_of (R.system running) (texts_of A.input_of A.input_text A.output_of A.output_text A.replies) (image_of below L.text says)) reader.old)
         reader.old.number rest (S.left source.new) (K.written sink.old) (K.written sink.new) result }
     ensures fault { IfErr result (HasCause reader.old.ended (S.faults source.old) (S.faults source.new) (K.faults sink.old) (K.faults sink.new)) }
+    ensures reads_quiet { result ≢ Err ReplayFault.Read → S.faults source.new ≡ S.faults source.old }
+    ensures quiet { KeepsSink (K.faults sink.old) (K.faults sink.new) (K.wants sink.old) (K.wants sink.new) result }
     ensures reads { S.faults source.old ≤ S.faults source.new }
     ensures writes { K.faults sink.old ≤ K.faults sink.new }
 {

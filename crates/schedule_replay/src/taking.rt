@@ -1,4 +1,4 @@
-ghost use Rattle.std.specs.Prelude.{◌≡◌, ◌+◌, ◌<◌, ◌≤◌, List, true, false, None, Some, Ok, IfOk, OnOk};
+ghost use Rattle.std.specs.Prelude.{◌≡◌, ◌≢◌, ◌+◌, ◌<◌, ◌≤◌, List, true, false, None, Some, Ok, IfOk, OnOk};
 ghost use Rattle.outside.specs.Counting.{Rose};
 ghost use Rattle.vst_base.specs.declared.step.Step.{Step};
 ghost use Rattle.vst_base.specs.declared.step.Item.{Item};
@@ -50,6 +50,7 @@ pub(crate) fn take_step<R: Runs, A: AppText<Input = R::Input, Output = R::Output
     ensures read { result ≡ Ok (Some Halt.Read) → Rose (S.faults source.old) (S.faults source.new) }
     ensures going { result ≡ Ok (Some Halt.Read) → reader.old.ended ≡ false }
     ensures stays { reader.old.ended ≡ true → reader.new.ended ≡ true }
+    ensures quiet { result ≢ Ok (Some Halt.Read) → S.faults source.new ≡ S.faults source.old }
     ensures counts { S.faults source.old ≤ S.faults source.new }
 {
     match read_step::<A, S>(alloc, reader, source) {

@@ -1,4 +1,4 @@
-ghost use Rattle.std.specs.Prelude.{◌≡◌, ◌≤◌, List, [], IfErr, OnErr, OnOk};
+ghost use Rattle.std.specs.Prelude.{◌≡◌, ◌≤◌, List, [], IfErr, IsErrOf, OnErr, OnOk};
 ghost use Rattle.outside.specs.Wholes.{Gained, GainedFront};
 ghost use Rattle.schedule_text.specs.Printing.{trace_text};
 ghost use Rattle.schedule_text.specs.Sending.{HasWriteCause};
@@ -27,6 +27,9 @@ pub(crate) fn write_trace<R: Runs, A: AppText<Input = R::Input, Output = R::Outp
     ensures tally { OnOk result (tally.new ≡ tallied A.replies tally.old (R.progress running.old).trace) }
     ensures err { OnErr result (GainedFront (K.written sink.old) (K.written sink.new) (trace_text A.input_text A.output_text (R.progress running.old).trace)) }
     ensures fault { IfErr result (HasWriteCause (K.faults sink.old) (K.faults sink.new)) }
+    ensures unfailed { IsErrOf result LineFault.Memory → K.faults sink.new ≡ K.faults sink.old }
+    ensures unwanted { IsErrOf result LineFault.Write → K.wants sink.new ≡ K.wants sink.old }
+    ensures quiet { OnOk result ((K.faults sink.new ≡ K.faults sink.old) × (K.wants sink.new ≡ K.wants sink.old)) }
     ensures counts { K.faults sink.old ≤ K.faults sink.new }
 {
     let items = running.trace().items();

@@ -5,8 +5,9 @@ use Rattle.std.specs.List.{list_all}
 use Rattle.std.proofs.Common.{inl, inr, ap, ◌∙◌, sym, arith}
 use Rattle.std.proofs.lemmas.Bool.{and_parts, leb-true, le-leb, eq-eqb, eqb-true}
 use Rattle.schedule_text.specs.declared.header.Header.{Header}
-use Rattle.schedule_text.specs.declared.row.Row.{Row}
-use Rattle.schedule_text.specs.Headers.{header_front, header_text, behind, nodes_within, header_by, or_else, header_among, header_of, rows, IsBy, IsAmong, IsHeader}
+use Rattle.vst_base.specs.declared.stack.StackRow.{StackRow}
+use Rattle.vst_base.specs.Stacks.{rows}
+use Rattle.schedule_text.specs.Headers.{header_front, header_text, behind, nodes_within, header_by, or_else, header_among, header_of, IsBy, IsAmong, IsHeader}
 use Rattle.schedule_text.specs.HeaderLaws.{with_nodes, header_by-parts, either-header}
 use Rattle.schedule_text.specs.Words.{number_up_to}
 use Rattle.schedule_text.proofs.NumeralLaws.{number_of-decimal, decimal_of_number}
@@ -27,12 +28,12 @@ behind-front [] rest = refl
 behind-front (f ∷ fs) rest = behind-found (f == f) (behind fs (fs ++ rest)) rest (eq-eqb f f refl) (behind-front fs rest)
 
 -- the text of a header is a header by its pairing
-by-parts : (r : Row) (h : Header) (o : Option (List ℕ)) (digits : List ℕ) → h.net ≡ r.net → h.stack ≡ r.stack → o ≡ Some digits → number_up_to 4294967295 digits ≡ Some h.nodes
+by-parts : (r : StackRow) (h : Header) (o : Option (List ℕ)) (digits : List ℕ) → h.net ≡ r.net → h.stack ≡ r.stack → o ≡ Some digits → number_up_to 4294967295 digits ≡ Some h.nodes
     → nodes_within r.least r.most h.nodes ≡ Some h.nodes
     → option_and_then (λ digits. option_and_then (λ n. option_and_then (with_nodes r) (nodes_within r.least r.most n)) (number_up_to 4294967295 digits)) o ≡ Some h
 by-parts r h o digits net stack front number nodes = rw (← net, ← stack, front, number, nodes) refl
 
-header_by-text : (r : Row) (h : Header) → nat_le r.most 4294967295 ≡ true → IsBy r h → header_by r (header_text h) ≡ Some h
+header_by-text : (r : StackRow) (h : Header) → nat_le r.most 4294967295 ≡ true → IsBy r h → header_by r (header_text h) ≡ Some h
 header_by-text r h fits by =
     let front : behind (header_front r.net r.stack) (header_text h) ≡ Some (decimal h.nodes) = rw (← by.net, ← by.stack) (behind-front (header_front h.net h.stack) (decimal h.nodes)) in
     by-parts r h (behind (header_front r.net r.stack) (header_text h)) (decimal h.nodes) by.net by.stack front
@@ -54,15 +55,15 @@ behind-differ (x ∷ xs) [] rest e = cc
 behind-differ (x ∷ xs) (y ∷ ys) rest e = behind-other (y == x) (differ xs ys) (behind xs (ys ++ rest)) e (behind-differ xs ys rest)
 
 -- pairings whose fronts differ, each with a greatest number of nodes that can be read
-abbrev differs : Row → Row → Bool
+abbrev differs : StackRow → StackRow → Bool
 differs r q = differ (header_front r.net r.stack) (header_front q.net q.stack)
 
-abbrev are_apart : List Row → Bool
+abbrev are_apart : List StackRow → Bool
 are_apart [] = true
 are_apart (r ∷ rs) = nat_le r.most 4294967295 && list_all (differs r) rs && are_apart rs
 
 -- the text of a header by a later pairing is none by this one
-header_by-other : (r : Row) (rs : List Row) (h : Header) → list_all (differs r) rs ≡ true → IsAmong rs h → header_by r (header_text h) ≡ None
+header_by-other : (r : StackRow) (rs : List StackRow) (h : Header) → list_all (differs r) rs ≡ true → IsAmong rs h → header_by r (header_text h) ≡ None
 header_by-other r [] h apart among = absurd among
 header_by-other r (q ∷ qs) h apart (inl by) =
     let first : (differs r q ≡ true) × (list_all (differs r) qs ≡ true) = and_parts (differs r q) (list_all (differs r) qs) apart in
@@ -73,7 +74,7 @@ header_by-other r (q ∷ qs) h apart (inl by) =
       none-by o e = rw e refl
 header_by-other r (q ∷ qs) h apart (inr among) = header_by-other r qs h (and_parts (differs r q) (list_all (differs r) qs) apart).1 among
 
-among-text : (rs : List Row) (h : Header) → are_apart rs ≡ true → IsAmong rs h → header_among rs (header_text h) ≡ Some h
+among-text : (rs : List StackRow) (h : Header) → are_apart rs ≡ true → IsAmong rs h → header_among rs (header_text h) ≡ Some h
 among-text [] h apart among = absurd among
 among-text (r ∷ rs) h apart among =
     let parts : ((nat_le r.most 4294967295 && list_all (differs r) rs) ≡ true) × (are_apart rs ≡ true) = and_parts (nat_le r.most 4294967295 && list_all (differs r) rs) (are_apart rs) apart in
@@ -97,7 +98,7 @@ front-append [] line rest e = cc
 front-append (f ∷ fs) [] rest e = cc
 front-append (f ∷ fs) (b ∷ bs) rest e = front-same (b == f) b f (behind fs bs) bs fs rest (eqb-true b f) (front-append fs bs rest) e
 
-text-header_by : (r : Row) (line : List ℕ) (h : Header) → header_by r line ≡ Some h → line ≡ header_text h
+text-header_by : (r : StackRow) (line : List ℕ) (h : Header) → header_by r line ≡ Some h → line ≡ header_text h
 text-header_by r line h e =
     let parts = header_by-parts r line h e in
     let digits = parts.1.0 in
@@ -105,7 +106,7 @@ text-header_by r line h e =
     ∙ (ap (λ ds. header_front r.net r.stack ++ ds) (decimal_of_number digits h.nodes parts.1.2)
     ∙ (ap (λ n. header_front n r.stack ++ decimal h.nodes) (sym parts.0.net) ∙ ap (λ s. header_front h.net s ++ decimal h.nodes) (sym parts.0.stack)))
 
-text-header_among : (rs : List Row) (line : List ℕ) (h : Header) → header_among rs line ≡ Some h → line ≡ header_text h
+text-header_among : (rs : List StackRow) (line : List ℕ) (h : Header) → header_among rs line ≡ Some h → line ≡ header_text h
 text-header_among [] line h e = cc
 text-header_among (r ∷ rs) line h e =
     elim (either-header (header_by r line) (header_among rs line) h (text-header_by r line h) (text-header_among rs line h) e) [ inl same ↦ same | inr same ↦ same ]

@@ -41,6 +41,10 @@ header-no-end n fault.End e = cc
 header-no-end n fault.Memory e = cc
 header-no-end n (fault.Refused m w) e = cc
 
+-- it is a failed read where the line's is
+pub header-other : (n : ℕ) (found : LineFault) → (◌≡◌ {A = LineFault} (header_fault n found) fault.Read → ⊥) → ◌≡◌ {A = LineFault} found fault.Read → ⊥
+header-other n found other is = other (ap (header_fault n) is)
+
 -- a cause that was there before the last line is there still
 pub cause-before : (old mid : ReaderView) (f0 f f' : ℕ) (why : LineFault) → (old.ended ≡ true → mid.ended ≡ true) → f0 ≤ f → HasReadCause mid f f' why → HasReadCause old f0 f' why
 cause-before old mid f0 f f' fault.Read stays grew cause = (omega (arith, cause.0, grew), by old.ended stays cause.1) where

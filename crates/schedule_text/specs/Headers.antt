@@ -1,32 +1,20 @@
 -- The header of a schedule: `schedule 1 <net> <stack> <nodes>`.
 use Rattle.std.specs.Prelude.{◌≡◌, ℕ, ◌≤◌, ◌⊎◌, ◌==◌, ◌&&◌, nat_le, List, [], ◌∷◌, ◌++◌, Option, Some, None, option_and_then, if◌then◌else◌, codes}
-use Rattle.vst_base.specs.declared.node.TheConstants.{MAX_NODES}
 use Rattle.vst_base.specs.declared.net.Net.{Net}
 use Rattle.vst_base.specs.declared.net.Net.TheVariants as net
 use Rattle.vst_base.specs.declared.stack.StackId.{StackId}
-use Rattle.vst_base.specs.declared.stack.StackId.TheVariants as stack
+use Rattle.vst_base.specs.declared.stack.StackRow.{StackRow}
+use Rattle.vst_base.specs.Stacks.{rows, stack_word}
 use Rattle.std.specs.Fmt.{decimal}
 use Rattle.schedule_text.specs.declared.header.Header.{Header}
-use Rattle.schedule_text.specs.declared.row.Row.{Row}
 use Rattle.schedule_text.specs.Words.{number_up_to}
 
--- the words of networks and stacks
+-- the words of networks
 abbrev pub net_word : Net → List ℕ
 net_word net.One = codes "one"
 net_word net.Bag = codes "bag"
 net_word net.Dup = codes "dup"
 net_word net.Fail = codes "fail"
-
-abbrev pub stack_word : StackId → List ℕ
-stack_word stack.Lock = codes "lock"
-stack_word stack.LockSeq = codes "lock/seq"
-stack_word stack.KvPb = codes "kv/pb"
-stack_word stack.KvPbSeq = codes "kv/pb/seq"
-stack_word stack.KvRaft = codes "kv/raft"
-stack_word stack.TablePbSeq = codes "table/pb/seq"
-stack_word stack.TableRaft = codes "table/raft"
-stack_word stack.Kv = codes "kv"
-stack_word stack.Table = codes "table"
 
 -- a word and the space behind it
 abbrev pub spaced : List ℕ → List ℕ
@@ -39,25 +27,14 @@ header_front n s = codes "schedule 1 " ++ (spaced (net_word n) ++ spaced (stack_
 abbrev pub header_text : Header → List ℕ
 header_text h = header_front h.net h.stack ++ decimal h.nodes
 
--- the pairings that a header may have, with the least and the greatest number of nodes
-abbrev pub rows : List Row
-rows =
-    record { net = net.Bag; stack = stack.Lock; least = 2; most = 9 }
-    ∷ record { net = net.Dup; stack = stack.LockSeq; least = 2; most = 9 }
-    ∷ record { net = net.Bag; stack = stack.KvPb; least = 2; most = 2 }
-    ∷ record { net = net.Dup; stack = stack.KvPbSeq; least = 2; most = 2 }
-    ∷ record { net = net.One; stack = stack.Kv; least = 1; most = 1 }
-    ∷ record { net = net.Fail; stack = stack.KvRaft; least = 1; most = MAX_NODES }
-    ∷ []
-
 -- a header by a pairing, and by one of several
-pub record IsBy (r : Row) (h : Header) : Type 0 where
+pub record IsBy (r : StackRow) (h : Header) : Type 0 where
   pub net : h.net ≡ r.net
   pub stack : h.stack ≡ r.stack
   pub least : r.least ≤ h.nodes
   pub most : h.nodes ≤ r.most
 
-abbrev pub IsAmong : List Row → Header → Type 0
+abbrev pub IsAmong : List StackRow → Header → Type 0
 IsAmong [] h = ⊥
 IsAmong (r ∷ rs) h = IsBy r h ⊎ IsAmong rs h
 
@@ -74,7 +51,7 @@ behind (f ∷ fs) (b ∷ bs) = if b == f then behind fs bs else None
 abbrev pub nodes_within : ℕ → ℕ → ℕ → Option ℕ
 nodes_within least most n = if nat_le least n && nat_le n most then Some n else None
 
-abbrev pub header_by : Row → List ℕ → Option Header
+abbrev pub header_by : StackRow → List ℕ → Option Header
 header_by r line =
     option_and_then (λ digits. option_and_then (λ n. option_and_then (λ m. Some (record { net = r.net; stack = r.stack; nodes = m })) (nodes_within r.least r.most n))
     (number_up_to 4294967295 digits)) (behind (header_front r.net r.stack) line)
@@ -83,7 +60,7 @@ abbrev pub or_else : Option Header → Option Header → Option Header
 or_else None h = h
 or_else (Some g) h = Some g
 
-abbrev pub header_among : List Row → List ℕ → Option Header
+abbrev pub header_among : List StackRow → List ℕ → Option Header
 header_among [] line = None
 header_among (r ∷ rs) line = or_else (header_by r line) (header_among rs line)
 

@@ -1,70 +1,13 @@
 ghost use Rattle.std.specs.Prelude.{◌≡◌, ◌≤◌, ◌<◌, ◌^◌, ◌++◌, OnOk, OnErr};
-ghost use Rattle.schedule_text.specs.Headers.{behind, header_among, header_by, header_front, header_of, header_text, net_word, stack_word, nodes_within, spaced};
+ghost use Rattle.schedule_text.specs.Headers.{behind, header_among, header_by, header_front, header_of, header_text, net_word, nodes_within, spaced};
+ghost use Rattle.vst_base.specs.Stacks.{stack_word};
 ghost use Rattle.line_reader.specs.Slices.{one};
 
 use crate::Header;
 use crate::numbers::push_number;
-use crate::row::Row;
 use crate::words::number_of;
 use std::alloc::AllocError;
-use vst_base::{MAX_NODES, Net, StackId};
-
-// The least number of nodes of a lock cluster.
-const LEAST_LOCK: u8 = 2;
-
-// The greatest number of nodes of a lock cluster.
-const MOST_LOCK: u8 = 9;
-
-// The lock server on a bag of packets.
-const LOCK: Row = Row {
-    net: Net::Bag,
-    stack: StackId::Lock,
-    least: LEAST_LOCK,
-    most: MOST_LOCK,
-};
-
-// The lock server with numbered packets, on a network that copies packets.
-const LOCK_SEQ: Row = Row {
-    net: Net::Dup,
-    stack: StackId::LockSeq,
-    least: LEAST_LOCK,
-    most: MOST_LOCK,
-};
-
-// The key-value machine under primary-backup, on a bag of packets: a primary and a backup.
-const KV_PB: Row = Row {
-    net: Net::Bag,
-    stack: StackId::KvPb,
-    least: 2,
-    most: 2,
-};
-
-// The same with numbered packets, on a network that copies packets.
-const KV_PB_SEQ: Row = Row {
-    net: Net::Dup,
-    stack: StackId::KvPbSeq,
-    least: 2,
-    most: 2,
-};
-
-// The key-value machine alone, at its one node.
-const KV: Row = Row {
-    net: Net::One,
-    stack: StackId::Kv,
-    least: 1,
-    most: 1,
-};
-
-// A Raft cluster of key-value machines, on a network that loses packets and whose nodes crash.
-const KV_RAFT: Row = Row {
-    net: Net::Fail,
-    stack: StackId::KvRaft,
-    least: 1,
-    most: MAX_NODES,
-};
-
-// The pairings that there are. A line is tried by each in this order.
-const ROWS: &[Row] = &[LOCK, LOCK_SEQ, KV_PB, KV_PB_SEQ, KV, KV_RAFT];
+use vst_base::{Net, StackId, StackRow};
 
 fn net_word(net: Net) -> &'static [u8]
     ensures { result.now ≡ net_word net }
@@ -80,17 +23,7 @@ fn net_word(net: Net) -> &'static [u8]
 fn stack_word(stack: StackId) -> &'static [u8]
     ensures { result.now ≡ stack_word stack }
 {
-    match stack {
-        StackId::Lock => b"lock",
-        StackId::LockSeq => b"lock/seq",
-        StackId::KvPb => b"kv/pb",
-        StackId::KvPbSeq => b"kv/pb/seq",
-        StackId::KvRaft => b"kv/raft",
-        StackId::TablePbSeq => b"table/pb/seq",
-        StackId::TableRaft => b"table/raft",
-        StackId::Kv => b"kv",
-        StackId::Table => b"table",
-    }
+    stack.word().as_bytes()
 }
 
 // What stands behind a front.
@@ -146,7 +79,7 @@ fn nodes_within(least: u8, most: u8, n: u32) -> Option<u8>
 }
 
 // The header that a line is by this pairing, if it is one.
-fn header_by(row: &Row, line: &[u8]) -> Option<Header>
+fn header_by(row: &StackRow, line: &[u8]) -> Option<Header>
     ensures { result ≡ header_by row.now line.now }
 {
     let digits = behind_front(row.net, row.stack, line)?;
@@ -160,7 +93,7 @@ fn header_by(row: &Row, line: &[u8]) -> Option<Header>
 }
 
 // The header that a line is by the first pairing that it fits.
-fn header_among(rows: &[Row], line: &[u8]) -> Option<Header>
+fn header_among(rows: &[StackRow], line: &[u8]) -> Option<Header>
     ensures { result ≡ header_among rows.now line.now }
 {
     for row in rows {
@@ -176,7 +109,7 @@ fn header_among(rows: &[Row], line: &[u8]) -> Option<Header>
 pub fn header_of(line: &[u8]) -> Option<Header>
     ensures { result ≡ header_of line.now }
 {
-    header_among(ROWS, line)
+    header_among(StackRow::all(), line)
 }
 
 impl Header {

@@ -2,7 +2,9 @@ ghost use Rattle.std.specs.Prelude.{◌≡◌, ℕ, ◌+◌, ◌^◌, ◌<◌, �
 ghost use Rattle.std.specs.Fmt.{decimal};
 ghost use Rattle.line_reader.specs.Lines.{lines_of};
 ghost use Rattle.schedule_text.specs.Schedules.{script};
-ghost use Rattle.schedule_text.specs.Headers.{IsHeader, header_of, header_text};
+ghost use Rattle.schedule_text.specs.Headers.{IsBy, IsHeader, header_of, header_text};
+ghost use Rattle.vst_base.specs.Stacks.{row_of};
+ghost use Rattle.vst_base.specs.declared.stack.StackId.{StackId as SpecId};
 ghost use Rattle.schedule_text.specs.declared.header.Header.{Header};
 ghost use Rattle.schedule_text.specs.Printing.{step_text, steps_text};
 ghost use Rattle.schedule_text.specs.Reading.{step_of};
@@ -25,6 +27,12 @@ pub fn steps_read_back<A: AppText>()
     ensures lines { (ss : List (Step A.Input)) → AreSpellable A.is_input A.input_text ss → lines_of (steps_text A.input_text ss) ≡ map (λ s. step_text A.input_text s) ss }
     ensures script { (most n e : ℕ) (ss : List (Step A.Input)) → AreSpellable A.is_input A.input_text ss → n + length ss ≤ most + 1 → e + length ss ≤ 1000000
         → script most A.input_of n e (lines_of (steps_text A.input_text ss)) ≡ record { steps = numbered_steps n ss; fault = None } }
+{}
+
+/// The headers that there are: each stack on its network, on as many nodes as it runs on.
+pub fn headers_follow_the_rows()
+    ensures each_row { (i : SpecId) (h : Header) → IsBy (row_of i) h → IsHeader h }
+    ensures own_row { (h : Header) → IsHeader h → IsBy (row_of h.stack) h }
 {}
 
 /// Each header that there is has one spelling, its text. No other line is read as a header.

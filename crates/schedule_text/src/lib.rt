@@ -12,7 +12,6 @@ mod numbers;
 mod parts;
 mod printing;
 mod reading;
-mod row;
 mod sinks;
 mod skips;
 mod streams;
@@ -21,7 +20,9 @@ mod words;
 pub use examples::{worked_headers, worked_limits, worked_printing, worked_steps, worked_words};
 pub use header::Header;
 pub use headers::header_of;
-pub use laws::{headers_read_back, numbers_have_one_spelling, steps_read_back};
+pub use laws::{
+    headers_follow_the_rows, headers_read_back, numbers_have_one_spelling, steps_read_back,
+};
 pub use line::Line;
 pub use line_reader::{LineFault, MAX_LINE, NEWLINE, Reader, Why, next_line};
 pub use parts::SPACE;

@@ -21,7 +21,8 @@ pub fn print_text<K: Sink>(sink: &mut K, text: &[u8]) -> Result<(), LineFault>
     ensures fault { IfErr result (HasWriteCause (K.faults sink.old) (K.faults sink.new)) }
     ensures memory { IsErrOf result LineFault.Memory → Rose (K.wants sink.old) (K.wants sink.new) }
     ensures unfailed { IsErrOf result LineFault.Memory → K.faults sink.new ≡ K.faults sink.old }
-    ensures quiet { OnOk result (K.faults sink.new ≡ K.faults sink.old) }
+    ensures unwanted { IsErrOf result LineFault.Write → K.wants sink.new ≡ K.wants sink.old }
+    ensures quiet { OnOk result ((K.faults sink.new ≡ K.faults sink.old) × (K.wants sink.new ≡ K.wants sink.old)) }
     ensures counts { K.faults sink.old ≤ K.faults sink.new }
 {
     match write_all(sink, text) {
@@ -38,7 +39,8 @@ fn spill<K: Sink>(sink: &mut K, text: &mut Vec<u8>) -> Result<(), LineFault>
     ensures fault { IfErr result (HasWriteCause (K.faults sink.old) (K.faults sink.new)) }
     ensures memory { IsErrOf result LineFault.Memory → Rose (K.wants sink.old) (K.wants sink.new) }
     ensures unfailed { IsErrOf result LineFault.Memory → K.faults sink.new ≡ K.faults sink.old }
-    ensures quiet { OnOk result (K.faults sink.new ≡ K.faults sink.old) }
+    ensures unwanted { IsErrOf result LineFault.Write → K.wants sink.new ≡ K.wants sink.old }
+    ensures quiet { OnOk result ((K.faults sink.new ≡ K.faults sink.old) × (K.wants sink.new ≡ K.wants sink.old)) }
     ensures counts { K.faults sink.old ≤ K.faults sink.new }
 {
     if text.len() < PIECE {
@@ -60,7 +62,8 @@ pub fn print_lines<A: AppText, P: Printed<A>, K: Sink>(
     ensures err { OnErr result (GainedFront (K.written sink.old) (K.written sink.new) (lines_text P.text lines.now)) }
     ensures fault { IfErr result (HasWriteCause (K.faults sink.old) (K.faults sink.new)) }
     ensures unfailed { IsErrOf result LineFault.Memory → K.faults sink.new ≡ K.faults sink.old }
-    ensures quiet { OnOk result (K.faults sink.new ≡ K.faults sink.old) }
+    ensures unwanted { IsErrOf result LineFault.Write → K.wants sink.new ≡ K.wants sink.old }
+    ensures quiet { OnOk result ((K.faults sink.new ≡ K.faults sink.old) × (K.wants sink.new ≡ K.wants sink.old)) }
     ensures counts { K.faults sink.old ≤ K.faults sink.new }
 {
     let mut text = Vec::new(alloc);
@@ -81,7 +84,8 @@ pub fn print_step<A: AppText, K: Sink>(
     ensures err { OnErr result (GainedFront (K.written sink.old) (K.written sink.new) (as_line (step_text A.input_text step.now))) }
     ensures fault { IfErr result (HasWriteCause (K.faults sink.old) (K.faults sink.new)) }
     ensures unfailed { IsErrOf result LineFault.Memory → K.faults sink.new ≡ K.faults sink.old }
-    ensures quiet { OnOk result (K.faults sink.new ≡ K.faults sink.old) }
+    ensures unwanted { IsErrOf result LineFault.Write → K.wants sink.new ≡ K.wants sink.old }
+    ensures quiet { OnOk result ((K.faults sink.new ≡ K.faults sink.old) × (K.wants sink.new ≡ K.wants sink.old)) }
     ensures counts { K.faults sink.old ≤ K.faults sink.new }
 {
     let mut text = Vec::new(alloc);
@@ -99,7 +103,8 @@ pub fn print_steps<A: AppText, K: Sink>(
     ensures err { OnErr result (GainedFront (K.written sink.old) (K.written sink.new) (steps_text A.input_text steps.now)) }
     ensures fault { IfErr result (HasWriteCause (K.faults sink.old) (K.faults sink.new)) }
     ensures unfailed { IsErrOf result LineFault.Memory → K.faults sink.new ≡ K.faults sink.old }
-    ensures quiet { OnOk result (K.faults sink.new ≡ K.faults sink.old) }
+    ensures unwanted { IsErrOf result LineFault.Write → K.wants sink.new ≡ K.wants sink.old }
+    ensures quiet { OnOk result ((K.faults sink.new ≡ K.faults sink.old) × (K.wants sink.new ≡ K.wants sink.old)) }
     ensures counts { K.faults sink.old ≤ K.faults sink.new }
 {
     print_lines::<A, Step<A::Input>, K>(alloc, sink, steps)
@@ -115,7 +120,8 @@ pub fn print_trace<A: AppText, K: Sink>(
     ensures err { OnErr result (GainedFront (K.written sink.old) (K.written sink.new) (trace_text A.input_text A.output_text items.now)) }
     ensures fault { IfErr result (HasWriteCause (K.faults sink.old) (K.faults sink.new)) }
     ensures unfailed { IsErrOf result LineFault.Memory → K.faults sink.new ≡ K.faults sink.old }
-    ensures quiet { OnOk result (K.faults sink.new ≡ K.faults sink.old) }
+    ensures unwanted { IsErrOf result LineFault.Write → K.wants sink.new ≡ K.wants sink.old }
+    ensures quiet { OnOk result ((K.faults sink.new ≡ K.faults sink.old) × (K.wants sink.new ≡ K.wants sink.old)) }
     ensures counts { K.faults sink.old ≤ K.faults sink.new }
 {
     print_lines::<A, Item<A::Input, A::Output>, K>(alloc, sink, items)

@@ -1,4 +1,4 @@
-ghost use Rattle.std.specs.Prelude.{◌≡◌, ◌≢◌, ◌+◌, ◌<◌, ◌≤◌, ℕ, true, List, Some, Err, IfErr, IfOk, OnOk};
+ghost use Rattle.std.specs.Prelude.{◌≡◌, ◌≢◌, ◌+◌, ◌<◌, ◌≤◌, ℕ, true, List, Some, Err, IfErr, IfOk, OnErr, OnOk};
 ghost use Rattle.line_reader.specs.Outcomes.{HasReadCause};
 ghost use Rattle.line_reader.specs.Readers.{HasRest};
 ghost use Rattle.schedule_text.specs.Headers.{header_of};
@@ -35,6 +35,7 @@ pub fn read_header<S: Source>(reader: &mut Reader, source: &mut S) -> Result<Hea
     ensures stays { reader.old.ended ≡ true → reader.new.ended ≡ true }
     ensures kept { (reader.new.most ≡ reader.old.most) × (reader.new.events ≡ reader.old.events) }
     ensures fault { IfErr result (HasReadCause reader.old (S.faults source.old) (S.faults source.new)) }
+    ensures quiet { result ≢ Err LineFault.Read → S.faults source.new ≡ S.faults source.old }
     ensures counts { S.faults source.old ≤ S.faults source.new }
 {
     loop {
@@ -61,10 +62,11 @@ pub fn read_step<A: AppText, S: Source>(
     ensures told { (rest : List ℕ) → HasRest reader.old (S.left source.old) rest → ReadsStep A.input_of reader.old reader.new (S.left source.new) rest result }
     ensures step { IfOk result (λ s. step_of A.input_of reader.new.line ≡ Some s) }
     ensures number { OnOk result ((reader.old.number < reader.new.number) × (reader.new.number ≤ reader.new.most)) }
-    ensures events { OnOk result ((reader.new.events ≡ reader.old.events + 1) × (reader.new.events ≤ 1000000)) }
+    ensures events { OnOk result ((reader.new.events ≡ reader.old.events + 1) × (reader.new.events ≤ 1000000)) × OnErr result (reader.new.events ≡ reader.old.events) }
     ensures kept { reader.new.most ≡ reader.old.most }
     ensures stays { reader.old.ended ≡ true → reader.new.ended ≡ true }
     ensures fault { IfErr result (HasReadCause reader.old (S.faults source.old) (S.faults source.new)) }
+    ensures quiet { result ≢ Err LineFault.Read → S.faults source.new ≡ S.faults source.old }
     ensures counts { S.faults source.old ≤ S.faults source.new }
 {
     loop {

@@ -1,6 +1,6 @@
 -- How a run ends where a line is refused, where the error stream fails too, and where a check says yes.
-use Rattle.std.specs.Prelude.{◌≡◌, ◌⊎◌, ℕ, ◌+◌, ◌≤◌, List, [], ◌++◌, length, Option, Some, None, Err, IfSome}
-use Rattle.std.proofs.Common.{inl, inr, ap, ◌∙◌, sym, append-nil, arith, refl}
+use Rattle.std.specs.Prelude.{◌≡◌, ◌⊎◌, ℕ, ◌+◌, ◌-◌, ◌≤◌, List, [], ◌++◌, length, Option, Some, None, Result, Err, IfSome}
+use Rattle.std.proofs.Common.{inl, inr, ap, ◌∙◌, subst, sym, append-nil, arith, refl}
 use Rattle.std.proofs.Math.Seq.{take-length}
 use Rattle.outside.specs.Counting.{Rose}
 use Rattle.outside.specs.Wholes.{Gained, GainedFront, Gave}
@@ -11,12 +11,13 @@ use Rattle.schedule_replay.specs.declared.fault.ReplayFault.TheVariants as fault
 use Rattle.schedule_replay.specs.Outcomes.{ComesTo}
 use Rattle.schedule_replay.specs.Replays.{replayed, replayed_so_far}
 use Rattle.vst_base.specs.declared.stack.StackId.{StackId}
+use Rattle.claim_verdicts.specs.declared.verdict.Verdict.{Verdict}
 use Rattle.trace_check.specs.Checks.{checked}
 use Rattle.trace_check.specs.Outcomes.{LooksAhead}
 use Rattle.trace_check.specs.declared.fault.CheckFault.TheVariants as claim
 use Rattle.command_line.specs.declared.command.Command.{Command}
 use Rattle.command_line.specs.declared.command.Command.TheVariants as command
-use Rattle.top_call.specs.Answers.{Answer, answer_by, answer_of, answer_to_claim, memory_line, permitted_line, refusal_text}
+use Rattle.top_call.specs.Answers.{Answer, answer_by, answer_of, answer_to_claim, memory_line, permitted_line, refusal_status, refusal_text}
 use Rattle.top_call.specs.Clauses.{HasWriteFailed, IsLineRefused, IsOutOfMemory, Said, SaysVerdict, Streams, WasWriting}
 
 -- a text is a front of itself
@@ -68,6 +69,12 @@ if-given : (left left' : Option (List ℕ)) (line : ℕ) (why : Why) → IfSome 
 if-given None left' line why ahead = tt
 if-given (Some bytes) left' line why ahead = ahead
 
+-- what is told of a refused line of a claim
+refused-as : {A : Type 0} (stack : StackId) (line : ℕ) (why : Why) (left : Option (List ℕ)) (part : Result Verdict (ℕ × Why) → A) → IfSome left (λ bytes. checked stack bytes ≡ Err (line, why))
+    → IfSome left (λ bytes. part (checked stack bytes) ≡ part (Err (line, why)))
+refused-as stack line why None part told = tt
+refused-as stack line why (Some bytes) part told = ap part told
+
 -- a line of a claim that is refused
 pub claim-refused : (stack : StackId) (s : Streams) (f f' w w' result line : ℕ) (why : Why) → IfSome s.left (λ bytes. checked stack bytes ≡ Err (line, why))
     → IfSome s.left (λ bytes. LooksAhead s.left' bytes (claim.Refused line why)) → s.out' ≡ s.out
@@ -76,10 +83,11 @@ pub claim-refused : (stack : StackId) (s : Streams) (f f' w w' result line : ℕ
 claim-refused stack s f f' w w' result line why told ahead same said is = record {
   line = line;
   why = why;
-  status = if-told s.left (λ bytes e. ap (λ r. (answer_to_claim r).status) e) told;
-  out = if-told s.left (λ bytes e. rw e (gained-none s.out s.out' same)) told;
+  status = refused-as stack line why s.left (λ r. (answer_to_claim r).status) told;
+  out = if-told {P = λ bytes. checked stack bytes ≡ Err (line, why)} {Q = λ bytes. Gained s.out s.out' (answer_to_claim (checked stack bytes)).out} s.left
+      (λ bytes e. subst (λ r. Gained s.out s.out' (answer_to_claim r).out) (sym e) (gained-none s.out s.out' same)) told;
   err = said-named (refusal_line line why) s.err s.err' f f' w w' result said is;
-  named = if-told s.left (λ bytes e. ap (λ r. (answer_to_claim r).err) e) told;
+  named = refused-as stack line why s.left (λ r. (answer_to_claim r).err) told;
   ahead = if-given s.left s.left' line why ahead;
 }
 
@@ -150,3 +158,35 @@ known-failed answer unknown unread o o' f f' s m = record { out = m.out; err = b
 
 pub known-failed-of : (c : Option Command) (d : Command) (unknown unread : Type 0) (o o' f f' : ℕ) (s : Streams) → c ≡ Some d → HasWriteFailed (answer_by (Some d)) ⊥ unread o o' f f' s → HasWriteFailed (answer_by c) unknown unread o o' f f' s
 known-failed-of c d unknown unread o o' f f' s is m = rw is (known-failed (answer_by (Some d)) unknown unread o o' f f' s m)
+
+-- how much of the input a replay was given
+refused-ahead : (left left' out out' : Option (List ℕ)) (line : ℕ) (why : Why) → IfSome left (λ bytes. ComesTo replayed replayed_so_far 0 bytes left' out out' (Err (fault.Refused line why)))
+    → IfSome left (λ bytes. (given : List ℕ) × Gave left left' given × (length given ≤ decided line bytes + 4096))
+refused-ahead None left' out out' line why told = tt
+refused-ahead (Some bytes) left' out out' line why told =
+    let whole : line - 0 ≡ line = omega arith in
+    let decides = ap (λ n. decided n bytes) whole in
+    (told.given, (told.gave.others, told.gave.whole, told.gave.left_is), omega (arith, told.ahead, decides))
+
+refused-written : (left left' out out' : Option (List ℕ)) (line : ℕ) (why : Why) → IfSome left (λ bytes. ComesTo replayed replayed_so_far 0 bytes left' out out' (Err (fault.Refused line why)))
+    → IfSome left (λ bytes. Gained out out' (answer_of (replayed bytes)).out)
+refused-written None left' out out' line why told = tt
+refused-written (Some bytes) left' out out' line why told = told.written
+
+refused-status : (left left' out out' : Option (List ℕ)) (line : ℕ) (why : Why) → IfSome left (λ bytes. ComesTo replayed replayed_so_far 0 bytes left' out out' (Err (fault.Refused line why)))
+    → IfSome left (λ bytes. (answer_of (replayed bytes)).status ≡ 3)
+refused-status None left' out out' line why told = tt
+refused-status (Some bytes) left' out out' line why told = ap refusal_status told.refused
+
+-- a line of a schedule that is refused
+pub replay-refused : (s : Streams) (f f' w w' result line : ℕ) (why : Why) → IfSome s.left (λ bytes. ComesTo replayed replayed_so_far 0 bytes s.left' s.out s.out' (Err (fault.Refused line why)))
+    → Said 3 (refusal_line line why) s.err s.err' f f' w w' result ⊎ Said 8 memory_line s.err s.err' f f' w w' result → result ≡ 3 → IsLineRefused (Some command.Replay) s
+replay-refused s f f' w w' result line why told said is = record {
+  line = line;
+  why = why;
+  status = refused-status s.left s.left' s.out s.out' line why told;
+  out = refused-written s.left s.left' s.out s.out' line why told;
+  err = said-named (refusal_line line why) s.err s.err' f f' w w' result said is;
+  named = refused-named s.left s.left' s.out s.out' line why told;
+  ahead = refused-ahead s.left s.left' s.out s.out' line why told;
+}

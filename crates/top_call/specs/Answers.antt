@@ -9,8 +9,8 @@ use Rattle.command_line.specs.CommandSet.{command_of}
 use Rattle.schedule_replay.specs.Replaying.{Replayed}
 use Rattle.schedule_replay.specs.Replays.{replayed, replayed_so_far}
 use Rattle.trace_check.specs.Checks.{checked, refused_so_far}
-use Rattle.trace_check.specs.declared.verdict.Verdict.{Verdict}
-use Rattle.trace_check.specs.declared.verdict.Verdict.TheVariants as verdict
+use Rattle.claim_verdicts.specs.declared.verdict.Verdict.{Verdict}
+use Rattle.claim_verdicts.specs.declared.verdict.Verdict.TheVariants as verdict
 
 -- the status, the text on the output, and the line on the error stream
 pub record Answer : Type 0 where

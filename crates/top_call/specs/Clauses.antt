@@ -1,15 +1,16 @@
 -- What the clauses of the top call say of its status, where a run without faults has this answer to its input. Told contents are optional; what is said of them holds where they are told.
-use Rattle.std.specs.Prelude.{◌≡◌, ◌⊎◌, ℕ, ◌+◌, ◌≤◌, false, List, [], length, Option, Some, None, IfSome}
+use Rattle.std.specs.Prelude.{◌≡◌, ◌⊎◌, ℕ, ◌+◌, ◌≤◌, false, List, [], ◌++◌, length, Option, Some, None, IfSome}
 use Rattle.outside.specs.Counting.{Rose}
 use Rattle.outside.specs.Wholes.{Gained, GainedFront, Gave}
 use Rattle.line_reader.specs.declared.why.Why.{Why}
 use Rattle.line_reader.specs.Lines.{decided, split_lines}
 use Rattle.schedule_text.specs.Printing.{refusal_line}
 use Rattle.command_line.specs.CommandSet.{takes_words}
+use Rattle.vst_base.specs.declared.stack.StackId.{StackId}
 use Rattle.command_line.specs.declared.command.Command.{Command}
 use Rattle.command_line.specs.declared.command.Command.TheVariants as command
-use Rattle.schedule_replay.specs.Explained.{IsExplained}
-use Rattle.permitted_claims.specs.Permitted.{IsPermitted}
+use Rattle.schedule_replay.specs.Explained.{IsReplay}
+use Rattle.trace_check.specs.Checks.{IsNotPermitted, IsPermitted}
 use Rattle.top_call.specs.Answers.{Answer, answer_by, condition_line, memory_line, permitted_line, read_failed_line, so_far_by, usage_line}
 
 -- a status of the program
@@ -35,12 +36,26 @@ pub record IsDone (answer : List ℕ → Answer) (s : Streams) : Type 0 where
   pub out : IfSome s.left (λ bytes. Gained s.out s.out' (answer bytes).out)
   pub err : Gained s.err s.err' []
 
--- 0 of a command with this input: the trace of a schedule that was replayed is explained by what its image stands for, and so is
--- a claim that was checked
-abbrev pub IsExplainedInput : Option Command → List ℕ → Type 0
-IsExplainedInput None bytes = Unit {0}
-IsExplainedInput (Some command.Replay) bytes = IsExplained bytes
-IsExplainedInput (Some (command.Check s)) bytes = IsPermitted s bytes
+-- what the output gained is a replay of the input: it reads as a header and steps that the network allows, and what was printed is
+-- the text of their trace and of an image that explains it
+abbrev pub GainedReplay : Streams → List ℕ → Type 0
+GainedReplay s bytes = IfSome s.out (λ held. (text : List ℕ) × (s.out' ≡ Some (held ++ text)) × IsReplay bytes text)
+
+-- 0 of a replay
+abbrev pub HasReplayed : Option Command → Streams → Type 0
+HasReplayed None s = Unit {0}
+HasReplayed (Some command.Replay) s = IfSome s.left (GainedReplay s)
+HasReplayed (Some (command.Check stack)) s = Unit {0}
+
+-- 0 and 1 of a check: the input is a claim whose image explains its trace, or does not explain it
+pub record Judges (status : ℕ) (stack : StackId) (bytes : List ℕ) : Type 0 where
+  pub holds : status ≡ 0 → IsPermitted stack bytes
+  pub fails : status ≡ 1 → IsNotPermitted stack bytes
+
+abbrev pub HasJudged : Option Command → ℕ → Streams → Type 0
+HasJudged None status s = Unit {0}
+HasJudged (Some command.Replay) status s = Unit {0}
+HasJudged (Some (command.Check stack)) status s = IfSome s.left (Judges status stack)
 
 -- what a check leaves on the output, whatever its input tells: at 0 its line, at 1, 3 and 4 nothing, and always a front of the line
 pub record SaysVerdict (status : ℕ) (out out' : Option (List ℕ)) : Type 0 where
@@ -120,7 +135,7 @@ pub record IsOutOfMemory (answer : List ℕ → Answer) (unknown unread : Type 0
 -- what writing a line on the error stream comes to: the status that it was written for, 5 or 8
 abbrev pub Said : ℕ → List ℕ → Option (List ℕ) → Option (List ℕ) → ℕ → ℕ → ℕ → ℕ → ℕ → Type 0
 Said status line err err' faults faults' wants wants' result =
-    ((result ≡ status) × Gained err err' line)
+    ((result ≡ status) × Gained err err' line × (faults' ≡ faults) × (wants' ≡ wants))
     ⊎ ((result ≡ 5) × Rose faults faults' × GainedFront err err' line)
     ⊎ ((result ≡ 8) × Rose wants wants' × GainedFront err err' line)
 

@@ -1,8 +1,8 @@
-ghost use Rattle.std.specs.Prelude.{◌≡◌, ◌≤◌, ℕ, map, false, string_bytes, IfSome};
+ghost use Rattle.std.specs.Prelude.{◌≡◌, ◌≤◌, ℕ, map, false, string_bytes};
 ghost use Rattle.outside.specs.Counting.{Rose};
 ghost use Rattle.command_line.specs.CommandSet.{command_of, takes_words};
 ghost use Rattle.top_call.specs.Answers.{answered};
-ghost use Rattle.top_call.specs.Clauses.{AreWordsRefused, HasReadFailed, HasWriteFailed, IsComplete, IsDenied, IsDone, IsExplainedInput, IsIdle, IsLineRefused, IsOutOfMemory, IsStatus, SaysItsOwn, streams};
+ghost use Rattle.top_call.specs.Clauses.{AreWordsRefused, HasJudged, HasReadFailed, HasReplayed, HasWriteFailed, IsComplete, IsDenied, IsDone, IsIdle, IsLineRefused, IsOutOfMemory, IsStatus, SaysItsOwn, streams};
 
 use crate::checking::run_check;
 use crate::replaying::run_replay;
@@ -27,7 +27,8 @@ pub fn run<S: Source, O: Sink, E: Sink, D: Device>(
     ensures complete { IsComplete (answered (map string_bytes words.now)) (S.left input.old) (Rose (S.faults input.old) (S.faults input.new))
         (Rose (O.faults out.old) (O.faults out.new)) (Rose (E.faults err.old) (E.faults err.new)) result }
     ensures done { result ≡ 0 → IsDone (answered (map string_bytes words.now)) (streams (S.left input.old) (S.left input.new) (O.written out.old) (O.written out.new) (E.written err.old) (E.written err.new)) }
-    ensures explained { result ≡ 0 → IfSome (S.left input.old) (λ bytes. IsExplainedInput (command_of (map string_bytes words.now)) bytes) }
+    ensures replayed { result ≡ 0 → HasReplayed (command_of (map string_bytes words.now)) (streams (S.left input.old) (S.left input.new) (O.written out.old) (O.written out.new) (E.written err.old) (E.written err.new)) }
+    ensures judged { HasJudged (command_of (map string_bytes words.now)) result (streams (S.left input.old) (S.left input.new) (O.written out.old) (O.written out.new) (E.written err.old) (E.written err.new)) }
     ensures denied { result ≡ 1 → IsDenied (answered (map string_bytes words.now)) (streams (S.left input.old) (S.left input.new) (O.written out.old) (O.written out.new) (E.written err.old) (E.written err.new)) }
     ensures words { result ≡ 2 → AreWordsRefused (map string_bytes words.now) (streams (S.left input.old) (S.left input.new) (O.written out.old) (O.written out.new) (E.written err.old) (E.written err.new)) }
     ensures words_only { takes_words (map string_bytes words.now) ≡ false → IsIdle (streams (S.left input.old) (S.left input.new) (O.written out.old) (O.written out.new) (E.written err.old) (E.written err.new)) result }
@@ -36,9 +37,13 @@ pub fn run<S: Source, O: Sink, E: Sink, D: Device>(
     ensures write { result ≡ 5 → HasWriteFailed (answered (map string_bytes words.now)) (takes_words (map string_bytes words.now) ≡ false) (Rose (S.faults input.old) (S.faults input.new)) (O.faults out.old) (O.faults out.new) (E.faults err.old) (E.faults err.new) (streams (S.left input.old) (S.left input.new) (O.written out.old) (O.written out.new) (E.written err.old) (E.written err.new)) }
     ensures memory { result ≡ 8 → IsOutOfMemory (answered (map string_bytes words.now)) (takes_words (map string_bytes words.now) ≡ false) (Rose (S.faults input.old) (S.faults input.new)) (E.wants err.old) (E.wants err.new) (streams (S.left input.old) (S.left input.new) (O.written out.old) (O.written out.new) (E.written err.old) (E.written err.new)) }
     ensures verdict { SaysItsOwn (command_of (map string_bytes words.now)) result (streams (S.left input.old) (S.left input.new) (O.written out.old) (O.written out.new) (E.written err.old) (E.written err.new)) }
+    ensures quiet_reads { result ≤ 3 → S.faults input.new ≡ S.faults input.old }
+    ensures quiet_writes { result ≤ 4 → (O.faults out.new ≡ O.faults out.old) × (O.wants out.new ≡ O.wants out.old) }
+    ensures quiet_complaints { result ≤ 4 → (E.faults err.new ≡ E.faults err.old) × (E.wants err.new ≡ E.wants err.old) }
     ensures reads { S.faults input.old ≤ S.faults input.new }
     ensures writes { O.faults out.old ≤ O.faults out.new }
     ensures complains { E.faults err.old ≤ E.faults err.new }
+    ensures untouched { takes_words (map string_bytes words.now) ≡ false → (input.new ≡ input.old) × (out.new ≡ out.old) }
     ensures device { device.new ≡ device.old }
 {
     match read_words(alloc, words) {

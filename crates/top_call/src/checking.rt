@@ -1,9 +1,8 @@
 ghost use Rattle.std.specs.Prelude.{◌≡◌, ◌≢◌, ◌≤◌, ℕ, IfSome, Some};
 ghost use Rattle.command_line.specs.declared.command.Command.TheVariants as command;
 ghost use Rattle.outside.specs.Counting.{Rose};
-ghost use Rattle.permitted_claims.specs.Permitted.{IsPermitted};
 ghost use Rattle.top_call.specs.Answers.{answer_by};
-ghost use Rattle.top_call.specs.Clauses.{HasReadFailed, HasWriteFailed, IsComplete, IsDenied, IsDone, IsLineRefused, IsOutOfMemory, IsStatus, SaysVerdict, streams};
+ghost use Rattle.top_call.specs.Clauses.{HasReadFailed, HasWriteFailed, IsComplete, IsDenied, IsDone, IsLineRefused, IsOutOfMemory, IsStatus, Judges, SaysVerdict, streams};
 
 use crate::deny::deny;
 use crate::refuse::refuse;
@@ -27,7 +26,7 @@ pub(crate) fn run_check<S: Source, O: Sink, E: Sink>(
     ensures complete { IsComplete (answer_by (Some (command.Check stack))) (S.left input.old) (Rose (S.faults input.old) (S.faults input.new))
         (Rose (O.faults out.old) (O.faults out.new)) (Rose (E.faults err.old) (E.faults err.new)) result }
     ensures done { result ≡ 0 → IsDone (answer_by (Some (command.Check stack))) (streams (S.left input.old) (S.left input.new) (O.written out.old) (O.written out.new) (E.written err.old) (E.written err.new)) }
-    ensures explained { result ≡ 0 → IfSome (S.left input.old) (λ bytes. IsPermitted stack bytes) }
+    ensures judged { IfSome (S.left input.old) (Judges result stack) }
     ensures denied { result ≡ 1 → IsDenied (answer_by (Some (command.Check stack))) (streams (S.left input.old) (S.left input.new) (O.written out.old) (O.written out.new) (E.written err.old) (E.written err.new)) }
     ensures words { result ≢ 2 }
     ensures refused { result ≡ 3 → IsLineRefused (Some (command.Check stack)) (streams (S.left input.old) (S.left input.new) (O.written out.old) (O.written out.new) (E.written err.old) (E.written err.new)) }
@@ -35,6 +34,9 @@ pub(crate) fn run_check<S: Source, O: Sink, E: Sink>(
     ensures write { result ≡ 5 → HasWriteFailed (answer_by (Some (command.Check stack))) ⊥ (Rose (S.faults input.old) (S.faults input.new)) (O.faults out.old) (O.faults out.new) (E.faults err.old) (E.faults err.new) (streams (S.left input.old) (S.left input.new) (O.written out.old) (O.written out.new) (E.written err.old) (E.written err.new)) }
     ensures memory { result ≡ 8 → IsOutOfMemory (answer_by (Some (command.Check stack))) ⊥ (Rose (S.faults input.old) (S.faults input.new)) (E.wants err.old) (E.wants err.new) (streams (S.left input.old) (S.left input.new) (O.written out.old) (O.written out.new) (E.written err.old) (E.written err.new)) }
     ensures verdict { SaysVerdict result (O.written out.old) (O.written out.new) }
+    ensures quiet_reads { result ≤ 3 → S.faults input.new ≡ S.faults input.old }
+    ensures quiet_writes { result ≤ 4 → (O.faults out.new ≡ O.faults out.old) × (O.wants out.new ≡ O.wants out.old) }
+    ensures quiet_complaints { result ≤ 4 → (E.faults err.new ≡ E.faults err.old) × (E.wants err.new ≡ E.wants err.old) }
     ensures reads { S.faults input.old ≤ S.faults input.new }
     ensures writes { O.faults out.old ≤ O.faults out.new }
     ensures complains { E.faults err.old ≤ E.faults err.new }

@@ -5,7 +5,6 @@ mod answers;
 mod checking;
 mod deny;
 mod examples;
-mod laws;
 mod refuse;
 mod replaying;
 mod say;
@@ -13,7 +12,6 @@ mod status;
 
 pub use answers::run;
 pub use examples::{worked, worked_breaks, worked_verdicts};
-pub use laws::stacks_have_one_word;
 
 #[cfg(test)]
 mod check_tests;

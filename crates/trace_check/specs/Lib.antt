@@ -1,9 +1,2 @@
-pub mod Places
-pub mod Clusters
-pub mod Marks
-pub mod Schedules
-pub mod Backups
-pub mod Explaining
 pub mod Checks
 pub mod Outcomes
-pub mod Laws

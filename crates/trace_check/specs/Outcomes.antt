@@ -1,15 +1,17 @@
 -- What a check of the text that a source gives comes to.
-use Rattle.std.specs.Prelude.{◌≡◌, ℕ, List, [], Option, Some, None, Result, Ok, Err}
+use Rattle.std.specs.Prelude.{◌≡◌, ◌≢◌, ℕ, ◌≤◌, List, [], Option, Some, None, Result, Ok, Err, IfErr, IfSome}
 use Rattle.outside.specs.Counting.{Rose}
-use Rattle.line_reader.specs.Lines.{whole_lines}
+use Rattle.line_reader.specs.Lines.{lines_of, whole_lines}
 use Rattle.line_reader.specs.Outcomes.{BreaksOff}
 use Rattle.line_reader.specs.declared.fault.LineFault.{LineFault}
 use Rattle.check_text.specs.Outcomes.{IsDecidedBy}
 use Rattle.line_reader.specs.declared.fault.LineFault.TheVariants as line
 use Rattle.line_reader.specs.declared.why.Why.{Why}
+use Rattle.stacks.specs.Stack.{Stack}
+use Rattle.trace_check.specs.Checks.{checked_on, refused_on}
 use Rattle.trace_check.specs.declared.fault.CheckFault.{CheckFault}
 use Rattle.trace_check.specs.declared.fault.CheckFault.TheVariants as fault
-use Rattle.trace_check.specs.declared.verdict.Verdict.{Verdict}
+use Rattle.claim_verdicts.specs.declared.verdict.Verdict.{Verdict}
 
 -- a fault of a line as a fault of a check. The end of a text and a failed write never come here
 abbrev pub check_fault : LineFault → CheckFault
@@ -39,3 +41,11 @@ abbrev pub HasFault : ℕ → ℕ → CheckFault → Type 0
 HasFault faults faults' fault.Read = Rose faults faults'
 HasFault faults faults' (fault.Refused number why) = Unit {0}
 HasFault faults faults' fault.Memory = Unit {0}
+
+-- what a check of the text that a source gives comes to, on a stack whose traces may name so many nodes
+pub record ChecksText {I O G : Type 0} (nodes : ℕ) (st : Stack I O G) (left left' : Option (List ℕ)) (faults faults' : ℕ) (result : Result Verdict CheckFault) : Type 0 where
+  pub told : IfSome left (λ bytes. ComesTo (λ bs. checked_on nodes st (lines_of bs)) (refused_on nodes st) bytes left' result)
+  pub ahead : IfSome left (λ bytes. IfErr result (LooksAhead left' bytes))
+  pub quiet : result ≢ Err fault.Read → faults' ≡ faults
+  pub fault : IfErr result (HasFault faults faults')
+  pub counts : faults ≤ faults'

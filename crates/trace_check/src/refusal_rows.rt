@@ -37,7 +37,6 @@ pub fn worked_refusals()
     ensures order_alone { checked StackId.KvRaft (codes "below\norder\n") ≡ Err (2, Why.UnknownWord) }
     ensures order_of_no_request { checked StackId.KvRaft (codes "below\norder 7 01 get a\n") ≡ Err (2, Why.Text) }
     ensures refused_before_any_verdict { checked StackId.Lock (codes "out 1 locked\nbelow\nschedule 1 bag lock 2\ngrab\n") ≡ Err (4, Why.UnknownWord) }
-    ensures no_claims_yet { checked StackId.Table (codes "below\n") ≡ Err (1, Why.Header) }
 {}
 
 /// The lines of texts that broke off which are refused whatever follows them: a text that ends too early may still go on, and the
@@ -50,5 +49,4 @@ pub fn worked_breaks()
     ensures behind_another_header { refused_so_far StackId.KvPb (whole_lines (codes "below\nschedule 1 bag lock 2\nin")) ≡ Some (2, Why.Header) }
     ensures in_an_image { refused_so_far StackId.Kv (whole_lines (codes "below\nschedule 1 one kv 1\nin 0 get")) ≡ None }
     ensures in_an_order { refused_so_far StackId.KvRaft (whole_lines (codes "below\norder 7 01 get a\norder")) ≡ Some (2, Why.Text) }
-    ensures no_claims_yet { refused_so_far StackId.Table (whole_lines (codes "bel")) ≡ Some (1, Why.Header) }
 {}

@@ -7,4 +7,5 @@ pub mod LogExamples
 pub mod Logs
 pub mod Machines
 pub mod Nets
+pub mod Stacks
 pub mod Tokens

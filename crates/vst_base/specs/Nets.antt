@@ -1,5 +1,5 @@
 -- Which network has which kinds of step.
-use Rattle.std.specs.Prelude.{ℕ, Bool, nat_le}
+use Rattle.std.specs.Prelude.{Bool, true, false}
 use Rattle.vst_base.specs.declared.net.Net.{Net}
 use Rattle.vst_base.specs.declared.net.Net.TheVariants as net
 use Rattle.vst_base.specs.declared.step.Step.{Step}
@@ -16,24 +16,16 @@ kind_of (step.Lose k) = kind.Lose
 kind_of (step.Crash n) = kind.Crash
 kind_of (step.Reboot n) = kind.Reboot
 
--- from the kindest network to the worst
-abbrev pub level : Net → ℕ
-level net.One = 0
-level net.Bag = 1
-level net.Dup = 2
-level net.Fail = 3
-
--- the kindest network that has steps of the kind: one machine takes inputs, packets may be delivered
--- and timers fire on a bag, packets may be copied on dup, and be lost, and nodes crash and reboot, on fail
-abbrev pub first_net : StepKind → Net
-first_net kind.In = net.One
-first_net kind.Deliver = net.Bag
-first_net kind.Tick = net.Bag
-first_net kind.Dup = net.Dup
-first_net kind.Lose = net.Fail
-first_net kind.Crash = net.Fail
-first_net kind.Reboot = net.Fail
-
--- each network has what the kinder ones have
+-- one machine takes inputs; packets are delivered and timers fire on a bag; packets are copied too on dup; and on fail
+-- they are lost as well, and nodes crash and reboot
 abbrev pub has_kind : Net → StepKind → Bool
-has_kind n k = nat_le (level (first_net k)) (level n)
+has_kind net.One kind.In = true
+has_kind net.Bag kind.In = true
+has_kind net.Bag kind.Deliver = true
+has_kind net.Bag kind.Tick = true
+has_kind net.Dup kind.In = true
+has_kind net.Dup kind.Deliver = true
+has_kind net.Dup kind.Tick = true
+has_kind net.Dup kind.Dup = true
+has_kind net.Fail k = true
+has_kind n k = false

@@ -1,11 +1,12 @@
-ghost use Rattle.std.specs.Prelude.{◌≡◌, [], ◌∷◌, true, false, Some, None, filter, replicate, codes};
+ghost use Rattle.std.specs.Prelude.{◌≡◌, [], ◌∷◌, true, false, Some, None, filter, length, map, replicate, codes};
 ghost use Rattle.vst_base.specs.Examples.{kinds, counter};
 ghost use Rattle.vst_base.specs.Firsts.{first_of};
 ghost use Rattle.vst_base.specs.Machines.{fold, state_after};
 ghost use Rattle.vst_base.specs.Nets.{has_kind};
+ghost use Rattle.vst_base.specs.Stacks.{row_of, rows, stack_word};
 ghost use Rattle.vst_base.specs.Tokens.{is_token, token_of};
 
-use crate::{Net, StepKind, StepRefusal};
+use crate::{Net, StackId, StepKind, StepRefusal};
 
 /// The kinds of step of each network, first answers, and a counter's run.
 pub fn worked()
@@ -23,6 +24,16 @@ pub fn worked()
     ensures no_outputs { fold counter [] ≡ [] }
     ensures last_state { state_after counter 5 (3 ∷ 4 ∷ []) ≡ 12 }
     ensures first_state { state_after counter 5 [] ≡ 5 }
+{}
+
+/// Stacks: their words, their networks and their numbers of nodes.
+pub fn worked_stacks()
+    ensures as_many { length rows ≡ 6 }
+    ensures word { stack_word StackId.KvPbSeq ≡ codes "kv/pb/seq" }
+    ensures own_row { map (λ r. r.stack) rows ≡ StackId.Lock ∷ StackId.LockSeq ∷ StackId.KvPb ∷ StackId.KvPbSeq ∷ StackId.KvRaft ∷ StackId.Kv ∷ [] }
+    ensures lock_nodes { row_of StackId.Lock ≡ record { stack = StackId.Lock; net = Net.Bag; least = 2; most = 9 } }
+    ensures backup_nodes { row_of StackId.KvPbSeq ≡ record { stack = StackId.KvPbSeq; net = Net.Dup; least = 2; most = 2 } }
+    ensures cluster_nodes { row_of StackId.KvRaft ≡ record { stack = StackId.KvRaft; net = Net.Fail; least = 1; most = 9 } }
 {}
 
 /// Which bytes are tokens, at the borders of their number and of each byte.

@@ -17,13 +17,14 @@ mod raft_examples;
 mod request;
 mod seq;
 mod stack;
+mod stack_laws;
 mod step;
 mod token;
 mod what;
 
 pub use client::ClientId;
 pub use entry::{Entry, MAX_TERM};
-pub use examples::{worked, worked_tokens};
+pub use examples::{worked, worked_stacks, worked_tokens};
 pub use lock::{LockInput, LockMsg, LockOutput};
 pub use machine::Machine;
 pub use net::Net;
@@ -35,7 +36,8 @@ pub use raft_examples::{
 };
 pub use request::ReqId;
 pub use seq::SeqMsg;
-pub use stack::StackId;
+pub use stack::{StackId, StackRow};
+pub use stack_laws::stacks_have_one_word;
 pub use step::{Item, Step, StepKind, StepRefusal};
 pub use token::{Key, MAX_KEY, MAX_VALUE, Token, Value};
 pub use what::What;

@@ -1,9 +1,9 @@
 ghost use Rattle.std.specs.Prelude.{◌≡◌};
-ghost use Rattle.vst_base.specs.Nets.{first_net, has_kind, level};
+ghost use Rattle.vst_base.specs.Nets.{has_kind};
 
 use crate::StepKind;
 
-/// What a network may do, from the kindest to the worst. Each may do all that the ones before it do.
+/// A network, by what it does to packets and nodes.
 #[derive(Clone, Copy, Debug, PartialEq, Eq)]
 pub enum Net {
     /// A single machine, which takes inputs alone.
@@ -17,36 +17,18 @@ pub enum Net {
 }
 
 impl Net {
-    // Its place in the order from the kindest.
-    fn level(self) -> u8
-        ensures { result ≡ level self }
-    {
-        match self {
-            Net::One => 0,
-            Net::Bag => 1,
-            Net::Dup => 2,
-            Net::Fail => 3,
-        }
-    }
-
     /// Whether schedules of this network have steps of the kind.
     pub fn has(self, kind: StepKind) -> bool
         ensures { result ≡ has_kind self kind }
     {
-        kind.first_net().level() <= self.level()
-    }
-}
-
-impl StepKind {
-    /// The kindest network that has steps of this kind.
-    pub fn first_net(self) -> Net
-        ensures { result ≡ first_net self }
-    {
         match self {
-            StepKind::In => Net::One,
-            StepKind::Deliver | StepKind::Tick => Net::Bag,
-            StepKind::Dup => Net::Dup,
-            StepKind::Lose | StepKind::Crash | StepKind::Reboot => Net::Fail,
+            Net::One => kind == StepKind::In,
+            Net::Bag => matches!(kind, StepKind::In | StepKind::Deliver | StepKind::Tick),
+            Net::Dup => matches!(
+                kind,
+                StepKind::In | StepKind::Deliver | StepKind::Tick | StepKind::Dup
+            ),
+            Net::Fail => true,
         }
     }
 }

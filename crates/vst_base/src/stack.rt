@@ -1,3 +1,8 @@
+ghost use Rattle.std.specs.Prelude.{◌≡◌};
+ghost use Rattle.vst_base.specs.Stacks.{named_among, row_of, rows, stack_named, stack_word};
+
+use crate::{MAX_NODES, Net};
+
 /// The stacks of handlers, and the machines that also run alone.
 #[derive(Clone, Copy, Debug, PartialEq, Eq)]
 pub enum StackId {
@@ -11,12 +16,119 @@ pub enum StackId {
     KvPbSeq,
     /// The key-value store under Raft.
     KvRaft,
-    /// The lock table under primary-backup and sequence numbering.
-    TablePbSeq,
-    /// The lock table under Raft.
-    TableRaft,
     /// The key-value store alone.
     Kv,
-    /// The lock table alone.
-    Table,
+}
+
+/// A stack on its network, with the least and the greatest number of nodes that it runs on.
+#[derive(Clone, Copy, Debug, PartialEq, Eq)]
+pub struct StackRow {
+    pub stack: StackId,
+    pub net: Net,
+    pub least: u8,
+    pub most: u8,
+}
+
+// A lock server and its clients.
+const LOCK: StackRow = StackRow {
+    stack: StackId::Lock,
+    net: Net::Bag,
+    least: 2,
+    most: 9,
+};
+
+const LOCK_SEQ: StackRow = StackRow {
+    stack: StackId::LockSeq,
+    net: Net::Dup,
+    least: 2,
+    most: 9,
+};
+
+// A primary and its backup.
+const KV_PB: StackRow = StackRow {
+    stack: StackId::KvPb,
+    net: Net::Bag,
+    least: 2,
+    most: 2,
+};
+
+const KV_PB_SEQ: StackRow = StackRow {
+    stack: StackId::KvPbSeq,
+    net: Net::Dup,
+    least: 2,
+    most: 2,
+};
+
+const KV_RAFT: StackRow = StackRow {
+    stack: StackId::KvRaft,
+    net: Net::Fail,
+    least: 1,
+    most: MAX_NODES,
+};
+
+const KV: StackRow = StackRow {
+    stack: StackId::Kv,
+    net: Net::One,
+    least: 1,
+    most: 1,
+};
+
+const ROWS: &[StackRow] = &[LOCK, LOCK_SEQ, KV_PB, KV_PB_SEQ, KV_RAFT, KV];
+
+impl StackRow {
+    /// The stacks that there are.
+    pub fn all() -> &'static [StackRow]
+        ensures { result.now ≡ rows }
+    {
+        ROWS
+    }
+}
+
+// The stack of the first of these rows that has a word.
+fn named_among(rows: &[StackRow], word: &str) -> Option<StackId>
+    ensures { result ≡ named_among rows.now word.now }
+{
+    for row in rows {
+        if word == row.stack.word() {
+            return Some(row.stack);
+        }
+    }
+    None
+}
+
+impl StackId {
+    /// The stack of a word, where it names one.
+    pub fn named(word: &str) -> Option<Self>
+        ensures { result ≡ stack_named word.now }
+    {
+        named_among(StackRow::all(), word)
+    }
+
+    /// The word that names it, in the header of a schedule and on the command line.
+    pub fn word(self) -> &'static str
+        ensures { result.now ≡ stack_word self }
+    {
+        match self {
+            StackId::Lock => "lock",
+            StackId::LockSeq => "lock/seq",
+            StackId::KvPb => "kv/pb",
+            StackId::KvPbSeq => "kv/pb/seq",
+            StackId::KvRaft => "kv/raft",
+            StackId::Kv => "kv",
+        }
+    }
+
+    /// Its network and its numbers of nodes.
+    pub fn row(self) -> StackRow
+        ensures { result ≡ row_of self }
+    {
+        match self {
+            StackId::Lock => LOCK,
+            StackId::LockSeq => LOCK_SEQ,
+            StackId::KvPb => KV_PB,
+            StackId::KvPbSeq => KV_PB_SEQ,
+            StackId::KvRaft => KV_RAFT,
+            StackId::Kv => KV,
+        }
+    }
 }

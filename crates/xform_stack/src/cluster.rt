@@ -1,5 +1,7 @@
-ghost use Rattle.std.specs.Prelude.{◌≡◌, [], IfOk};
+ghost use Rattle.std.specs.Prelude.{◌≡◌, [], IfOk, length};
 ghost use Rattle.applied_order.specs.Orders.{IsSoundCluster};
+ghost use Rattle.net_semantics.specs.ShownFail.{ShowsFail};
+ghost use Rattle.net_semantics.specs.Worlds.{copies, ends};
 ghost use Rattle.raft_types.specs.Ranges.{IsClusterSize};
 ghost use Rattle.xform_stack.specs.Clusters.{HasFollowedCluster, cluster_of};
 
@@ -12,7 +14,7 @@ use raft_xform::{Raft, RaftState};
 use std::alloc::{AllocError, Global};
 use std::marker::Model;
 use trace_maps::Image;
-use vst_base::{Machine, Step};
+use vst_base::{Machine, Node, Step};
 
 /// A schedule of a machine on a cluster, on a network that fails, that is run one step at a time: the world so far, and the
 /// order of the requests that were executed so far.
@@ -52,6 +54,35 @@ impl<M: Machine> RunningCluster<M> {
             world: FailWorld::new(alloc, Raft::new(machine, nodes))?,
             order: AppliedOrder::new(alloc),
         })
+    }
+
+    /// How many copies of packet `k` are in flight, none of one that was never sent.
+    pub fn copies(&self, k: u32) -> u32
+        ensures { (w : _) → ShowsFail self.now.world.handlers.nodes self.now.world w → result ≡ copies w k }
+    {
+        self.world.copies(k)
+    }
+
+    /// The source and the destination of packet `k`, and `None` exactly where it was never sent.
+    pub fn ends(&self, k: u32) -> Option<(Node, Node)>
+        ensures { (w : _) → ShowsFail self.now.world.handlers.nodes self.now.world w → result ≡ ends w k }
+    {
+        self.world.ends(k)
+    }
+
+    /// How many packets were sent.
+    pub fn sent(&self) -> u32
+        requires sound { IsSoundCluster (M.meaning self.now.world.handlers.machine) self.now.world.handlers.nodes self.now.world }
+        ensures { (w : _) → ShowsFail self.now.world.handlers.nodes self.now.world w → result ≡ length w.packets }
+    {
+        self.world.sent()
+    }
+
+    /// Whether node `n` is up.
+    pub fn is_up(&self, n: Node) -> bool
+        ensures { (w : _) → ShowsFail self.now.world.handlers.nodes self.now.world w → result ≡ w.is_up n }
+    {
+        self.world.is_up(n)
     }
 }
 

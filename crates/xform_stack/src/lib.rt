@@ -19,7 +19,7 @@ pub use cluster::RunningCluster;
 pub use failing::run_fail;
 pub use laws::numbered_lock_excludes;
 pub use ran::{Ran, RunFault};
-pub use run::{run_bag, run_dup};
+pub use run::{run_bag, run_dup, run_mapped};
 pub use running::Running;
 pub use runs::Runs;
 pub use seqnum_xform::SeqNum;

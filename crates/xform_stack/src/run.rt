@@ -30,8 +30,9 @@ pub(crate) fn run_on<R: Runs>(
     Ok(running.finish())
 }
 
-// Runs a schedule of handlers on a network that stops no node, with its image by a map.
-pub(crate) fn run_mapped<H: Handlers, T: TraceMap<H>>(
+/// Runs a schedule of handlers on a network that stops no node: the trace, and its image by a map. The first step that the
+/// network refuses is answered with its place, the number of steps before it.
+pub fn run_mapped<H: Handlers, T: TraceMap<H>>(
     alloc: Global,
     handlers: H,
     net: Net,

@@ -13,13 +13,13 @@ invariant-loop-fault g l =
     let s = g.S.Source in
     record {
       told : (bytes : List ℕ) → s.left l.fn.source ≡ Some bytes
-          → ReadSoFar (form_of l.nodes g.A.AppText.input_of g.A.AppText.output_of l.heading g.G.ImageText.says) l.reader l.draft (s.left l.source) bytes;
-      headed : l.draft.stage ≡ stage.Image → IsHeaded l.heading l.draft.header;
+          → ReadSoFar (form_of l.nodes g.A.AppText.input_of g.A.AppText.output_of l.below g.G.ImageText.says) l.reader l.draft (s.left l.source) bytes;
+      headed : l.draft.stage ≡ stage.Image → IsHeaded l.below l.draft.header;
       counted : length l.draft.image ≤ 1000000;
       few : lines_of l.draft ≤ l.reader.number;
       number : l.reader.number ≤ l.reader.most;
       most : l.reader.most ≡ most_lines;
-      counts : s.faults l.fn.source ≤ s.faults l.source;
+      quiet : s.faults l.source ≡ s.faults l.fn.source;
     }
 
 abbrev pub decreases-loop-fault : goal.decreases-loop-fault

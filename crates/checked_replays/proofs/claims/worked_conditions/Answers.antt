@@ -1,6 +1,6 @@
 -- These print numbers, whose digits have to be computed, and look a key up in a store.
 use Rattle.std.specs.Fmt.{digits}
-use Rattle.trace_check.proofs.Lookups.{lookups}
+use Rattle.claim_verdicts.proofs.Lookups.{lookups}
 use Rattle.checked_replays.proofs.claims.worked_conditions.Goals as goal
 
 pub returns-clause-answers_before_the_backup : goal.returns-clause-answers_before_the_backup

@@ -32,7 +32,7 @@ loop-reader-init g c =
       most = ap (λ (v : ReaderView). v.most) same;
       events = ap (λ (v : ReaderView). v.events) same;
       ended = ap (λ (v : ReaderView). v.ended) same;
-      counts = omega arith;
+      quiet = refl;
     }
 
 pub returns-in_err-fill-clause-told : goal.returns-in_err-fill-clause-told
@@ -87,7 +87,7 @@ loop-reader-preserved g c =
       most = ap (λ (v : ReaderView). v.most) kept' ∙ (ap (λ (v : ReaderView). v.most) kept ∙ inv.most);
       events = ap (λ (v : ReaderView). v.events) kept' ∙ (ap (λ (v : ReaderView). v.events) kept ∙ inv.events);
       ended = ap (λ (v : ReaderView). v.ended) kept' ∙ ((c.in_ok-fill.ensures.going (ap Ok c.if-branch.true)).1 ∙ inv.ended);
-      counts = omega (arith, inv.counts, c.fill.ensures.counts);
+      quiet = c.in_ok-fill.ensures.quiet (λ e. cc) ∙ inv.quiet;
     }
 
 pub returns-in-TooLong-clause-told : goal.returns-in-TooLong-clause-told
@@ -114,7 +114,7 @@ returns-then-is_empty-clause-told g c = λ rest has.
     let s = g.S.Source in
     let kept = c.fill.ensures.kept in
     let begun = fills r r1 (s.left c.loop-reader.source) (s.left c.fill.new.source) rest (ap line_of kept) c.fill.ensures.told (inv.told rest has) in
-    at-end (Unit {0}) c.args.reader.now r1 (s.left c.fill.new.source) rest begun (sym c.line.ensures ∙ no-length c.line.result.now (sym c.is_empty.ensures ∙ c.if-is_empty.true)) (c.in_ok-fill.ensures.over (ap Ok c.if-branch.false))
+    at-end (Unit {0}) c.args.reader.now r1 (s.left c.fill.new.source) rest begun (sym c.line.ensures ∙ no-length c.line.result.now (sym c.is_empty.ensures ∙ c.if-is_empty.true)) (c.in_ok-fill.ensures.over (ap Ok c.if-branch.false)).1
 
 pub returns-clause-told : goal.returns-clause-told
 returns-clause-told g c = λ rest has.
@@ -128,7 +128,7 @@ returns-clause-told g c = λ rest has.
     by-end (Unit {0}) c.args.reader.now r1 c.end_line-2.new.self (s.left c.fill.new.source) rest c.end_line-2.result begun plain
     (omega (arith, inv.short, ap (λ (v : ReaderView). length v.line) kept))
     (omega (arith, ap length c.line.ensures, some-length c.line.result.now (sym c.is_empty.ensures ∙ c.if-is_empty.false)))
-    (c.in_ok-fill.ensures.over (ap Ok c.if-branch.false))
+    (c.in_ok-fill.ensures.over (ap Ok c.if-branch.false)).1
     (ap (λ (v : ReaderView). v.number) kept ∙ inv.number)
     (ap (λ (v : ReaderView). v.most) kept ∙ inv.most)
     c.end_line-2.ensures.ends

@@ -16,7 +16,7 @@ invariant-loop-reader g l =
       most : l.reader.most ≡ l.fn.reader.most;
       events : l.reader.events ≡ l.fn.reader.events;
       ended : l.reader.ended ≡ l.fn.reader.ended;
-      counts : s.faults l.fn.source ≤ s.faults l.source;
+      quiet : s.faults l.source ≡ s.faults l.fn.source;
     }
 
 abbrev pub decreases-loop-reader : goal.decreases-loop-reader

@@ -13,12 +13,13 @@ use Rattle.raft_text.specs.RaftTexts.{asked}
 use Rattle.raft_types.specs.declared.client.RaftInput.{RaftInput}
 use Rattle.raft_types.specs.declared.client.RaftOut.TheVariants as told
 use Rattle.line_reader.specs.declared.why.Why.{Why}
-use Rattle.trace_check.proofs.Lookups.{lookups}
-use Rattle.trace_check.specs.Checks.{checked, nodes_of}
-use Rattle.trace_check.specs.Clusters.{ClusterClaim}
-use Rattle.trace_check.specs.Schedules.{ScheduleClaim}
-use Rattle.trace_check.specs.declared.verdict.Verdict.{Verdict}
-use Rattle.trace_check.specs.declared.verdict.Verdict.TheVariants.{No, Yes}
+use Rattle.claim_verdicts.proofs.Lookups.{lookups}
+use Rattle.claim_verdicts.specs.Clusters.{ClusterClaim}
+use Rattle.claim_verdicts.specs.Schedules.{ScheduleClaim}
+use Rattle.claim_verdicts.specs.declared.verdict.Verdict.{Verdict}
+use Rattle.claim_verdicts.specs.declared.verdict.Verdict.TheVariants.{No, Yes}
+use Rattle.stacks.specs.Kinds.{IsWhatClientsSee, nodes_of}
+use Rattle.trace_check.specs.Checks.{checked}
 use Rattle.vst_base.specs.declared.lock.LockInput.{LockInput}
 use Rattle.vst_base.specs.declared.lock.LockInput.TheVariants as ask
 use Rattle.vst_base.specs.declared.lock.LockOutput.{LockOutput}
@@ -27,7 +28,6 @@ use Rattle.vst_base.specs.declared.net.Net.TheVariants as net
 use Rattle.vst_base.specs.declared.stack.StackId.TheVariants as stack
 use Rattle.vst_base.specs.declared.step.Item.TheVariants as item
 use Rattle.vst_base.specs.declared.step.Step.TheVariants as step
-use Rattle.permitted_claims.specs.Permitted.{IsWhatClientsSee}
 use Rattle.permitted_claims.proofs.examples.worked.Goals as goal
 
 abbrev put : RaftInput KvCmd
@@ -84,3 +84,11 @@ unfolding digits
 returns-clause-another_reply c = λ p.
     let text = codes "in 0 put a x\nout 0 a =y -\nbelow\nschedule 1 one kv 1\nin 0 put a x\n" in
     other-verdict (checked stack.KvPb text) ((c.permitted_claims_are_explained.ensures.explained stack.KvPb text).1 p) refl
+
+pub returns-clause-refused_step : goal.returns-clause-refused_step
+returns-clause-refused_step c = c.permitted_claims_are_explained.ensures.refuted stack.LockSeq (codes "in 1 lock\nbelow\nschedule 1 bag lock 2\nin 1 lock\ndeliver 1\n") 4 5 refl
+
+pub returns-clause-read_misses_the_write : goal.returns-clause-read_misses_the_write
+unfolding digits
+returns-clause-read_misses_the_write c =
+    c.permitted_claims_are_explained.ensures.refuted stack.Kv (codes "in 0 put a x\nout 0 a =x -\nin 0 get a\nout 0 a - -\nbelow\nschedule 1 one kv 1\nin 0 put a x\nin 0 get a\n") 5 4 (simp lookups)

@@ -1,36 +1,33 @@
 -- These print numbers, whose digits have to be computed.
-use Rattle.std.proofs.Common.{◌≡◌, ◌∷◌, [], List, Option, None, Some, ℕ, codes, map, refl}
+use Rattle.std.proofs.Common.{◌≡◌, ◌∷◌, [], List, Option, None, Some, ℕ, codes, refl}
 use Rattle.std.specs.Cmp.Lexicographic.{nat_list_cmp_total}
 use Rattle.std.specs.Cmp.{nat_cmp_total}
 use Rattle.std.specs.FinMap.{get-empty, get-insert, get-remove}
 use Rattle.std.specs.Fmt.{digits}
-use Rattle.app_text.specs.KvTexts as kv
+use Rattle.kv_machine.specs.Kv.{kv}
+use Rattle.lock_server.specs.Locks.{lock_server}
 use Rattle.kv_machine.specs.declared.cmd.KvCmd.{KvCmd}
 use Rattle.kv_machine.specs.declared.cmd.KvCmd.TheVariants as cmd
 use Rattle.kv_machine.specs.declared.out.KvOut.{KvOut}
 use Rattle.net_semantics.specs.BelowPb.{below_pb}
-use Rattle.schedule_text.specs.Printing.{step_text}
 use Rattle.trace_maps.specs.Replying.{alone}
 use Rattle.vst_base.specs.declared.pb_out.PbOut.{PbOut}
 use Rattle.vst_base.specs.declared.pb_out.PbOut.TheVariants as pb
 use Rattle.vst_base.specs.declared.step.Item.{Item}
 use Rattle.vst_base.specs.declared.lock.LockInput.{LockInput}
 use Rattle.vst_base.specs.declared.lock.LockInput.TheVariants as ask
-use Rattle.vst_base.specs.declared.lock.LockMsg.{LockMsg}
 use Rattle.vst_base.specs.declared.lock.LockOutput.{LockOutput}
 use Rattle.vst_base.specs.declared.lock.LockOutput.TheVariants as told
 use Rattle.vst_base.specs.declared.net.Net.TheVariants as net
-use Rattle.vst_base.specs.declared.seq.SeqMsg.{SeqMsg}
 use Rattle.vst_base.specs.declared.stack.StackId.TheVariants as stack
 use Rattle.vst_base.specs.declared.step.Item.TheVariants as item
 use Rattle.vst_base.specs.declared.step.Step.TheVariants as step
-use Rattle.lock_server.specs.declared.state.LockState.{LockState}
-use Rattle.net_semantics.specs.Runs.{first_refused}
-use Rattle.seqnum_xform.specs.Numbered.{Numbered}
 use Rattle.schedule_text.specs.Schedules.{Script}
-use Rattle.schedule_replay.specs.Replaying.{steps_of, trace_of}
-use Rattle.schedule_replay.specs.Replays.{kv_stack, kv_pb_seq_stack, lock_seq_stack}
-use Rattle.schedule_replay.specs.Stacks.{Stack}
+use Rattle.schedule_replay.specs.Replaying.{steps_of}
+use Rattle.stacks.specs.Kinds.{backed_numbered, by_itself, numbered}
+use Rattle.stacks.specs.Stack.{Play}
+use Rattle.stacks.specs.Table.{kv_texts, lock_texts}
+use Rattle.vst_base.specs.declared.step.Step.{Step}
 use Rattle.schedule_replay.proofs.Wholly.{whole-out, whole-out-by}
 use Rattle.number_set.specs.NumberSetLaws.{set_tests}
 use Rattle.schedule_replay.proofs.examples.worked.Goals as goal
@@ -75,13 +72,13 @@ copied_script = record {
   fault = None;
 }
 
-abbrev copied_stack : Stack (Numbered LockState) (Numbered LockState) LockInput LockOutput (SeqMsg LockMsg)
-copied_stack = lock_seq_stack (record { net = net.Dup; stack = stack.LockSeq; nodes = 2 })
+abbrev copied_stack : Play LockInput LockOutput (Step LockInput)
+copied_stack = (numbered stack.Lock lock_server lock_texts net.Dup 2).stack.play
 
-copied-allowed : first_refused copied_stack.net copied_stack.meaning copied_stack.recovery (steps_of copied_script) ≡ None
+copied-allowed : copied_stack.refused (steps_of copied_script) ≡ None
 copied-allowed = refl
 
-copied-trace : trace_of copied_stack (steps_of copied_script) ≡ item.Input 1 ask.Lock ∷ item.Output 1 told.Locked ∷ []
+copied-trace : copied_stack.trace (steps_of copied_script) ≡ item.Input 1 ask.Lock ∷ item.Output 1 told.Locked ∷ []
 copied-trace = simp set_tests
 
 pub returns-clause-copied : goal.returns-clause-copied
@@ -105,7 +102,10 @@ acked_script = record {
   fault = None;
 }
 
-acked-allowed : first_refused kv_pb_seq_stack.net kv_pb_seq_stack.meaning kv_pb_seq_stack.recovery (steps_of acked_script) ≡ None
+abbrev acked_stack : Play KvCmd (PbOut KvOut) (Step KvCmd)
+acked_stack = (backed_numbered stack.Kv kv kv_texts).stack.play
+
+acked-allowed : acked_stack.refused (steps_of acked_script) ≡ None
 acked-allowed = refl
 
 abbrev acked_items : List (Item KvCmd (PbOut KvOut))
@@ -114,12 +114,12 @@ acked_items =
     ∷ item.Output 0 (pb.Reply (record { key = codes "a"; after = Some (codes "x"); before = None }))
     ∷ item.Input 1 (cmd.Get (codes "a")) ∷ item.Output 1 pb.Redirect ∷ []
 
-acked-trace : trace_of kv_pb_seq_stack (steps_of acked_script) ≡ acked_items
+acked-trace : acked_stack.trace (steps_of acked_script) ≡ acked_items
 acked-trace = simp lookups_and_sets
 
 pub returns-clause-acknowledged_twice : goal.returns-clause-acknowledged_twice
 unfolding digits
-returns-clause-acknowledged_twice c = whole-out-by kv_pb_seq_stack acked_script refl acked-allowed (λ items. map (step_text kv.input_text) (alone (below_pb items))) refl acked_items acked-trace
+returns-clause-acknowledged_twice c = whole-out-by acked_stack acked_script refl acked-allowed (λ items. alone (below_pb items)) refl acked_items acked-trace
 
 -- each command of a machine alone is answered at once
 abbrev alone_script : Script KvCmd
@@ -130,7 +130,10 @@ alone_script = record {
   fault = None;
 }
 
-alone-allowed : first_refused kv_stack.net kv_stack.meaning kv_stack.recovery (steps_of alone_script) ≡ None
+abbrev alone_stack : Play KvCmd KvOut (Step KvCmd)
+alone_stack = (by_itself stack.Kv kv kv_texts).stack.play
+
+alone-allowed : alone_stack.refused (steps_of alone_script) ≡ None
 alone-allowed = refl
 
 abbrev said : Option (List ℕ) → Option (List ℕ) → Item KvCmd KvOut
@@ -142,12 +145,12 @@ alone_items =
     ∷ item.Input 0 (cmd.Cas (codes "a") (Some (codes "y")) (codes "z")) ∷ said (Some (codes "x")) (Some (codes "x"))
     ∷ item.Input 0 (cmd.Cad (codes "a") (codes "x")) ∷ said None (Some (codes "x")) ∷ item.Input 0 (cmd.Del (codes "a")) ∷ said None None ∷ []
 
-alone-trace : trace_of kv_stack (steps_of alone_script) ≡ alone_items
+alone-trace : alone_stack.trace (steps_of alone_script) ≡ alone_items
 alone-trace = simp lookups
 
 pub returns-clause-at_once : goal.returns-clause-at_once
 unfolding digits
-returns-clause-at_once c = whole-out kv_stack alone_script refl alone-allowed alone_items alone-trace
+returns-clause-at_once c = whole-out alone_stack alone_script refl alone-allowed alone_items alone-trace
 
 -- and of sessions, by the numbers of clients
 ruleset lookups_and_sessions = (get-empty, get-insert, get-remove, nat_list_cmp_total, nat_cmp_total)

@@ -1,7 +1,7 @@
 use Rattle.std.proofs.lemmas.Result.{err_from_is_err_and}
 use Rattle.outside.proofs.Wholes.{gained-both}
 use Rattle.schedule_text.specs.Printing.{lines_text}
-use Rattle.schedule_replay.specs.Finishing.{image_head}
+use Rattle.stacks.specs.ClaimTexts.{image_head}
 use Rattle.schedule_replay.proofs.Finishing.{front-none, front-first, front-second}
 use Rattle.schedule_replay.proofs.finish.finish.Goals as goal
 

@@ -1,9 +1,9 @@
-use Rattle.std.proofs.Common.{List, map, Ok, arith, ap, ◌∙◌, subst, refl}
+use Rattle.std.proofs.Common.{List, map, Ok, arith, ap, ◌∙◌, subst, sym, refl}
 use Rattle.std.proofs.lemmas.Result.{err_from_is_err_and}
 use Rattle.vst_base.specs.declared.step.Step.{Step}
 use Rattle.vst_base.specs.declared.step.Item.{Item}
 use Rattle.xform_stack.specs.Running.{HasRun, Progress, System}
-use Rattle.schedule_replay.specs.Stacks.{texts_of}
+use Rattle.stacks.specs.Stack.{texts_of}
 use Rattle.schedule_replay.specs.Playing.{TookStep}
 use Rattle.schedule_replay.proofs.Plays.{played-start, played-written, played-more, played-halts, played-front, playing-front}
 use Rattle.schedule_replay.proofs.play.play.Given as given
@@ -20,7 +20,7 @@ pub loop-halt-init : goal.loop-halt-init
 loop-halt-init g c =
     let r = g.R.Runs in
     let a = g.A.AppText in
-    let t = texts_of a.input_of a.input_text a.output_text a.replies in
+    let t = texts_of a.input_of a.input_text a.output_of a.output_text a.replies in
     let sys = r.system c.args.running.now in
     let v = c.args.running.now in
     record {
@@ -31,15 +31,16 @@ loop-halt-init g c =
       empty = c.requires.started.traced;
       played = played-start sys r.follows r.progress t v c.args.tally.now c.args.reader.now (g.S.Source.left c.args.source.now) (g.K.Sink.written c.args.sink.now) c.requires.started c.requires.tally;
       stays = λ is. is;
-      reads = omega arith;
-      writes = omega arith;
+      reads = refl;
+      writes = refl;
+      wants = refl;
     }
 
 pub returns-in_err-halt-clause-front : goal.returns-in_err-halt-clause-front
 returns-in_err-halt-clause-front g c =
     let r = g.R.Runs in
     let a = g.A.AppText in
-    let t = texts_of a.input_of a.input_text a.output_text a.replies in
+    let t = texts_of a.input_of a.input_text a.output_of a.output_text a.replies in
     let sys = r.system c.args.running.now in
     let p = err_from_is_err_and c.from_residual.result c.from_residual.ensures.1 in
     rw p.1 (λ i rest has. played-front sys r.follows r.progress t i c.loop-halt.running c.loop-halt.tally c.args.reader.now c.loop-halt.reader
@@ -49,7 +50,7 @@ pub returns-in-Some-clause-halted : goal.returns-in-Some-clause-halted
 returns-in-Some-clause-halted g c =
     let r = g.R.Runs in
     let a = g.A.AppText in
-    let t = texts_of a.input_of a.input_text a.output_text a.replies in
+    let t = texts_of a.input_of a.input_text a.output_of a.output_text a.replies in
     let sys = r.system c.args.running.now in
     let inv = c.loop-halt.invariant in
     let v = c.loop-halt.running in
@@ -67,7 +68,7 @@ pub returns-in_err-write_trace-clause-front : goal.returns-in_err-write_trace-cl
 returns-in_err-write_trace-clause-front g c =
     let r = g.R.Runs in
     let a = g.A.AppText in
-    let t = texts_of a.input_of a.input_text a.output_text a.replies in
+    let t = texts_of a.input_of a.input_text a.output_of a.output_text a.replies in
     let sys = r.system c.args.running.now in
     let p = err_from_is_err_and c.from_residual-in_err-write_trace.result c.from_residual-in_err-write_trace.ensures.1 in
     let inv = c.loop-halt.invariant in
@@ -90,7 +91,7 @@ pub loop-halt-preserved : goal.loop-halt-preserved
 loop-halt-preserved g c =
     let r = g.R.Runs in
     let a = g.A.AppText in
-    let t = texts_of a.input_of a.input_text a.output_text a.replies in
+    let t = texts_of a.input_of a.input_text a.output_of a.output_text a.replies in
     let sys = r.system c.args.running.now in
     let inv = c.loop-halt.invariant in
     let v = c.loop-halt.running in
@@ -117,6 +118,7 @@ loop-halt-preserved g c =
           (g.S.Source.left c.args.source.now) (g.S.Source.left c.take_step.new.source) out mid (g.K.Sink.written c.write_trace.new.sink)
           played wrote.ok wrote.forgets wrote.follows wrote.tally;
       stays = λ is. c.take_step.ensures.stays (inv.stays is);
-      reads = omega (arith, inv.reads, c.take_step.ensures.counts);
-      writes = omega (arith, inv.writes, c.write_trace.ensures.counts);
+      reads = c.take_step.ensures.quiet (λ e. let both = sym none ∙ e in cc) ∙ inv.reads;
+      writes = wrote.quiet.0 ∙ inv.writes;
+      wants = wrote.quiet.1 ∙ inv.wants;
     }

@@ -1,35 +1,36 @@
-use Rattle.std.proofs.Common.{◌≡◌, List, Option, subst, arith}
+use Rattle.std.proofs.Common.{◌≡◌, ℕ, List, Option, subst, arith}
 use Rattle.std.proofs.lemmas.Result.{err_from_is_err_and}
 use Rattle.vst_base.specs.declared.step.Step.{Step}
 use Rattle.schedule_text.specs.declared.header.Header.{Header}
 use Rattle.xform_stack.specs.Running.{System}
 use Rattle.schedule_replay.specs.Replays.{stack_so_far, stack_whole}
-use Rattle.schedule_replay.specs.Stacks.{ImageText, stack_of, texts_of}
+use Rattle.stacks.specs.Stack.{ImageTexts, image_of, play_of, texts_of}
+use Rattle.check_text.specs.declared.image_line.ImageLine.{ImageLine}
 use Rattle.schedule_replay.proofs.Endings.{rest-read, rest-refused, rest-finishing, rest-done, rest-fails, fails-cause}
 use Rattle.schedule_replay.proofs.rest.replay_rest.Given as given
 use Rattle.schedule_replay.proofs.rest.replay_rest.Goals as goal
 
 -- how the image below the trace is spelled
-abbrev image : (g : given.Over) → Option Header → ImageText g.row.L.Denot
-image g below = record { header = below; line = g.L.Printed.text }
+abbrev image : (g : given.Over) → Option Header → (List ℕ → ImageLine g.row.L.Denot) → ImageTexts g.row.L.Denot
+image g below says = image_of below g.L.Printed.text says
 
 abbrev SystemOf : given.Over → Type 0
 SystemOf g = System g.row.R-State.Denot g.row.R-Kept.Denot g.row.R-Input.Denot g.row.R-Output.Denot g.row.R-Msg.Denot g.row.L.Denot
 
 pub returns-in_err-halt-clause-told : goal.returns-in_err-halt-clause-told
-returns-in_err-halt-clause-told g c =
+returns-in_err-halt-clause-told g c = λ says rest has.
     let r = g.R.Runs in
     let a = g.A.AppText in
-    let t = texts_of a.input_of a.input_text a.output_text a.replies in
+    let t = texts_of a.input_of a.input_text a.output_of a.output_text a.replies in
     let sys = r.system c.args.running in
-    let i = image g c.args.below in
+    let i = image g c.args.below says in
     let old = c.args.reader.now in
     let p = err_from_is_err_and c.from_residual.result c.from_residual.ensures.1 in
     let y = c.in_err-halt.field-0.0 in
-    let st = stack_of sys t i in
+    let st = play_of sys t i in
     let out = g.K.Sink.written c.args.sink.now in
     let out' = g.K.Sink.written c.play.new.sink in
-    λ rest has. rw (p.1, p.2) (rest-fails (stack_whole st old) (stack_so_far st old) old.number rest (g.S.Source.left c.play.new.source) out out' _ _ y c.in_err-halt.ensures.fault (c.in_err-halt.ensures.front i rest has))
+    rw (p.1, p.2) (rest-fails (stack_whole st old) (stack_so_far st old) old.number rest (g.S.Source.left c.play.new.source) out out' _ _ y c.in_err-halt.ensures.fault (c.in_err-halt.ensures.front i rest has))
 
 pub returns-in_err-halt-clause-fault : goal.returns-in_err-halt-clause-fault
 returns-in_err-halt-clause-fault g c =
@@ -38,46 +39,46 @@ returns-in_err-halt-clause-fault g c =
     rw (p.1, p.2) (fails-cause c.args.reader.now.ended _ _ f f _ c.in_err-halt.field-0.0 (omega arith) c.in_err-halt.ensures.fault)
 
 pub returns-in-Read-clause-told : goal.returns-in-Read-clause-told
-returns-in-Read-clause-told g c =
+returns-in-Read-clause-told g c = λ says rest has.
     let r = g.R.Runs in
     let a = g.A.AppText in
-    let t = texts_of a.input_of a.input_text a.output_text a.replies in
+    let t = texts_of a.input_of a.input_text a.output_of a.output_text a.replies in
     let sys = r.system c.args.running in
-    let i = image g c.args.below in
+    let i = image g c.args.below says in
     let old = c.args.reader.now in
     let out = g.K.Sink.written c.args.sink.now in
     let mid = g.K.Sink.written c.play.new.sink in
     let left = g.S.Source.left c.args.source.now in
     let left' = g.S.Source.left c.play.new.source in
     let halted = c.in_ok-halt.ensures.halted i in
-    λ rest has. rest-read sys r.follows r.progress t i c.play.new.running c.play.new.tally old c.play.new.reader left left' out mid rest has (rw c.in-Read.is at halted)
+    rest-read sys r.follows r.progress t i c.play.new.running c.play.new.tally old c.play.new.reader left left' out mid rest has (rw c.in-Read.is at halted)
 
 pub returns-in-Refused-clause-told : goal.returns-in-Refused-clause-told
-returns-in-Refused-clause-told g c =
+returns-in-Refused-clause-told g c = λ says rest has.
     let r = g.R.Runs in
     let a = g.A.AppText in
-    let t = texts_of a.input_of a.input_text a.output_text a.replies in
+    let t = texts_of a.input_of a.input_text a.output_of a.output_text a.replies in
     let sys = r.system c.args.running in
-    let i = image g c.args.below in
+    let i = image g c.args.below says in
     let old = c.args.reader.now in
     let out = g.K.Sink.written c.args.sink.now in
     let mid = g.K.Sink.written c.play.new.sink in
     let left = g.S.Source.left c.args.source.now in
     let left' = g.S.Source.left c.play.new.source in
     let halted = c.in_ok-halt.ensures.halted i in
-    λ rest has. rest-refused sys r.follows r.progress t i c.play.new.running c.play.new.tally old c.play.new.reader left left' out mid rest has c.in-Refused.line c.in-Refused.why (rw c.in-Refused.is at halted)
+    rest-refused sys r.follows r.progress t i c.play.new.running c.play.new.tally old c.play.new.reader left left' out mid rest has c.in-Refused.line c.in-Refused.why (rw c.in-Refused.is at halted)
 
 pub returns-in_err-done-in-End-clause-told : goal.returns-in_err-done-in-End-clause-told
-returns-in_err-done-in-End-clause-told g c =
+returns-in_err-done-in-End-clause-told g c = λ says rest has.
     let r = g.R.Runs in
     let a = g.A.AppText in
-    let t = texts_of a.input_of a.input_text a.output_text a.replies in
+    let t = texts_of a.input_of a.input_text a.output_of a.output_text a.replies in
     let sys = r.system c.args.running in
-    let i = image g c.args.below in
+    let i = image g c.args.below says in
     let old = c.args.reader.now in
     let p = err_from_is_err_and c.from_residual-in_err-done-in-End.result c.from_residual-in_err-done-in-End.ensures.1 in
     let y = c.in_err-done-in-End.field-0.0 in
-    let st = stack_of sys t i in
+    let st = play_of sys t i in
     let out = g.K.Sink.written c.args.sink.now in
     let mid = g.K.Sink.written c.play.new.sink in
     let left = g.S.Source.left c.args.source.now in
@@ -86,7 +87,7 @@ returns-in_err-done-in-End-clause-told g c =
     let out' = g.K.Sink.written c.finish.new.sink in
     let shows = subst (λ (x : SystemOf g). (ss : List (Step g.row.R-Input.Denot)) → r.follows c.play.new.running ss → c.image.result.now ≡ x.image ss) c.in_ok-halt.ensures.system c.image.ensures in
     let more = c.in_err-done-in-End.ensures.err in
-    λ rest has. rw (p.1, p.2) (rest-fails (stack_whole st old) (stack_so_far st old) old.number rest left' out out' _ _ y c.in_err-done-in-End.ensures.fault
+    rw (p.1, p.2) (rest-fails (stack_whole st old) (stack_so_far st old) old.number rest left' out out' _ _ y c.in_err-done-in-End.ensures.fault
     (rest-finishing sys r.follows r.progress t i c.play.new.running c.play.new.tally old c.play.new.reader left left' out mid rest has c.image.result.now shows out' (rw c.in-End.is at halted) more))
 
 pub returns-in_err-done-in-End-clause-fault : goal.returns-in_err-done-in-End-clause-fault
@@ -96,12 +97,12 @@ returns-in_err-done-in-End-clause-fault g c =
     c.play.ensures.writes c.in_err-done-in-End.ensures.fault)
 
 pub returns-clause-told : goal.returns-clause-told
-returns-clause-told g c =
+returns-clause-told g c = λ says rest has.
     let r = g.R.Runs in
     let a = g.A.AppText in
-    let t = texts_of a.input_of a.input_text a.output_text a.replies in
+    let t = texts_of a.input_of a.input_text a.output_of a.output_text a.replies in
     let sys = r.system c.args.running in
-    let i = image g c.args.below in
+    let i = image g c.args.below says in
     let old = c.args.reader.now in
     let out = g.K.Sink.written c.args.sink.now in
     let mid = g.K.Sink.written c.play.new.sink in
@@ -109,4 +110,4 @@ returns-clause-told g c =
     let left' = g.S.Source.left c.play.new.source in
     let halted = c.in_ok-halt.ensures.halted i in
     let shows = subst (λ (x : SystemOf g). (ss : List (Step g.row.R-Input.Denot)) → r.follows c.play.new.running ss → c.image.result.now ≡ x.image ss) c.in_ok-halt.ensures.system c.image.ensures in
-    λ rest has. rest-done sys r.follows r.progress t i c.play.new.running c.play.new.tally old c.play.new.reader left left' out mid rest has c.image.result.now shows (g.K.Sink.written c.finish.new.sink) c.in_ok-done-in-End.done c.taken-events.result (rw c.in-End.is at halted) c.in_ok-done-in-End.ensures.ok c.in_ok-done-in-End.ensures.done c.taken-events.ensures
+    rest-done sys r.follows r.progress t i c.play.new.running c.play.new.tally old c.play.new.reader left left' out mid rest has c.image.result.now shows (g.K.Sink.written c.finish.new.sink) c.in_ok-done-in-End.done c.taken-events.result (rw c.in-End.is at halted) c.in_ok-done-in-End.ensures.ok c.in_ok-done-in-End.ensures.done c.taken-events.ensures

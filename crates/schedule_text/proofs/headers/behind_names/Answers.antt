@@ -1,6 +1,7 @@
 use Rattle.std.proofs.Common.{◌∙◌, ap}
 use Rattle.schedule_text.proofs.FrontLaws.{behind-both, behind-neither}
-use Rattle.schedule_text.specs.Headers.{behind, spaced, net_word, stack_word}
+use Rattle.schedule_text.specs.Headers.{behind, spaced, net_word}
+use Rattle.vst_base.specs.Stacks.{stack_word}
 use Rattle.schedule_text.proofs.headers.behind_names.Goals as goal
 
 pub returns-in-Some : goal.returns-in-Some

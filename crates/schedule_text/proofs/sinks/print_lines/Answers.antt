@@ -25,7 +25,8 @@ loop-line-preserved g c =
     record {
       lines = sending-more (λ y. as_line (g.P.Printed.text y)) (k.written c.args.sink.now) c.args.lines.now c.loop-line.line-index x c.loop-line-test.true c.line-item.is
           (k.written c.loop-line.sink) (k.written c.spill.new.sink) c.loop-line.text.items c.push_line.new.out.items c.spill.new.text.items c.loop-line.invariant.lines c.in_ok-push_line.ensures c.in_ok-spill.ensures.ok;
-      faults = c.in_ok-spill.ensures.quiet ∙ c.loop-line.invariant.faults;
+      faults = c.in_ok-spill.ensures.quiet.0 ∙ c.loop-line.invariant.faults;
+      wants = c.in_ok-spill.ensures.quiet.1 ∙ c.loop-line.invariant.wants;
     }
 
 pub returns-clause-ok : goal.returns-clause-ok

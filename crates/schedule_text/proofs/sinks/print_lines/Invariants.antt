@@ -10,4 +10,5 @@ invariant-loop-line g l =
     record {
       lines : Spilled (k.written l.fn.sink) (k.written l.sink) (lines_text g.P.Printed.text (take l.line-index l.lines)) l.text.items;
       faults : k.faults l.sink ≡ k.faults l.fn.sink;
+      wants : k.wants l.sink ≡ k.wants l.fn.sink;
     }

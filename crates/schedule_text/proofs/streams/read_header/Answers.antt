@@ -1,7 +1,7 @@
-use Rattle.std.proofs.Common.{◌+◌, ap, ◌∙◌, sym, arith}
+use Rattle.std.proofs.Common.{◌+◌, Err, ap, ◌∙◌, sym, arith}
 use Rattle.schedule_text.specs.Lines.{is_skipped}
 use Rattle.schedule_text.specs.Headers.{header_of}
-use Rattle.schedule_text.proofs.Streaming.{cause-before, header-cause, header-no-end, header-failed, header-read, header-missing, header-skips}
+use Rattle.schedule_text.proofs.Streaming.{cause-before, header-cause, header-no-end, header-other, header-failed, header-read, header-missing, header-skips}
 use Rattle.schedule_text.proofs.streams.read_header.Goals as goal
 
 pub returns-in-Err : goal.returns-in-Err
@@ -18,8 +18,9 @@ returns-in-Err g c =
       headed = λ e. header-no-end (new.number + 1) c.in-Err.fault cc;
       stays = λ is. c.next_line.ensures.stays (inv.stays is);
       kept = (c.next_line.ensures.kept.0 ∙ inv.most, c.next_line.ensures.kept.1 ∙ inv.events);
-      fault = header-cause c.args.reader.now (new.number + 1) _ _ c.in-Err.fault (cause-before c.args.reader.now c.loop-fault.reader _ _ _ c.in-Err.fault inv.stays inv.counts c.in-Err.ensures.fault);
-      counts = omega (arith, inv.counts, c.next_line.ensures.counts);
+      fault = header-cause c.args.reader.now (new.number + 1) _ _ c.in-Err.fault (cause-before c.args.reader.now c.loop-fault.reader _ _ _ c.in-Err.fault inv.stays (omega (arith, inv.quiet)) c.in-Err.ensures.fault);
+      quiet = λ other. c.in-Err.ensures.quiet (λ e. header-other (new.number + 1) c.in-Err.fault (λ f. other (ap Err f)) cc) ∙ inv.quiet;
+      counts = omega (arith, inv.quiet, c.next_line.ensures.counts);
     })
 
 pub returns-in-Some-clause-told : goal.returns-in-Some-clause-told
@@ -57,5 +58,5 @@ loop-fault-preserved g c =
       most = c.next_line.ensures.kept.0 ∙ inv.most;
       events = c.next_line.ensures.kept.1 ∙ inv.events;
       stays = λ is. c.next_line.ensures.stays (inv.stays is);
-      counts = omega (arith, inv.counts, c.next_line.ensures.counts);
+      quiet = c.in-Ok.ensures.quiet (λ e. cc) ∙ inv.quiet;
     }

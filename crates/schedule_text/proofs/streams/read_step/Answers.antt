@@ -16,7 +16,7 @@ loop-reader-init g c =
       most = refl;
       events = refl;
       stays = λ is. is;
-      counts = omega arith;
+      quiet = refl;
     }
 
 pub returns-in_err-next_line-clause-told : goal.returns-in_err-next_line-clause-told
@@ -44,7 +44,7 @@ loop-reader-preserved g c =
       most = c.next_line.ensures.kept.0 ∙ inv.most;
       events = c.next_line.ensures.kept.1 ∙ inv.events;
       stays = λ is. c.next_line.ensures.stays (inv.stays is);
-      counts = omega (arith, inv.counts, c.next_line.ensures.counts);
+      quiet = c.in_ok-next_line.ensures.quiet (λ e. cc) ∙ inv.quiet;
     }
 
 pub count_event-requires : goal.count_event-requires
@@ -77,7 +77,7 @@ returns-in-IsStep-clause-events g c =
     let few = (says-step g.A.AppText.input_of new.events new.line c.in-IsStep.step said).1 in
     let counted = ap (λ (v : ReaderView). v.events) c.count_event.ensures in
     let before = c.next_line.ensures.kept.1 ∙ c.loop-reader.invariant.events in
-    (omega (arith, counted, before), omega (arith, counted, few))
+    ((omega (arith, counted, before), omega (arith, counted, few)), tt)
 
 pub returns-in-Refused-clause-told : goal.returns-in-Refused-clause-told
 returns-in-Refused-clause-told g c = λ rest has.

@@ -1,7 +1,7 @@
 -- These print numbers, whose digits have to be computed, and look keys up.
 use Rattle.std.specs.Prelude.{refl}
 use Rattle.std.specs.Fmt.{digits}
-use Rattle.trace_check.proofs.Lookups.{lookups}
+use Rattle.claim_verdicts.proofs.Lookups.{lookups}
 use Rattle.trace_check.proofs.backup_rows.worked_backups.Goals as goal
 
 pub returns-clause-another_command : goal.returns-clause-another_command

@@ -1,6 +1,6 @@
 -- These print numbers, whose digits have to be computed, and look keys up.
 use Rattle.std.specs.Fmt.{digits}
-use Rattle.trace_check.proofs.Lookups.{lookups}
+use Rattle.claim_verdicts.proofs.Lookups.{lookups}
 use Rattle.trace_check.proofs.cluster_rows.worked_clusters.Goals as goal
 
 pub returns-clause-told_again_by_a_new_leader : goal.returns-clause-told_again_by_a_new_leader

@@ -1,0 +1,5 @@
+pub mod Stack
+pub mod ClaimTexts
+pub mod Kinds
+pub mod Explained
+pub mod Table

@@ -1,0 +1,82 @@
+ghost use Rattle.std.specs.Prelude.{◌≡◌, ◌≤◌, ◌+◌, [], IfOk, length, option_map};
+ghost use Rattle.check_text.specs.Claims.{Claim as SpecClaim};
+ghost use Rattle.check_text.specs.ImageLines.{IsHeaded};
+ghost use Rattle.stacks.specs.Stack.{AnyStack, Stack, any, image_of, play_of, texts_of};
+ghost use Rattle.xform_stack.specs.Running.{HasRun};
+
+use app_text::AppText;
+use check_text::{Claim, ImageText};
+use claim_verdicts::Verdict;
+use schedule_text::{Header, Printed};
+use std::alloc::{AllocError, Global};
+use xform_stack::Runs;
+
+/// The code of a stack.
+pub trait StackCode: Drop {
+    type Input: Drop;
+
+    type Output: Drop;
+
+    /// A line of the image.
+    type Line: Printed<Self::Text> + Drop;
+
+    /// How inputs and outputs are spelled.
+    type Text: AppText<Input = Self::Input, Output = Self::Output>;
+
+    /// How the lines of an image are read.
+    type Lines: ImageText<Line = Self::Line>;
+
+    /// A schedule that is run.
+    type Running: Runs<Input = Self::Input, Output = Self::Output, Line = Self::Line>;
+
+    /// The stack that this is the code of.
+    ghost stack: { Self → Stack Self.Input Self.Output Self.Line };
+
+    /// What it means that an image explains a trace.
+    ghost Explains: { Self → SpecClaim Self.Input Self.Output Self.Line → Type 0 };
+
+    /// Whether there may be so many nodes.
+    ghost ready: { Self → Type 0 };
+
+    /// The header of the image, where it has one.
+    fn below(&self) -> Option<Header>
+        ensures texts { (stack self.now).play.texts
+            ≡ texts_of Self.Text.input_of Self.Text.input_text Self.Text.output_of Self.Text.output_text Self.Text.replies }
+        ensures below { (stack self.now).play.below ≡ image_of result Self.Line.text Self.Lines.says };
+
+    /// No step yet.
+    fn start(self, alloc: Global) -> Result<Self::Running, AllocError>
+        requires ready { ready self }
+        ensures started { IfOk result (λ running.
+            HasRun (Self.Running.system running) Self.Running.follows Self.Running.progress [] [] running) }
+        ensures sound { IfOk result Self.Running.sound }
+        ensures runs { IfOk result (λ running.
+            (stack self).play ≡ play_of (Self.Running.system running) (stack self).play.texts (stack self).play.below) };
+
+    /// The verdict on a claim that was read.
+    fn verdict(
+        self,
+        alloc: Global,
+        claim: &Claim<Self::Input, Self::Output, Self::Line>,
+    ) -> Result<Verdict, AllocError>
+        requires few { length claim.now.trace + length claim.now.image ≤ 8000000 }
+        requires counted { length claim.now.image ≤ 1000000 }
+        requires headed { IsHeaded (option_map (λ h. h.stack) (stack self).play.below.header) claim.now.header }
+        ensures { IfOk result (λ verdict. verdict ≡ (stack self).verdict claim.now) };
+}
+
+/// What a command does on the code of any stack, with what is lent to it.
+pub trait OnStack<A, B, C> {
+    type Said;
+
+    /// When it may do that.
+    ghost ready: { Self → A → B → C → Type 0 };
+
+    /// What it makes of what is lent to it, and what it says.
+    ghost Does: { Self → AnyStack → A → B → C → A → B → C → Self.Said → Type 0 };
+
+    fn on<S: StackCode>(self, stack: S, a: &mut A, b: &mut B, c: &mut C) -> Self::Said
+        requires ready { ready self a.old b.old c.old }
+        requires stack { S.ready stack }
+        ensures { Does self (any (S.stack stack) (S.Explains stack)) a.old b.old c.old a.new b.new c.new result };
+}
