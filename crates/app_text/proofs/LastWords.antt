@@ -3,9 +3,13 @@ use Rattle.std.proofs.Common.{◌≡◌, ℕ, Bool, true, false, ◌&&◌, List,
 use Rattle.std.specs.Option.{option_and_then, option_map}
 use Rattle.std.proofs.lemmas.Bool.{and_right, false_from_ne_true, both_ways}
 use Rattle.kv_machine.specs.declared.cmd.KvCmd.TheVariants.{Cas}
-use Rattle.kv_machine.specs.declared.out.KvOut.{KvOut}
+use Rattle.lock_table.specs.Table.{told}
 use Rattle.vst_base.specs.Tokens.{is_token, token_of, is_key, is_value}
-use Rattle.app_text.specs.KvTexts.{key_of, key_and_value_of, cas_of, output_by_words, kv_out}
+use Rattle.app_text.specs.KvTexts.{cas_of, kv_out}
+use Rattle.app_text.specs.KvTexts as kv
+use Rattle.app_text.specs.TableTexts as table
+use Rattle.app_text.specs.TableTextLaws.{answer_read, answer_visible}
+use Rattle.app_text.specs.WordForms.{key_of, key_and_token_of, keyed_reply_of}
 use Rattle.app_text.specs.WordLaws.{token_visible, one_word, joined-words_of, optional_read, optional_visible}
 use Rattle.app_text.specs.Words.{words_of, joined, is_word, optional_of}
 
@@ -24,37 +28,46 @@ last_word {V} f w several hidden = by (is_word w) refl
 no_token : (most : ℕ) (w : List ℕ) → is_word w ≡ false → is_token most w ≡ false
 no_token most w none = false_from_ne_true (is_token most w) (λ token. both_ways (is_word w) none (token_visible most w token))
 
+-- what has a visible word is read of no other
+none_by : {X : Type 0} (w : List ℕ) (o : Option X) → ((x : X) → o ≡ Some x → is_word w ≡ true) → is_word w ≡ false → o ≡ None
+none_by w None visible none = refl
+none_by w (Some x) visible none = absurd (both_ways (is_word w) none (visible x refl))
+
 no_optional : (most : ℕ) (w : List ℕ) → is_word w ≡ false → optional_of most w ≡ None
-no_optional most w none = by (optional_of most w) refl
-  where
-    by : (o : Option (Option (List ℕ))) → optional_of most w ≡ o → o ≡ None
-    by None is = refl
-    by (Some o) is =
-        let read = optional_read most w o is in
-        absurd (both_ways (is_word w) none (ap is_word (sym read.text) ∙ optional_visible most o read.fits))
+no_optional most w none = none_by w (optional_of most w) (λ o is. let read = optional_read most w o is in ap is_word (sym read.text) ∙ optional_visible most o read.fits) none
+
+no_answer : (w : List ℕ) → is_word w ≡ false → table.answer_of w ≡ None
+no_answer w none = none_by w (table.answer_of w) (λ answer is. ap is_word (sym (answer_read w answer is)) ∙ answer_visible answer) none
 
 pub last_key : (w : List ℕ) → key_of (words_of w) ≡ token_of 64 w
 last_key w = last_word key_of w (λ x y more. refl) (λ none. ap (λ b. if b then Some w else None) (no_token 64 w none))
 
-pub last_value : (k w : List ℕ) → key_and_value_of (k ∷ words_of w) ≡ (if is_key k && is_value w then Some (k, w) else None)
-last_value k w =
-    last_word (λ ws. key_and_value_of (k ∷ ws)) w (λ x y more. refl)
-    (λ none. ap (λ b. if b then Some (k, w) else None) (and_right (is_key k) (is_value w) (no_token 1024 w none)))
+pub last_token : (most : ℕ) (k w : List ℕ) → key_and_token_of most (k ∷ words_of w) ≡ (if is_key k && is_token most w then Some (k, w) else None)
+last_token most k w =
+    last_word (λ ws. key_and_token_of most (k ∷ ws)) w (λ x y more. refl)
+    (λ none. ap (λ b. if b then Some (k, w) else None) (and_right (is_key k) (is_token most w) (no_token most w none)))
 
 pub last_of_cas : (k e w : List ℕ) → cas_of (k ∷ e ∷ words_of w) ≡ (if is_key k && is_value w then option_map (λ o. Cas k o w) (optional_of 1024 e) else None)
 last_of_cas k e w =
     last_word (λ ws. cas_of (k ∷ e ∷ ws)) w (λ x y more. refl)
     (λ none. ap (λ b. if b then option_map (λ o. Cas k o w) (optional_of 1024 e) else None) (and_right (is_key k) (is_value w) (no_token 1024 w none)))
 
-abbrev pub output_of_parts : List ℕ → Option (Option (List ℕ)) → Option (Option (List ℕ)) → Option KvOut
-output_of_parts k a b = if is_key k then option_and_then (λ after. option_map (λ before. kv_out k after before) b) a else None
+abbrev pub parts_of : {X O : Type 0} → (List ℕ → Option (List ℕ) → X → O) → List ℕ → Option (Option (List ℕ)) → Option X → Option O
+parts_of make k t w = if is_key k then option_and_then (λ token. option_map (λ last. make k token last) w) t else None
 
-pub last_of_output : (k a w : List ℕ) → output_by_words (k ∷ a ∷ words_of w) ≡ output_of_parts k (optional_of 1024 a) (optional_of 1024 w)
-last_of_output k a w =
-    last_word (λ ws. output_by_words (k ∷ a ∷ ws)) w (λ x y more. refl)
-    (λ none. ap (output_of_parts k (optional_of 1024 a)) (no_optional 1024 w none) ∙ nothing (is_key k) (optional_of 1024 a))
+last_of_reply : {X O : Type 0} (most : ℕ) (last_of : List ℕ → Option X) (make : List ℕ → Option (List ℕ) → X → O) (k t w : List ℕ) → (is_word w ≡ false → last_of w ≡ None)
+    → keyed_reply_of most last_of make (k ∷ t ∷ words_of w) ≡ parts_of make k (optional_of most t) (last_of w)
+last_of_reply {X} {O} most last_of make k t w no_last =
+    last_word (λ ws. keyed_reply_of most last_of make (k ∷ t ∷ ws)) w (λ x y more. refl)
+    (λ none. ap (parts_of make k (optional_of most t)) (no_last none) ∙ nothing (is_key k) (optional_of most t))
   where
-    nothing : (b : Bool) (o : Option (Option (List ℕ))) → (if b then option_and_then (λ after. option_map (λ before. kv_out k after before) None) o else None) ≡ None
+    nothing : (b : Bool) (o : Option (Option (List ℕ))) → (if b then option_and_then (λ token. option_map (λ last. make k token last) None) o else None) ≡ None
     nothing true None = refl
     nothing true (Some o) = refl
     nothing false o = refl
+
+pub last_of_kv_output : (k a w : List ℕ) → kv.output_by_words (k ∷ a ∷ words_of w) ≡ parts_of kv_out k (optional_of 1024 a) (optional_of 1024 w)
+last_of_kv_output k a w = last_of_reply 1024 (λ w. optional_of 1024 w) kv_out k a w (no_optional 1024 w)
+
+pub last_of_table_output : (l h w : List ℕ) → table.output_by_words (l ∷ h ∷ words_of w) ≡ parts_of told l (optional_of 64 h) (table.answer_of w)
+last_of_table_output l h w = last_of_reply 64 table.answer_of told l h w (no_answer w)

@@ -1,11 +1,12 @@
 -- The texts of the key-value machine's commands and outputs.
-use Rattle.std.specs.Prelude.{ℕ, Bool, ◌&&◌, List, [], ◌∷◌, Option, None, Some, codes, if◌then◌else◌}
-use Rattle.std.specs.Option.{option_and_then, option_map}
+use Rattle.std.specs.Prelude.{ℕ, Bool, ◌&&◌, List, [], ◌∷◌, Option, None, codes, if◌then◌else◌}
+use Rattle.std.specs.Option.{option_map}
 use Rattle.std.specs.Str.{bytes_eq}
 use Rattle.kv_machine.specs.declared.cmd.KvCmd.{KvCmd}
 use Rattle.kv_machine.specs.declared.cmd.KvCmd.TheVariants.{Get, Put, Del, Cas, Cad}
 use Rattle.kv_machine.specs.declared.out.KvOut.{KvOut}
-use Rattle.vst_base.specs.Tokens.{is_key, is_value, token_of}
+use Rattle.vst_base.specs.Tokens.{is_key, is_value}
+use Rattle.app_text.specs.WordForms.{key_of, key_and_token_of, keyed_reply_of}
 use Rattle.app_text.specs.Words.{words_of, joined, optional_text, optional_of, is_optional}
 
 -- the words of a command
@@ -24,15 +25,7 @@ is_command (Del k) = is_key k
 is_command (Cas k e v) = (is_key k && is_value v) && is_optional 1024 e
 is_command (Cad k v) = is_key k && is_value v
 
--- what stands behind a command's name: a key; a key and a value; a key, an optional value and a value
-abbrev pub key_of : List (List ℕ) → Option (List ℕ)
-key_of (k ∷ []) = token_of 64 k
-key_of _ = None
-
-abbrev pub key_and_value_of : List (List ℕ) → Option (List ℕ × List ℕ)
-key_and_value_of (k ∷ v ∷ []) = if is_key k && is_value v then Some (k, v) else None
-key_and_value_of _ = None
-
+-- what stands after `cas`: a key, the value that it is expected to have, if one is, and the value to set
 abbrev pub cas_of : List (List ℕ) → Option KvCmd
 cas_of (k ∷ e ∷ v ∷ []) = if is_key k && is_value v then option_map (λ e. Cas k e v) (optional_of 1024 e) else None
 cas_of _ = None
@@ -42,10 +35,10 @@ abbrev pub command_of : List (List ℕ) → Option KvCmd
 command_of [] = None
 command_of (name ∷ args) =
     if bytes_eq name (codes "get") then option_map (λ k. Get k) (key_of args)
-    else if bytes_eq name (codes "put") then option_map (λ p. Put p.0 p.1) (key_and_value_of args)
+    else if bytes_eq name (codes "put") then option_map (λ p. Put p.0 p.1) (key_and_token_of 1024 args)
     else if bytes_eq name (codes "del") then option_map (λ k. Del k) (key_of args)
     else if bytes_eq name (codes "cas") then cas_of args
-    else if bytes_eq name (codes "cad") then option_map (λ p. Cad p.0 p.1) (key_and_value_of args)
+    else if bytes_eq name (codes "cad") then option_map (λ p. Cad p.0 p.1) (key_and_token_of 1024 args)
     else None
 
 -- an output: its key, its value after and its value before
@@ -59,10 +52,7 @@ abbrev pub kv_out : List ℕ → Option (List ℕ) → Option (List ℕ) → KvO
 kv_out k after before = record { key = k; after = after; before = before }
 
 abbrev pub output_by_words : List (List ℕ) → Option KvOut
-output_by_words (k ∷ a ∷ b ∷ []) =
-    if is_key k then option_and_then (λ after. option_map (λ before. kv_out k after before) (optional_of 1024 b)) (optional_of 1024 a)
-    else None
-output_by_words _ = None
+output_by_words ws = keyed_reply_of 1024 (λ w. optional_of 1024 w) kv_out ws
 
 abbrev pub input_of : List ℕ → Option KvCmd
 input_of bs = command_of (words_of bs)

@@ -1,3 +1,4 @@
+pub mod Examples
 pub mod KvTextLaws
 pub mod KvTexts
 pub mod LockTextLaws
@@ -7,5 +8,9 @@ pub mod PbTexts
 pub mod Printing
 pub mod Reads
 pub mod Spelling
+pub mod TableTextLaws
+pub mod TableTexts
+pub mod WordFormLaws
+pub mod WordForms
 pub mod WordLaws
 pub mod Words

@@ -1,25 +1,19 @@
 -- Each input and output of the lock server has one text.
 use Rattle.std.specs.List.{list_any}
-use Rattle.std.specs.Prelude.{◌≡◌, ◌==◌, ℕ, Bool, true, false, List, None, Some, codes, refl, if◌then◌else◌}
-use Rattle.std.specs.Str.{bytes_eq}
-use Rattle.std.proofs.Common.{sym}
-use Rattle.std.proofs.lemmas.Slice.Eq.{bytes_eq-Decides}
+use Rattle.std.specs.Prelude.{◌≡◌, ◌==◌, ℕ, false, List, Some, refl}
 use Rattle.app_text.specs.LockTexts.{input_of, input_text, output_of, output_text}
 use Rattle.app_text.specs.Spelling.{IsSpelling}
+use Rattle.app_text.specs.WordLaws.{read_fixed}
 use Rattle.vst_base.specs.declared.lock.LockInput.{LockInput}
 use Rattle.vst_base.specs.declared.lock.LockInput.TheVariants.{Lock, Unlock}
 use Rattle.vst_base.specs.declared.lock.LockOutput.{LockOutput}
 use Rattle.vst_base.specs.declared.lock.LockOutput.TheVariants.{Locked}
 
--- by what the two comparisons gave
-one_input_text : (first second : Bool) (bs : List ℕ) (v : LockInput) → (first ≡ true → bs ≡ codes "lock") → (second ≡ true → bs ≡ codes "unlock") → (if first then Some Lock else if second then Some Unlock else None) ≡ Some v → input_text v ≡ bs
-one_input_text true second bs v is_lock is_unlock e = let spelled : input_text Lock ≡ bs = sym (is_lock refl) in cc
-one_input_text false true bs v is_lock is_unlock e = let spelled : input_text Unlock ≡ bs = sym (is_unlock refl) in cc
-one_input_text false false bs v is_lock is_unlock e = cc
+one_input_text : (bs : List ℕ) (v : LockInput) → input_of bs ≡ Some v → input_text v ≡ bs
+one_input_text bs v e = read_fixed input_text Lock (read_fixed input_text Unlock (λ none. cc)) e
 
-one_output_text : (same : Bool) (bs : List ℕ) (v : LockOutput) → (same ≡ true → bs ≡ codes "locked") → (if same then Some Locked else None) ≡ Some v → output_text v ≡ bs
-one_output_text true bs v is_locked e = let spelled : output_text Locked ≡ bs = sym (is_locked refl) in cc
-one_output_text false bs v is_locked e = cc
+one_output_text : (bs : List ℕ) (v : LockOutput) → output_of bs ≡ Some v → output_text v ≡ bs
+one_output_text bs v e = read_fixed output_text Locked (λ none. cc) e
 
 input_reads_back : (v : LockInput) → Unit {0} → input_of (input_text v) ≡ Some v
 input_reads_back Lock any = refl
@@ -37,7 +31,7 @@ output_one_line Locked any = refl
 
 pub inputs_are_spelled : IsSpelling (λ _. Unit {0}) input_of input_text
 inputs_are_spelled = record {
-  one_text = λ bs v e. one_input_text (bytes_eq bs (codes "lock")) (bytes_eq bs (codes "unlock")) bs v (bytes_eq-Decides bs (codes "lock")).0 (bytes_eq-Decides bs (codes "unlock")).0 e;
+  one_text = one_input_text;
   has_text = λ bs v e. tt;
   reads_back = input_reads_back;
   one_line = input_one_line;
@@ -45,7 +39,7 @@ inputs_are_spelled = record {
 
 pub outputs_are_spelled : IsSpelling (λ _. Unit {0}) output_of output_text
 outputs_are_spelled = record {
-  one_text = λ bs v e. one_output_text (bytes_eq bs (codes "locked")) bs v (bytes_eq-Decides bs (codes "locked")).0 e;
+  one_text = one_output_text;
   has_text = λ bs v e. tt;
   reads_back = output_reads_back;
   one_line = output_one_line;

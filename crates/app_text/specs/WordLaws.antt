@@ -16,10 +16,23 @@ use Rattle.vst_base.specs.Tokens.{is_token}
 use Rattle.app_text.specs.Spelling.{IsSpelling}
 use Rattle.app_text.specs.Words.{words_of, joined, is_word, optional_text, optional_of, is_optional}
 
+-- by the test whether it is the text of one value, or by those after it
+pub read_fixed : {V : Type 0} (text_of : V → List ℕ) (value : V) {bs : List ℕ} {v : V} {there : Option V} → (there ≡ Some v → text_of v ≡ bs)
+    → (if bytes_eq bs (text_of value) then Some value else there) ≡ Some v → text_of v ≡ bs
+read_fixed {V} text_of value {bs = bs} {v = v} {there = there} is_there e = by (bytes_eq bs (text_of value)) (bytes_eq-Decides bs (text_of value)).0 e
+  where
+    by : (same : Bool) → (same ≡ true → bs ≡ text_of value) → (if same then Some value else there) ≡ Some v → text_of v ≡ bs
+    by true same e = let is : value ≡ v = cc in ap text_of (sym is) ∙ sym (same refl)
+    by false same e = is_there e
+
+-- what was read of some words is spelled by them, and has a text
+pub record IsReadBy {V : Type 0} (HasText : V → Type 0) (words : V → List (List ℕ)) (ws : List (List ℕ)) (v : V) : Type 0 where
+  pub text : words v ≡ ws
+  pub has_text : HasText v
+
 -- how the values of a type are spelled in words
 pub record IsWordSpelling {V : Type 0} (HasText : V → Type 0) (value_by : List (List ℕ) → Option V) (words : V → List (List ℕ)) : Type 0 where
-  pub one_text : (ws : List (List ℕ)) (v : V) → value_by ws ≡ Some v → words v ≡ ws
-  pub has_text : (ws : List (List ℕ)) (v : V) → value_by ws ≡ Some v → HasText v
+  pub read : (ws : List (List ℕ)) (v : V) → value_by ws ≡ Some v → IsReadBy HasText words ws v
   pub reads_back : (v : V) → HasText v → value_by (words v) ≡ Some v
   pub some_word : (v : V) → words v ≢ []
   pub visible : (v : V) → HasText v → list_all is_word (words v) ≡ true
@@ -61,8 +74,8 @@ module _ {V : Type 0} {HasText : V → Type 0} {value_by : List (List ℕ) → O
 
   pub spelled_by_words : IsSpelling HasText (λ bs. value_by (words_of bs)) (λ v. joined (words v))
   spelled_by_words = record {
-    one_text = λ bs v e. ap joined (s.one_text (words_of bs) v e) ∙ joined-words_of bs;
-    has_text = λ bs v e. s.has_text (words_of bs) v e;
+    one_text = λ bs v e. ap joined (s.read (words_of bs) v e).text ∙ joined-words_of bs;
+    has_text = λ bs v e. (s.read (words_of bs) v e).has_text;
     reads_back = λ v has. ap value_by (cut_again v (words v) refl (s.visible v has)) ∙ s.reads_back v has;
     one_line = λ v has. one_line (words v) (s.visible v has);
   }

@@ -1,9 +1,10 @@
 ghost use Rattle.std.specs.Prelude.{◌≡◌, ◌++◌, IsTrue, OnErr, OnOk};
-ghost use Rattle.app_text.specs.KvTexts.{cas_of, command_of, input_text, is_command, key_and_value_of, key_of};
+ghost use Rattle.app_text.specs.KvTexts.{cas_of, command_of, input_text, is_command};
 ghost use Rattle.app_text.specs.Reads.{Reads};
 ghost use Rattle.app_text.specs.Words.{words_of};
 
 use crate::TextFault;
+use crate::arguments::{key, key_and_token};
 use crate::optional::{optional, own_token};
 use crate::printing::{optional_word, push_words};
 use crate::word::Word::Plain;
@@ -11,31 +12,6 @@ use crate::words::cut_word;
 use kv_machine::KvCmd;
 use std::alloc::{AllocError, Global};
 use vst_base::{Key, MAX_VALUE, Value};
-
-// A key, and nothing behind it.
-#[tactic(auto, using(crate::proofs::LastWords::last_key))]
-fn key(alloc: Global, args: &[u8]) -> Result<Key, TextFault>
-    ensures { Reads result (key_of (words_of args.now)) }
-{
-    if !Key::is_token(args) {
-        return Err(TextFault::NotText);
-    }
-    Ok(Key::from_token(alloc, args)?)
-}
-
-// A key and a value.
-#[tactic(auto, using(crate::proofs::LastWords::last_value))]
-fn key_and_value(alloc: Global, args: &[u8]) -> Result<(Key, Value), TextFault>
-    ensures { Reads result (key_and_value_of (words_of args.now)) }
-{
-    match cut_word(args) {
-        Some((key, value)) if Key::is_token(key) && Value::is_token(value) => Ok((
-            Key::from_token(alloc, key)?,
-            Value::from_token(alloc, value)?,
-        )),
-        _ => Err(TextFault::NotText),
-    }
-}
 
 // A key, the value that it is expected to have, if one is, and the value to set.
 #[tactic(auto, using(crate::proofs::LastWords::last_of_cas))]
@@ -68,13 +44,13 @@ pub fn read_command(alloc: Global, text: &[u8]) -> Result<KvCmd, TextFault>
     match name {
         b"get" => Ok(KvCmd::Get(key(alloc, args)?)),
         b"put" => {
-            let (key, value) = key_and_value(alloc, args)?;
+            let (key, value) = key_and_token(alloc, args)?;
             Ok(KvCmd::Put(key, value))
         }
         b"del" => Ok(KvCmd::Del(key(alloc, args)?)),
         b"cas" => cas(alloc, args),
         b"cad" => {
-            let (key, value) = key_and_value(alloc, args)?;
+            let (key, value) = key_and_token(alloc, args)?;
             Ok(KvCmd::Cad(key, value))
         }
         _ => Err(TextFault::NotText),

@@ -12,7 +12,7 @@ use std::alloc::{AllocError, Global};
 use vst_base::{Key, MAX_VALUE};
 
 // The output that a text spells.
-#[tactic(auto, using(crate::proofs::LastWords::last_of_output))]
+#[tactic(auto, using(crate::proofs::LastWords::last_of_kv_output))]
 pub fn read_kv_output(alloc: Global, text: &[u8]) -> Result<KvOut, TextFault>
     ensures { Reads result (output_by_words (words_of text.now)) }
 {

@@ -2,6 +2,7 @@
 //! read as it. It knows nothing of the lines that the texts stand in.
 #![tactic(auto)]
 
+mod arguments;
 mod examples;
 mod kv_commands;
 mod kv_examples;
@@ -11,6 +12,10 @@ mod lock_text;
 mod optional;
 mod pb_text;
 mod printing;
+mod table_commands;
+mod table_examples;
+mod table_outputs;
+mod table_text;
 mod text;
 mod word;
 mod words;
@@ -20,4 +25,9 @@ pub use kv_examples::{worked_commands, worked_outputs};
 pub use kv_text::KvText;
 pub use lock_text::LockText;
 pub use pb_text::{KvPbText, MachineText, PbText};
+pub use table_examples::{worked_table_commands, worked_table_outputs};
+pub use table_text::TableText;
 pub use text::{AppText, TextFault};
+
+#[cfg(test)]
+mod tests;

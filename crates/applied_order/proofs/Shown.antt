@@ -1,7 +1,7 @@
 -- Each state of a sound world keeps to what the handlers ask, since the world stands for one.
 use Rattle.std.proofs.Common.{◌≡◌, ℕ, zero, suc, ◌<◌, List, [], ◌∷◌, length, map, get_or, Option, None, Some, IfSome, IsSome, slice_get, refl, arith}
 use Rattle.std.specs.Prelude.{is_none}
-use Rattle.handler_trait.specs.Handling.{Meaning}
+use Rattle.handler_trait.specs.Facts.{RebootPromises}
 use Rattle.net_semantics.specs.Shown.{IsSoundPacket, Shown, ShowsAt}
 use Rattle.net_semantics.specs.ShownFail.{FailView, IsSoundFail, ShowsFail, kept_at}
 use Rattle.net_semantics.specs.Worlds.{Packet, World}
@@ -31,26 +31,28 @@ module _ {M : Type 0} (any : M) where
       record { source = refl; destination = refl; copies = refl; content = λ h. content_is p.content ((sound 0).content h) }
   shows_packets nodes taken (p ∷ ps) sound (suc k) = shows_packets nodes taken ps (λ j. sound (suc j)) k
 
-module _ {H S K I O M : Type 0} (m : Meaning S I O M) (sound : ℕ → S → Type 0) (spent : S → ℕ) (fits : K → Type 0)
-    (v : FailView H S K I O M) (is : IsSoundFail m sound spent fits v) (any : M) where
+module _ {H S K I O M : Type 0} (h : RebootPromises S K I O M) (v : FailView H S K I O M) (is : IsSoundFail h v) (any : M) where
+  abbrev pub nodes : ℕ
+  nodes = h.handlers.meaning.nodes
+
   -- a world that the view stands for
   abbrev shown : S → World S K M
   shown first = record {
     state = λ n. get_or v.states n first;
-    is_up = λ n. is_none (kept_at (slice_get v.kept n));
-    kept = λ n. kept_at (slice_get v.kept n);
+    is_up = λ n. is_none (kept_at (slice_get v.stopped n));
+    kept = λ n. kept_at (slice_get v.stopped n);
     packets = map (packet_of any) v.packets;
   }
 
-  shows : (first : S) → ShowsFail m.nodes v (shown first)
+  shows : (first : S) → ShowsFail nodes v (shown first)
   shows first = record {
     states = λ n h. got v.states n first (omega (arith, is.world.nodes));
     kept = λ n. refl;
     up = λ n. refl;
-    packets = shows_packets any m.nodes v.taken v.packets is.world.packets;
+    packets = shows_packets any nodes v.taken v.packets is.world.packets;
   }
 
-  pub state_is_sound : (n : ℕ) (s : S) → n < m.nodes → ((w : World S K M) → ShowsFail m.nodes v w → s ≡ w.state n) → sound n s
+  pub state_is_sound : (n : ℕ) (s : S) → n < nodes → ((w : World S K M) → ShowsFail nodes v w → s ≡ w.state n) → h.handlers.sound n s
   state_is_sound n s below tells =
       let known = rw ((shows s).states n below) at (is.world.states n) in
       rw (tells (shown s) (shows s)) known.keeps

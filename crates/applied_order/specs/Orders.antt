@@ -3,6 +3,7 @@ use Rattle.std.specs.Prelude.{◌≡◌, ℕ, suc, ◌+◌, ◌<◌, Bool, false
 use base.Stored.{coded_unit}
 use Rattle.std.specs.Coded.{Coded, code_by, coded×, coded_list, coded_ℕ}
 use Rattle.std.specs.FinMap.{get, insert}
+use Rattle.handler_trait.specs.Facts.{RebootPromises}
 use Rattle.net_semantics.specs.ShownFail.{FailView, IsSoundFail, ShowsFail}
 use Rattle.vst_base.specs.Machines.{MachineMeaning}
 use Rattle.vst_base.specs.declared.entry.Entry.{Entry}
@@ -17,7 +18,7 @@ use Rattle.raft_types.specs.declared.client.RaftInput.{RaftInput}
 use Rattle.raft_types.specs.declared.client.RaftOut.{RaftOut}
 use Rattle.raft_types.specs.declared.msg.RaftMsg.{RaftMsg}
 use Rattle.raft_xform.specs.Nodes.{RaftView}
-use Rattle.raft_xform.specs.Raft.{raft}
+use Rattle.raft_xform.specs.Raft.{raft, raft_recovery}
 use Rattle.raft_xform.specs.Sound.{IsSoundNode}
 
 -- how many entries there are, the last request of each client that was executed, as a session with no output, the
@@ -70,11 +71,18 @@ abbrev pub with_entry : {C : Type 0} → OrderView C → Option (RaftInput C) �
 with_entry o None = counted o
 with_entry o (Some r) = if is_new (get o.sessions r.client) r.request then with_executed o r else counted o
 
+-- what the nodes of a cluster promise of their states and of what they keep
+abbrev pub cluster_promises : {S C O : Type 0} → MachineMeaning S C O → ℕ → RebootPromises (RaftView S C O) (KeptView C) (RaftInput C) (RaftOut O) (RaftMsg C)
+cluster_promises m nodes = record {
+  handlers = record { meaning = raft nodes m; sound = IsSoundNode nodes; spent = λ _. 0 };
+  recovery = raft_recovery m;
+  fits = λ kept. IfSome kept.voted (λ node. node < nodes);
+}
+
 -- what holds of a world of a cluster when it is made and after each step that doesn't answer want of memory
 abbrev pub IsSoundCluster : {H S C O : Type 0} → MachineMeaning S C O → ℕ →
     FailView H (RaftView S C O) (KeptView C) (RaftInput C) (RaftOut O) (RaftMsg C) → Type 0
-IsSoundCluster m nodes world =
-    IsSoundFail (raft nodes m) (IsSoundNode nodes) (λ _. 0) (λ kept. IfSome kept.voted (λ node. node < nodes)) world
+IsSoundCluster m nodes world = IsSoundFail (cluster_promises m nodes) world
 
 -- where the world is the one after the steps and one more, and the steps were followed, so is the one more
 abbrev pub FollowsStep : {H S C O : Type 0} → MachineMeaning S C O → ℕ →

@@ -1,5 +1,6 @@
 ghost use Rattle.std.specs.Prelude.{◌<◌, length, vec_len, IfOk};
 ghost use Rattle.raft_types.specs.Ranges.{IsClusterSize};
+ghost use Rattle.vst_base.specs.declared.step.TheConstants.{MAX_STEPS};
 
 use super::*;
 use kv_machine::{KvCmd, KvMachine};
@@ -122,7 +123,7 @@ fn step_of(alloc: Global, row: &Step<Row>) -> Result<Step<RaftInput<KvCmd>>, Fai
 
 // The steps of these rows.
 fn steps_of(alloc: Global, rows: &[Step<Row>]) -> Result<Vec<Step<RaftInput<KvCmd>>>, Fail>
-    ensures { IfOk result (λ steps. vec_len steps < 1000000) }
+    ensures { IfOk result (λ steps. vec_len steps < MAX_STEPS) }
 {
     let mut steps = Vec::new(alloc);
     for row in rows {
@@ -140,7 +141,7 @@ fn followed<M: Machine>(
     cluster: Raft<M>,
     steps: &[Step<RaftInput<M::Cmd>>],
 ) -> Result<(AppliedOrder<M::Cmd>, Vec<usize>), Fail>
-    requires { length steps.now < 1000000 }
+    requires { length steps.now < MAX_STEPS }
 {
     let mut world = FailWorld::new(alloc, cluster)?;
     let mut order = AppliedOrder::new(alloc);

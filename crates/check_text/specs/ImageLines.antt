@@ -14,6 +14,7 @@ use Rattle.schedule_text.specs.Reading.{number_in, parts_of, step_of}
 use Rattle.check_text.specs.declared.image_line.ImageLine.{ImageLine}
 use Rattle.check_text.specs.declared.image_line.ImageLine.TheVariants.{Says, Refused}
 use Rattle.check_text.specs.TraceLines.{most_lines}
+use Rattle.vst_base.specs.declared.step.TheConstants.{MAX_STEPS}
 
 -- an image has a header where it is a schedule of some stack
 abbrev pub has_header : Option StackId → Bool
@@ -69,7 +70,7 @@ module _ {X : Type 0} where
 
   -- what a line of an image is behind so many others, where a line says this
   abbrev pub counted_line : (List ℕ → ImageLine X) → ℕ → List ℕ → ImageLine X
-  counted_line says count line = image_unless (first_of ((why.TooManyEvents, nat_le 1000000 count) ∷ [])) (says line)
+  counted_line says count line = image_unless (first_of ((why.TooManyEvents, nat_le MAX_STEPS count) ∷ [])) (says line)
 
   abbrev pub line_of_image : (List ℕ → ImageLine X) → ℕ → ℕ → List ℕ → ImageLine X
   line_of_image says number count line = image_unless (first_of (line_refusals most_lines number line)) (counted_line says count line)

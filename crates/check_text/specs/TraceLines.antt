@@ -10,10 +10,12 @@ use Rattle.schedule_text.specs.Words.{cut, is_text}
 use Rattle.schedule_text.specs.Reading.{number_of}
 use Rattle.check_text.specs.declared.trace_line.TraceLine.{TraceLine}
 use Rattle.check_text.specs.declared.trace_line.TraceLine.TheVariants.{Below, IsItem, Refused}
+use Rattle.vst_base.specs.declared.step.TheConstants.{MAX_STEPS}
+use Rattle.check_text.specs.declared.reading.TheConstants.{MAX_LINES}
 
 -- the greatest number of a line of a claim
 abbrev pub most_lines : ℕ
-most_lines = 8000000
+most_lines = MAX_LINES
 
 -- what stands before the first space, or the whole line
 abbrev pub front_of : List ℕ → Option (List ℕ × List ℕ) → List ℕ
@@ -87,7 +89,7 @@ module _ {I O : Type 0} (input_of : List ℕ → Option I) (output_of : List ℕ
   -- and behind so many inputs
   abbrev pub counted_says : ℕ → ℕ → List ℕ → TraceLine I O
   counted_says nodes inputs line =
-      trace_unless (first_of ((why.TooManyEvents, begins_as_input line && nat_le 1000000 inputs) ∷ [])) (trace_says nodes line)
+      trace_unless (first_of ((why.TooManyEvents, begins_as_input line && nat_le MAX_STEPS inputs) ∷ [])) (trace_says nodes line)
 
   -- what the line of this number is
   abbrev pub trace_line : ℕ → ℕ → ℕ → List ℕ → TraceLine I O

@@ -5,10 +5,10 @@ ghost use Rattle.line_reader.specs.Slices.{one};
 use crate::{ImageLine, ImageText};
 use app_text::{AppText, TextFault};
 use line_reader::cut_at;
-use schedule_text::{Header, Line, MAX_EVENTS, SPACE, Why, header_of, line_says};
+use schedule_text::{Header, Line, SPACE, Why, header_of, line_says};
 use std::alloc::{AllocError, Global};
 use std::marker::PhantomData;
-use vst_base::{StackId, Step, stacks_have_one_word};
+use vst_base::{MAX_STEPS, StackId, Step, stacks_have_one_word};
 
 /// The lines of a schedule, by the texts of its inputs.
 pub struct Steps<A> {
@@ -99,7 +99,7 @@ pub(crate) fn counted_line<G: ImageText>(
 ) -> Result<ImageLine<G::Line>, AllocError>
     ensures { IfOk result (λ said. said ≡ counted_line G.says count line.now) }
 {
-    if count >= MAX_EVENTS as usize {
+    if count >= MAX_STEPS as usize {
         return Ok(ImageLine::Refused(Why::TooManyEvents));
     }
     G::read_line(alloc, line)

@@ -2,6 +2,7 @@ ghost use Rattle.std.specs.Prelude.{◌≡◌, ◌≢◌, ◌+◌, ◌≤◌, Er
 ghost use Rattle.check_text.specs.Forms.{form_of};
 ghost use Rattle.check_text.specs.ImageLines.{IsHeaded};
 ghost use Rattle.check_text.specs.Outcomes.{HasReadFault, LooksAhead, ReadsClaim};
+ghost use Rattle.vst_base.specs.declared.step.TheConstants.{MAX_STEPS};
 
 use crate::draft::Draft;
 use crate::taking::{end_claim, take_line};
@@ -26,9 +27,9 @@ pub fn read_claim<A: AppText, G: ImageText, S: Source>(
 ) -> Result<Claim<A::Input, A::Output, G::Line>, LineFault>
     ensures told { IfSome (S.left source.old) (λ bytes. ReadsClaim (form_of nodes A.input_of A.output_of below G.says) (S.left source.new) bytes result) }
     ensures ahead { IfSome (S.left source.old) (λ bytes. IfErr result (LooksAhead (S.left source.new) bytes)) }
-    ensures few { IfOk result (λ claim. length claim.trace + length claim.image ≤ 8000000) }
+    ensures few { IfOk result (λ claim. length claim.trace + length claim.image ≤ MAX_LINES) }
     ensures headed { IfOk result (λ claim. IsHeaded below claim.header) }
-    ensures counted { IfOk result (λ claim. length claim.image ≤ 1000000) }
+    ensures counted { IfOk result (λ claim. length claim.image ≤ MAX_STEPS) }
     ensures fault { IfErr result (HasReadFault (S.faults source.old) (S.faults source.new)) }
     ensures quiet { result ≢ Err LineFault.Read → S.faults source.new ≡ S.faults source.old }
     ensures counts { S.faults source.old ≤ S.faults source.new }

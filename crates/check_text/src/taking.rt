@@ -3,6 +3,7 @@ ghost use Rattle.vst_base.specs.declared.stack.StackId.{StackId as SpecId};
 ghost use Rattle.check_text.specs.Drafts.{EndsBy, Finishes, IsStaged, TakesLine, lines_of};
 ghost use Rattle.check_text.specs.Forms.{form_of};
 ghost use Rattle.check_text.specs.ImageLines.{IsHeaded, has_header};
+ghost use Rattle.vst_base.specs.declared.step.TheConstants.{MAX_STEPS};
 
 use crate::draft::Draft;
 use crate::image_lines::{counted_line, image_header};
@@ -34,7 +35,7 @@ fn take_trace_line<A: AppText, G: ImageText>(
     requires staged { IsStaged draft.old }
     ensures takes { IfOk result (TakesLine (form_of nodes A.input_of A.output_of below G.says) draft.old draft.new line.now) }
     ensures grows { OnOk result (lines_of draft.new ≤ lines_of draft.old + 1) }
-    ensures counted { length draft.old.image ≤ 1000000 → OnOk result (length draft.new.image ≤ 1000000) }
+    ensures counted { length draft.old.image ≤ MAX_STEPS → OnOk result (length draft.new.image ≤ MAX_STEPS) }
     ensures headed { (draft.old.stage ≡ Stage.Image → IsHeaded below draft.old.header) → OnOk result (draft.new.stage ≡ Stage.Image → IsHeaded below draft.new.header) }
 {
     match counted_says::<A>(alloc, nodes, draft.inputs(), line)? {
@@ -61,7 +62,7 @@ fn take_header<A: AppText, G: ImageText>(
     requires staged { IsStaged draft.old }
     ensures takes { TakesLine (form_of nodes A.input_of A.output_of below G.says) draft.old draft.new line.now result }
     ensures grows { lines_of draft.new ≤ lines_of draft.old + 1 }
-    ensures counted { length draft.old.image ≤ 1000000 → length draft.new.image ≤ 1000000 }
+    ensures counted { length draft.old.image ≤ MAX_STEPS → length draft.new.image ≤ MAX_STEPS }
     ensures headed { (draft.old.stage ≡ Stage.Image → IsHeaded below draft.old.header) → draft.new.stage ≡ Stage.Image → IsHeaded below draft.new.header }
 {
     match image_header(below, line) {
@@ -84,7 +85,7 @@ fn take_image_line<A: AppText, G: ImageText>(
     requires stage { draft.old.stage ≡ Stage.Image }
     ensures takes { IfOk result (TakesLine (form_of nodes A.input_of A.output_of below G.says) draft.old draft.new line.now) }
     ensures grows { OnOk result (lines_of draft.new ≤ lines_of draft.old + 1) }
-    ensures counted { length draft.old.image ≤ 1000000 → OnOk result (length draft.new.image ≤ 1000000) }
+    ensures counted { length draft.old.image ≤ MAX_STEPS → OnOk result (length draft.new.image ≤ MAX_STEPS) }
     ensures headed { (draft.old.stage ≡ Stage.Image → IsHeaded below draft.old.header) → OnOk result (draft.new.stage ≡ Stage.Image → IsHeaded below draft.new.header) }
 {
     match counted_line::<G>(alloc, draft.image_lines(), line)? {
@@ -106,7 +107,7 @@ pub(crate) fn take_line<A: AppText, G: ImageText>(
 ) -> Result<Option<Why>, AllocError>
     ensures takes { IfOk result (TakesLine (form_of nodes A.input_of A.output_of below G.says) draft.old draft.new line.now) }
     ensures grows { OnOk result (lines_of draft.new ≤ lines_of draft.old + 1) }
-    ensures counted { length draft.old.image ≤ 1000000 → OnOk result (length draft.new.image ≤ 1000000) }
+    ensures counted { length draft.old.image ≤ MAX_STEPS → OnOk result (length draft.new.image ≤ MAX_STEPS) }
     ensures headed { (draft.old.stage ≡ Stage.Image → IsHeaded below draft.old.header) → OnOk result (draft.new.stage ≡ Stage.Image → IsHeaded below draft.new.header) }
 {
     match draft.stage() {

@@ -7,9 +7,9 @@ use crate::item_parts::ItemParts;
 use crate::trace_line::TraceLine;
 use app_text::{AppText, TextFault};
 use line_reader::cut_at;
-use schedule_text::{MAX_EVENTS, SPACE, Why, number_of};
+use schedule_text::{SPACE, Why, number_of};
 use std::alloc::{AllocError, Global};
-use vst_base::{Item, Node};
+use vst_base::{Item, MAX_STEPS, Node};
 
 // What stands before the first space, or the whole line.
 fn first_word(line: &[u8]) -> &[u8]
@@ -145,7 +145,7 @@ pub(crate) fn counted_says<A: AppText>(
 ) -> Result<TraceLine<A::Input, A::Output>, AllocError>
     ensures { IfOk result (λ l. l ≡ counted_says A.input_of A.output_of nodes inputs line.now) }
 {
-    if begins_as_input(line) && inputs >= MAX_EVENTS as usize {
+    if begins_as_input(line) && inputs >= MAX_STEPS as usize {
         return Ok(TraceLine::Refused(Why::TooManyEvents));
     }
     trace_says::<A>(alloc, nodes, line)

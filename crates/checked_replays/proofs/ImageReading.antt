@@ -28,7 +28,7 @@ use Rattle.schedule_replay.specs.Replaying.{is_input}
 use Rattle.stacks.specs.ClaimTexts.{header_lines}
 use Rattle.checked_replays.proofs.PlainLines.{IsPlain, lines-are, lines-behind, printed}
 use Rattle.checked_replays.proofs.TraceReading.{IsShort, enough, first-none, plain-trace, trace-read}
-use Rattle.permitted_claims.proofs.TextItems.{IsTextItem}
+use Rattle.permitted_claims.specs.Spelled.{IsTextItem}
 
 unless-none : {X : Type 0} (o : Option Why) (l : ImageLine X) → o ≡ None → image_unless o l ≡ l
 unless-none o l e = rw e refl

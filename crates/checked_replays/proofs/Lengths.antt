@@ -1,31 +1,23 @@
--- How long lines are: none that is printed of a text of 4,000 bytes is longer than 4,096.
-use Rattle.std.specs.Prelude.{◌≡◌, ℕ, ◌+◌, ◌<◌, ◌≤◌, true, ◌&&◌, nat_le, List, [], ◌∷◌, ◌++◌, length, map, Option, Some, None, codes}
+-- How long lines are: none is longer than 4,096 bytes that is printed of a text of 4,050, nor is a text of these that a transformer
+-- makes of one of 4,000.
+use Rattle.std.specs.Prelude.{ℕ, ◌+◌, ◌<◌, ◌≤◌, List, [], ◌∷◌, ◌++◌, length, map, codes}
 use Rattle.std.specs.Fmt.{decimal}
-use Rattle.std.specs.List.{list_all}
-use Rattle.std.specs.Char.{is_ascii_graphic}
 use Rattle.std.proofs.Common.{length-append, arith}
-use Rattle.std.proofs.lemmas.Bool.{and_parts, leb-true}
 use Rattle.std.proofs.lemmas.Fmt.{length-decimal-le}
-use Rattle.app_text.specs.KvTexts.{input_text, output_text}
 use Rattle.app_text.specs.PbTexts.{IsPbOutput, pb_output_text}
-use Rattle.app_text.specs.Words.{is_optional, joined, optional_text}
-use Rattle.kv_machine.specs.declared.cmd.KvCmd.{KvCmd}
-use Rattle.kv_machine.specs.declared.cmd.KvCmd.TheVariants.{Get, Put, Del, Cas, Cad}
 use Rattle.linearizability.specs.Linearizable.{Each}
 use Rattle.raft_text.specs.RaftTexts.{IsNumber, IsRaftInput, IsRaftOutput, named_text, names_text, order_text, raft_input_text, raft_output_text}
 use Rattle.raft_types.specs.declared.client.RaftInput.{RaftInput}
 use Rattle.raft_types.specs.declared.client.RaftOut.TheVariants.{Reply, NotLeader, Full}
 use Rattle.schedule_text.specs.Printing.{item_text, numbered, step_text}
 use Rattle.schedule_text.specs.Spellable.{IsSpellable}
-use Rattle.vst_base.specs.Tokens.{is_key, is_token, is_value}
 use Rattle.vst_base.specs.declared.pb_out.PbOut.TheVariants as pb
 use Rattle.vst_base.specs.declared.step.Item.{Item}
 use Rattle.vst_base.specs.declared.step.Item.TheVariants as item
 use Rattle.vst_base.specs.declared.step.Step.{Step}
 use Rattle.vst_base.specs.declared.step.Step.TheVariants as step
-use Rattle.permitted_claims.proofs.KvRuns.{IsCommand, IsOutput}
+use Rattle.permitted_claims.specs.Spelled.{IsTextItem, most_bytes}
 use Rattle.checked_replays.proofs.TraceReading.{IsShort}
-use Rattle.permitted_claims.proofs.TextItems.{IsTextItem}
 
 -- values whose texts have so many bytes at most
 abbrev pub AreWithin : {V : Type 0} → ℕ → (V → Type 0) → (V → List ℕ) → Type 0
@@ -44,7 +36,7 @@ behind-length word text n fits =
     let front = numbered-length word n fits in
     omega (arith, front, length-append (numbered word n) (32 ∷ text))
 
-module _ {I O : Type 0} (nodes : ℕ) (t : I → List ℕ) (u : O → List ℕ) (HasIn : I → Type 0) (HasOut : O → Type 0) (few_nodes : nodes < 4294967296) (brief_inputs : AreWithin 4000 HasIn t) (brief_outputs : AreWithin 4000 HasOut u) where
+module _ {I O : Type 0} (nodes : ℕ) (t : I → List ℕ) (u : O → List ℕ) (HasIn : I → Type 0) (HasOut : O → Type 0) (few_nodes : nodes < 4294967296) (brief_inputs : AreWithin 4050 HasIn t) (brief_outputs : AreWithin 4050 HasOut u) where
   item-short : (x : Item I O) → IsTextItem nodes HasIn HasOut x → IsShort (item_text t u x)
   item-short (item.Input n i) has = let text = brief_inputs i has.1 in let line = behind-length (codes "in") (t i) n (omega (arith, has.0, few_nodes)) in omega (arith, text, line)
   item-short (item.Output n o) has = let text = brief_outputs o has.1 in let line = behind-length (codes "out") (u o) n (omega (arith, has.0, few_nodes)) in omega (arith, text, line)
@@ -53,7 +45,7 @@ module _ {I O : Type 0} (nodes : ℕ) (t : I → List ℕ) (u : O → List ℕ) 
   short-trace [] has = tt
   short-trace (x ∷ items) has = (item-short x has.0, short-trace items has.1)
 
-module _ {I : Type 0} (t : I → List ℕ) (HasIn : I → Type 0) (brief : AreWithin 4000 HasIn t) where
+module _ {I : Type 0} (t : I → List ℕ) (HasIn : I → Type 0) (brief : AreWithin 4050 HasIn t) where
   step-short : (s : Step I) → IsSpellable HasIn s → IsShort (step_text t s)
   step-short (step.In n i) has = let text = brief i has.1 in let line = behind-length (codes "in") (t i) n has.0 in omega (arith, text, line)
   step-short (step.Deliver k) has = let line = numbered-length (codes "deliver") k has in omega (arith, line)
@@ -67,57 +59,10 @@ module _ {I : Type 0} (t : I → List ℕ) (HasIn : I → Type 0) (brief : AreWi
   short-steps [] has = tt
   short-steps (s ∷ ss) has = (step-short s has.0, short-steps ss has.1)
 
--- the texts of the key-value machine
-token-length : (most : ℕ) (w : List ℕ) → is_token most w ≡ true → length w ≤ most
-token-length most w is =
-    let parts = and_parts (nat_le 1 (length w)) (nat_le (length w) most && list_all is_ascii_graphic w) is in
-    leb-true (length w) most (and_parts (nat_le (length w) most) (list_all is_ascii_graphic w) parts.1).0
-
-optional-length : (most : ℕ) (o : Option (List ℕ)) → is_optional most o ≡ true → length (optional_text o) ≤ most + 1
-optional-length most None is = omega arith
-optional-length most (Some w) is = let token = token-length most w is in omega (arith, token)
-
-key-command : (name k : List ℕ) → is_key k ≡ true → length name ≤ 3 → length (joined (name ∷ k ∷ [])) ≤ 2200
-key-command name k key short = let a = token-length 64 k key in omega (arith, a, length-append name (32 ∷ k))
-
-value-command : (name k v : List ℕ) → (is_key k && is_value v) ≡ true → length name ≤ 3 → length (joined (name ∷ k ∷ v ∷ [])) ≤ 2200
-value-command name k v has short =
-    let parts = and_parts (is_key k) (is_value v) has in
-    let a = token-length 64 k parts.0 in
-    let b = token-length 1024 v parts.1 in
-    omega (arith, a, b, length-append name (32 ∷ (k ++ 32 ∷ v)), length-append k (32 ∷ v))
-
-pub command-length : AreWithin 2200 IsCommand input_text
-command-length (Get k) has = key-command (codes "get") k has (omega arith)
-command-length (Put k v) has = value-command (codes "put") k v has (omega arith)
-command-length (Del k) has = key-command (codes "del") k has (omega arith)
-command-length (Cas k e v) has =
-    let parts = and_parts (is_key k && is_value v) (is_optional 1024 e) has in
-    let tokens = and_parts (is_key k) (is_value v) parts.0 in
-    let a = token-length 64 k tokens.0 in
-    let b = token-length 1024 v tokens.1 in
-    let c = optional-length 1024 e parts.1 in
-    omega (arith, a, b, c, length-append k (32 ∷ (optional_text e ++ 32 ∷ v)), length-append (optional_text e) (32 ∷ v))
-command-length (Cad k v) has = value-command (codes "cad") k v has (omega arith)
-
-pub output-length : AreWithin 2200 IsOutput output_text
-output-length o has =
-    let parts = and_parts (is_key o.key) _ has in
-    let values = and_parts (is_optional 1024 o.after) (is_optional 1024 o.before) parts.1 in
-    let a = token-length 64 o.key parts.0 in
-    let b = optional-length 1024 o.after values.0 in
-    let c = optional-length 1024 o.before values.1 in
-    omega (arith, a, b, c, length-append o.key (32 ∷ (optional_text o.after ++ 32 ∷ optional_text o.before)), length-append (optional_text o.after) (32 ∷ optional_text o.before))
-
-pub brief-commands : AreWithin 4000 IsCommand input_text
-brief-commands c has = let all = command-length c has in omega (arith, all)
-
-pub brief-outputs : AreWithin 4000 IsOutput output_text
-brief-outputs o has = let all = output-length o has in omega (arith, all)
-
-pub brief-pb-outputs : AreWithin 4000 (IsPbOutput IsOutput) (pb_output_text output_text)
-brief-pb-outputs (pb.Reply o) has = brief-outputs o has
-brief-pb-outputs pb.Redirect has = omega arith
+-- the texts of a machine's outputs under primary-backup
+pub brief-pb-outputs : {O : Type 0} (HasOut : O → Type 0) (u : O → List ℕ) → AreWithin most_bytes HasOut u → AreWithin 4050 (IsPbOutput HasOut) (pb_output_text u)
+brief-pb-outputs HasOut u brief (pb.Reply o) has = let all = brief o has in omega (arith, all)
+brief-pb-outputs HasOut u brief pb.Redirect has = omega arith
 
 -- and those of a cluster
 name-length : (n : ℕ) → IsNumber n → length (decimal n) ≤ 20
@@ -135,17 +80,22 @@ named-length client request text c r =
     let b = name-length request r in
     omega (arith, a, b, length-append (decimal client) (32 ∷ (decimal request ++ 32 ∷ text)), length-append (decimal request) (32 ∷ text))
 
-request-length : (q : RaftInput KvCmd) → IsRaftInput IsCommand q → length (raft_input_text input_text q) ≤ 2242
-request-length q has = let a = command-length q.cmd has.2 in let b = named-length q.client q.request (input_text q.cmd) has.0 has.1 in omega (arith, a, b)
+module _ {C : Type 0} (HasIn : C → Type 0) (t : C → List ℕ) (brief : AreWithin most_bytes HasIn t) where
+  request-length : (q : RaftInput C) → IsRaftInput HasIn q → length (raft_input_text t q) ≤ 4042
+  request-length q has = let a = brief q.cmd has.2 in let b = named-length q.client q.request (t q.cmd) has.0 has.1 in omega (arith, a, b)
 
-pub brief-requests : AreWithin 4000 (IsRaftInput IsCommand) (raft_input_text input_text)
-brief-requests q has = let all = request-length q has in omega (arith, all)
+  pub brief-requests : AreWithin 4050 (IsRaftInput HasIn) (raft_input_text t)
+  brief-requests q has = let all = request-length q has in omega (arith, all)
 
-pub brief-answers : AreWithin 4000 (IsRaftOutput IsOutput) (raft_output_text output_text)
-brief-answers (Reply client request o) has = let a = output-length o has.2 in let b = named-length client request (output_text o) has.0 has.1 in omega (arith, a, b)
-brief-answers (NotLeader client request) has = let a = names-length client request has.0 has.1 in omega (arith, a)
-brief-answers (Full client request) has = let a = names-length client request has.0 has.1 in omega (arith, a)
+  pub short-orders : (order : List (RaftInput C)) → Each (IsRaftInput HasIn) order → Each IsShort (map (order_text t) order)
+  short-orders [] has = tt
+  short-orders (q ∷ order) has = let all = request-length q has.0 in (omega (arith, all), short-orders order has.1)
 
-pub short-orders : (order : List (RaftInput KvCmd)) → Each (IsRaftInput IsCommand) order → Each IsShort (map (order_text input_text) order)
-short-orders [] has = tt
-short-orders (q ∷ order) has = let all = request-length q has.0 in (omega (arith, all), short-orders order has.1)
+pub brief-answers : {O : Type 0} (HasOut : O → Type 0) (u : O → List ℕ) → AreWithin most_bytes HasOut u → AreWithin 4050 (IsRaftOutput HasOut) (raft_output_text u)
+brief-answers HasOut u brief (Reply client request o) has = let a = brief o has.2 in let b = named-length client request (u o) has.0 has.1 in omega (arith, a, b)
+brief-answers HasOut u brief (NotLeader client request) has = let a = names-length client request has.0 has.1 in omega (arith, a)
+brief-answers HasOut u brief (Full client request) has = let a = names-length client request has.0 has.1 in omega (arith, a)
+
+-- shorter texts are within more
+pub within-more : {V : Type 0} (HasText : V → Type 0) (text : V → List ℕ) → AreWithin most_bytes HasText text → AreWithin 4050 HasText text
+within-more HasText text brief v has = let all = brief v has in omega (arith, all)

@@ -1,11 +1,10 @@
 -- What nodes of a cluster make of entries that have texts has texts: the machine's state stays sound, and each output that is kept
 -- for a client has a text.
 use Rattle.std.specs.Prelude.{ℕ, ◌==◌, List, [], ◌∷◌, nat_lt, Option, Some, None}
-use Rattle.std.proofs.Common.{subst, sym}
 use Rattle.std.specs.Cmp.{nat_cmp_total}
-use Rattle.std.specs.FinMap.{get, get-empty, get-insert}
+use Rattle.std.specs.FinMap.{get}
 use Rattle.std.specs.FinMap as map
-use Rattle.std.specs.Ordering.{eq_by_cmp, nat_cmp}
+use Rattle.std.specs.Ordering.{nat_cmp}
 use Rattle.linearizability.specs.Linearizable.{Each}
 use Rattle.raft_clients.specs.Requests.{asked_by, request_of}
 use Rattle.raft_clients.specs.Sessions.{Applied, AppliedAll, Sessions, answer, applied, applied_all, applied_by, applied_request, executes, kept_output, passes}
@@ -19,7 +18,8 @@ use Rattle.vst_base.specs.declared.entry.Entry.{Entry}
 use Rattle.vst_base.specs.declared.what.What.{What}
 use Rattle.vst_base.specs.declared.what.What.TheVariants.{Noop, Request}
 use Rattle.permitted_claims.proofs.Eaches.{IfThere, each-both, either}
-use Rattle.permitted_claims.proofs.KvRuns.{MachineKeeps}
+use Rattle.permitted_claims.proofs.Machines.{MachineKeeps}
+use Rattle.permitted_claims.proofs.Maps.{EachValue, each-empty, each-insert}
 
 module _ {S C O : Type 0} (m : MachineMeaning S C O) (HasIn : C → Type 0) (HasOut : O → Type 0) (Sound : S → Type 0) (keeps : MachineKeeps m HasIn HasOut Sound) where
   -- what it asks for has a text, if it asks for anything
@@ -30,10 +30,10 @@ module _ {S C O : Type 0} (m : MachineMeaning S C O) (HasIn : C → Type 0) (Has
   IsTextSession s = HasOut s.output
 
   abbrev pub AreTextSessions : Sessions O → Type 0
-  AreTextSessions sessions = (client : ℕ) → IfThere IsTextSession (get sessions client)
+  AreTextSessions sessions = EachValue nat_cmp IsTextSession sessions
 
   pub no-sessions : AreTextSessions map.empty
-  no-sessions client = subst (IfThere IsTextSession) (sym (get-empty nat_cmp client)) tt
+  no-sessions = each-empty nat_cmp IsTextSession
 
   record IsTextApplied (a : Applied S O) : Type 0 where
     state : Sound a.state
@@ -46,8 +46,7 @@ module _ {S C O : Type 0} (m : MachineMeaning S C O) (HasIn : C → Type 0) (Has
         let output = keeps.output state r.cmd sound has.2 in
         record {
           state = keeps.state state r.cmd sound has.2;
-          sessions = λ client. subst (IfThere IsTextSession) (sym (get-insert nat_cmp_total sessions r.client (record { request = r.request; output = (m.apply state r.cmd).1 }) client))
-              (either (IfThere IsTextSession) (eq_by_cmp nat_cmp client r.client) (Some (record { request = r.request; output = (m.apply state r.cmd).1 })) (get sessions client) output (kept client));
+          sessions = each-insert nat_cmp IsTextSession nat_cmp_total sessions kept r.client (record { request = r.request; output = (m.apply state r.cmd).1 }) output;
           output = output;
         }
 

@@ -31,7 +31,7 @@ use Rattle.vst_base.specs.declared.net.Net.TheVariants as net
 use Rattle.vst_base.specs.declared.what.What.{What}
 use Rattle.vst_base.specs.declared.what.What.TheVariants.{Noop, Request}
 use Rattle.permitted_claims.proofs.Eaches.{each-both, each-drop, each-take, either}
-use Rattle.permitted_claims.proofs.KvRuns.{MachineKeeps}
+use Rattle.permitted_claims.proofs.Machines.{MachineKeeps}
 use Rattle.checked_replays.proofs.RaftApplying.{AreTextSessions, IsTextEntry, all-text, no-sessions, replies-text}
 use Rattle.permitted_claims.proofs.Runs.{IsFine, KeepsTexts}
 

@@ -1,5 +1,6 @@
 -- The steps of a script have lines: each was read from one.
-use Rattle.std.specs.Prelude.{◌≡◌, ℕ, Bool, ◌+◌, List, [], ◌∷◌, Option, Some, None, cond}
+use Rattle.std.specs.Prelude.{◌≡◌, ℕ, Bool, ◌+◌, ◌≤◌, List, [], ◌∷◌, length, Option, Some, None, cond}
+use Rattle.std.proofs.Common.{subst}
 use Rattle.vst_base.specs.Firsts.{first_of}
 use Rattle.vst_base.specs.declared.step.Step.{Step}
 use Rattle.line_reader.specs.declared.why.Why.{Why}
@@ -13,6 +14,8 @@ use Rattle.schedule_text.specs.Reading.{line_unless, read_line, step_of, step_or
 use Rattle.schedule_text.specs.Schedules.{Script, script, script_line}
 use Rattle.schedule_text.specs.Spellable.{IsSpellable}
 use Rattle.schedule_replay.specs.Replaying.{steps_of}
+use Rattle.schedule_replay.specs.Replays.{most_lines}
+use Rattle.checked_replays.proofs.Counts.{steps-few}
 use Rattle.permitted_claims.proofs.Eaches.{IfThere, either}
 use Rattle.permitted_claims.proofs.ReadSteps.{step-spellable}
 
@@ -42,10 +45,22 @@ module _ {I : Type 0} (f : List ℕ → Option I) (HasIn : I → Type 0) (has_te
   line-steps (IsStep s) number events rest has more = (has, more (events + 1))
   line-steps (Refused w) number events rest has more = tt
 
-  pub script-spellable : (most number events : ℕ) (ls : List (List ℕ)) → Each (IsSpellable HasIn) (steps_of (script most f number events ls))
+  script-spellable : (most number events : ℕ) (ls : List (List ℕ)) → Each (IsSpellable HasIn) (steps_of (script most f number events ls))
   script-spellable most number events [] = tt
   script-spellable most number events (l ∷ ls) =
       line-steps (read_line most f number events l) number events (λ e. script most f (number + 1) e ls) (line-spellable most number events l) (λ e. script-spellable most (number + 1) e ls)
+
+-- steps that lines say have texts, and there are a million at most
+pub record AreReadSteps {I : Type 0} (HasIn : I → Type 0) (ss : List (Step I)) : Type 0 where
+  pub texts : Each (IsSpellable HasIn) ss
+  pub few : length ss ≤ 1000000
+
+pub steps-read : {I : Type 0} (f : List ℕ → Option I) (HasIn : I → Type 0) → ((bs : List ℕ) (i : I) → f bs ≡ Some i → HasIn i) → (number : ℕ) (ls : List (List ℕ)) (ss : List (Step I)) → steps_of (script most_lines f number 0 ls) ≡ ss
+    → AreReadSteps HasIn ss
+steps-read f HasIn has_text number ls ss says = record {
+  texts = subst (Each (IsSpellable HasIn)) says (script-spellable f HasIn has_text most_lines number 0 ls);
+  few = subst (λ ts. length ts ≤ 1000000) says (steps-few f most_lines number ls);
+}
 
 -- a schedule without its repeats has no other steps
 pub once-each : {I : Type 0} (P : Step I → Type 0) (delivered : ℕ → Bool) (ss : List (Step I)) → Each P ss → Each P (once_from delivered ss)

@@ -13,8 +13,8 @@ use Rattle.check_text.specs.declared.image_line.ImageLine.TheVariants as line
 use Rattle.schedule_replay.specs.Replaying.{is_input}
 use Rattle.stacks.specs.ClaimTexts.{claim_by, claim_text, header_lines}
 use Rattle.stacks.specs.Stack.{Play}
-use Rattle.trace_check.specs.Checks.{form_on}
-use Rattle.permitted_claims.proofs.TextItems.{IsTextItem}
+use Rattle.stacks.specs.Checks.{form_on}
+use Rattle.permitted_claims.specs.Spelled.{IsTextItem}
 use Rattle.checked_replays.proofs.ImageReading.{IsHeadedBy, claim-read, lines-counted}
 use Rattle.checked_replays.proofs.Lengths.{AreWithin, short-trace}
 use Rattle.checked_replays.proofs.PlainLines.{IsPlain}
@@ -26,7 +26,7 @@ lines-map text [] = refl
 lines-map text (g ∷ gs) = ap (λ bs. as_line (text g) ++ bs) (lines-map text gs)
 
 module _ {I O G : Type 0} (nodes : ℕ) (p : Play I O G) (HasIn : I → Type 0) (HasOut : O → Type 0) (few_nodes : nodes < 4294967296)
-    (ins : IsSpelling HasIn p.texts.input_of p.texts.input_text) (outs : IsSpelling HasOut p.texts.output_of p.texts.output_text) (brief_ins : AreWithin 4000 HasIn p.texts.input_text) (brief_outs : AreWithin 4000 HasOut p.texts.output_text)
+    (ins : IsSpelling HasIn p.texts.input_of p.texts.input_text) (outs : IsSpelling HasOut p.texts.output_of p.texts.output_text) (brief_ins : AreWithin 4050 HasIn p.texts.input_text) (brief_outs : AreWithin 4050 HasOut p.texts.output_text)
     (headed : IsHeadedBy (form_on nodes p) p.below.header) (plain_head : Each IsPlain (header_lines p.below.header)) (short_head : Each IsShort (header_lines p.below.header)) where
   module _ (ss : List (Step I)) (items : Each (IsTextItem nodes HasIn HasOut) (p.trace ss)) (plain : Each IsPlain (map p.below.line (p.image ss))) (said : Each (λ x. p.below.says (p.below.line x) ≡ line.Says x) (p.image ss)) where
     abbrev trace-lines : List ℕ

@@ -22,7 +22,8 @@ use Rattle.check_text.specs.Forms.{Form, behind_below, claim_from, claim_line}
 use Rattle.check_text.specs.Reading.{Whole, read_map}
 use Rattle.check_text.specs.TraceLines.{begins_as_input, count_item, counted_says, item_or_refusal, most_lines, trace_line, trace_says, trace_unless}
 use Rattle.schedule_replay.specs.Replaying.{is_input}
-use Rattle.permitted_claims.proofs.TextItems.{IsTextItem, item-said}
+use Rattle.permitted_claims.specs.Spelled.{IsTextItem}
+use Rattle.permitted_claims.proofs.TextItems.{item-said}
 use Rattle.checked_replays.proofs.PlainLines.{IsPlain}
 
 abbrev pub IsShort : List ℕ → Type 0

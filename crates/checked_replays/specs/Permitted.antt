@@ -1,7 +1,8 @@
 -- Which stack a text is a schedule of, and how much of what its replay writes a check reads.
 use Rattle.std.specs.Prelude.{◌≡◌, ℕ, ◌≤◌, List, length, Option, None, Some}
 use Rattle.vst_base.specs.declared.stack.StackId.{StackId}
-use Rattle.vst_base.specs.declared.stack.StackId.TheVariants as stack
+use Rattle.vst_base.specs.Stacks.{row_of}
+use Rattle.vst_base.specs.declared.net.Net.TheVariants as net
 use Rattle.line_reader.specs.Lines.{lines_of}
 use Rattle.schedule_text.specs.Schedules.{Opening, Opened, RefusedAt, EndedAt, opening}
 use Rattle.schedule_replay.specs.Replays.{most_lines}
@@ -15,7 +16,7 @@ stack_of_opening (EndedAt number) = None
 abbrev pub stack_in : List ℕ → Option StackId
 stack_in bytes = stack_of_opening (opening most_lines 1 (lines_of bytes))
 
--- on a cluster, where a node that starts again tells its clients once more what it told them, no more lines were written than a
--- check reads. On the other stacks there are never so many
+-- on a network that stops nodes, where a node that starts again tells its clients once more what it told them, no more lines were
+-- written than a check reads. On the others there are never so many
 abbrev pub IsWithinLimits : StackId → List ℕ → Type 0
-IsWithinLimits s out = s ≡ stack.KvRaft → length (lines_of out) ≤ 8000000
+IsWithinLimits s out = (row_of s).net ≡ net.Fail → length (lines_of out) ≤ 8000000

@@ -3,7 +3,7 @@ ghost use Rattle.app_text.specs.LockTexts as lock_texts;
 ghost use Rattle.check_text.specs.ImageLines.{line_of_image, step_says};
 ghost use Rattle.check_text.specs.declared.image_line.ImageLine.TheVariants as image;
 ghost use Rattle.line_reader.specs.declared.why.Why.TheVariants as why;
-ghost use Rattle.trace_check.specs.Checks.{checked};
+ghost use Rattle.stacks.specs.Checks.{checked};
 ghost use Rattle.claim_verdicts.specs.declared.verdict.Verdict.TheVariants.{No, Yes};
 ghost use Rattle.vst_base.specs.declared.stack.StackId.TheVariants as stack;
 ghost use Rattle.vst_base.specs.declared.step.Step.TheVariants as step;

@@ -3,7 +3,7 @@ ghost use Rattle.checked_replays.specs.Permitted.{IsWithinLimits, stack_in};
 ghost use Rattle.line_reader.specs.Lines.{lines_of};
 ghost use Rattle.line_reader.specs.declared.why.Why.TheVariants.{Header};
 ghost use Rattle.schedule_replay.specs.Replays.{replayed};
-ghost use Rattle.trace_check.specs.Checks.{checked};
+ghost use Rattle.stacks.specs.Checks.{checked};
 ghost use Rattle.claim_verdicts.specs.declared.verdict.Verdict.TheVariants.{Yes};
 ghost use Rattle.vst_base.specs.declared.stack.StackId.TheVariants as stack;
 

@@ -11,3 +11,4 @@ pub mod Linear
 pub mod Explained
 pub mod Apart
 pub mod ClusterVerdicts
+pub mod Decided

@@ -1,5 +1,6 @@
 ghost use Rattle.std.specs.Prelude.{◌≡◌, ◌≤◌, ◌+◌, IfOk, length};
 ghost use Rattle.claim_verdicts.specs.Backups.{backup_verdict};
+ghost use Rattle.check_text.specs.declared.reading.TheConstants.{MAX_LINES};
 
 use crate::Verdict;
 use crate::answering::{answers_of, wrong_answer};
@@ -20,7 +21,7 @@ pub fn backup_verdict<M: Machine, A: AppText<Input = M::Cmd, Output = M::Out>>(
     machine: M,
     claim: &Claim<M::Cmd, PbOut<M::Out>, Step<M::Cmd>>,
 ) -> Result<Verdict, AllocError>
-    requires few { length claim.now.trace + length claim.now.image ≤ 8000000 }
+    requires few { length claim.now.trace + length claim.now.image ≤ MAX_LINES }
     ensures { IfOk result (λ verdict. verdict ≡ backup_verdict A.input_text A.output_text (M.meaning machine) claim.now) }
 {
     let outputs = answers_of(alloc, &machine, claim.trace())?;

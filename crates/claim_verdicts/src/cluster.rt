@@ -1,5 +1,6 @@
 ghost use Rattle.std.specs.Prelude.{◌≡◌, ◌≤◌, ◌+◌, IfOk, length};
 ghost use Rattle.claim_verdicts.specs.Clusters.{cluster_verdict};
+ghost use Rattle.check_text.specs.declared.reading.TheConstants.{MAX_LINES};
 
 use crate::Verdict;
 use crate::explaining::unexplained;
@@ -21,7 +22,7 @@ pub fn cluster_verdict<M: Machine, A: AppText<Input = M::Cmd, Output = M::Out>>(
     machine: &M,
     claim: &Claim<RaftInput<M::Cmd>, RaftOut<M::Out>, RaftInput<M::Cmd>>,
 ) -> Result<Verdict, AllocError>
-    requires few { length claim.now.trace + length claim.now.image ≤ 8000000 }
+    requires few { length claim.now.trace + length claim.now.image ≤ MAX_LINES }
     ensures { IfOk result (λ verdict. verdict ≡ cluster_verdict A.input_text A.output_text (M.meaning machine.now) claim.now) }
 {
     let order = claim.image();

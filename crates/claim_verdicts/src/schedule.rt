@@ -3,6 +3,8 @@ ghost use Rattle.vst_base.specs.declared.step.Item.{Item as SpecItem};
 ghost use Rattle.vst_base.specs.declared.step.StepRefusal.{StepRefusal as SpecRefusal};
 ghost use Rattle.claim_verdicts.specs.Explaining.{RunsTo, RunsWithin, explained_by};
 ghost use Rattle.claim_verdicts.specs.Schedules.{schedule_verdict};
+ghost use Rattle.vst_base.specs.declared.step.TheConstants.{MAX_STEPS};
+ghost use Rattle.check_text.specs.declared.reading.TheConstants.{MAX_LINES};
 
 use crate::Verdict;
 use crate::difference::first_difference;
@@ -20,7 +22,7 @@ fn verdict_by_run<A: AppText>(
     claim: &Claim<A::Input, A::Output, Step<A::Input>>,
     ran: Result<Ran<A::Input, A::Output, Step<A::Input>>, RunFault>,
 ) -> Result<Verdict, AllocError>
-    requires few { length claim.now.trace + length claim.now.image ≤ 8000000 }
+    requires few { length claim.now.trace + length claim.now.image ≤ MAX_LINES }
     requires within { IfErr ran (RunsWithin (length claim.now.image)) }
     ensures { (first : Option (ℕ × SpecRefusal)) (shown : List (SpecItem A.Input A.Output)) → RunsTo ran first shown → IfOk result (λ verdict. verdict ≡ explained_by A.input_text A.output_text claim.now first shown) }
 {
@@ -39,7 +41,7 @@ fn verdict_by_run<A: AppText>(
 }
 
 /// The verdict on a claim whose image is a schedule of these handlers on a network that stops no node: whether the network
-/// allows the schedule, and clients then see the trace.
+/// allows the schedule, and clients then see the trace. Where a network has inputs alone there is one node.
 pub fn schedule_verdict<H: Handlers, A: AppText<Input = H::Input, Output = H::Output>>(
     alloc: Global,
     handlers: H,
@@ -47,8 +49,9 @@ pub fn schedule_verdict<H: Handlers, A: AppText<Input = H::Input, Output = H::Ou
     claim: &Claim<H::Input, H::Output, Step<H::Input>>,
 ) -> Result<Verdict, AllocError>
     requires net { net ≢ Net.Fail }
-    requires few { length claim.now.trace + length claim.now.image ≤ 8000000 }
-    requires counted { length claim.now.image ≤ 1000000 }
+    requires alone { net ≡ Net.One → (H.meaning handlers).nodes ≡ 1 }
+    requires few { length claim.now.trace + length claim.now.image ≤ MAX_LINES }
+    requires counted { length claim.now.image ≤ MAX_STEPS }
     ensures { IfOk result (λ verdict. verdict ≡ schedule_verdict A.input_text A.output_text net (H.meaning handlers) claim.now) }
 {
     let ran = run_mapped::<H, Itself<H::Input>>(alloc, handlers, net, claim.image());

@@ -1,3 +1,6 @@
 pub mod Gathering
 pub mod Handling
 pub mod Facts
+pub mod Echo
+pub mod EchoLaws
+pub mod Examples

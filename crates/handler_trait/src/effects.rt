@@ -1,4 +1,4 @@
-ghost use Rattle.std.specs.Prelude.{◌≡◌, ℕ, ◌+◌, ◌<◌, ◌≤◌, [], ◌∷◌, ◌++◌, IsOk, IsTrue, OnOk, OnErr, IfSome, IfNone};
+ghost use Rattle.std.specs.Prelude.{◌≡◌, ℕ, ◌+◌, ◌<◌, ◌≤◌, [], ◌∷◌, ◌++◌, IfOk, IsOk, IsTrue, OnOk, OnErr, IfSome, IfNone};
 
 use std::alloc::{AllocError, Global};
 use std::marker::Model;
@@ -38,6 +38,34 @@ impl<O: Drop, M: Drop> Effects<O, M> {
             outputs: Vec::new(alloc),
             sends: Vec::new(alloc),
         }
+    }
+
+    /// No outputs and no sends, with room for so many of each.
+    pub fn with_capacity(alloc: Global, outputs: usize, sends: usize) -> Result<Self, AllocError>
+        ensures outputs { IfOk result (λ effects. effects.outputs ≡ []) }
+        ensures sends { IfOk result (λ effects. effects.sends ≡ []) }
+        ensures output_places { IfOk result (λ effects. outputs ≤ effects.output_places) }
+        ensures send_places { IfOk result (λ effects. sends ≤ effects.send_places) }
+    {
+        let mut effects = Effects::new(alloc);
+        effects.reserve(outputs, sends)?;
+        Ok(effects)
+    }
+
+    /// These outputs and sends. What room the vectors have is the room that is left.
+    pub fn from_parts(outputs: Vec<O>, sends: Vec<(Node, M)>) -> Self
+        ensures outputs { result.outputs ≡ outputs.items }
+        ensures sends { result.sends ≡ sends.items }
+    {
+        Effects { outputs, sends }
+    }
+
+    /// Gives up the outputs and the sends, in order.
+    pub fn into_parts(self) -> (Vec<O>, Vec<(Node, M)>)
+        ensures outputs { result.0.items ≡ self.outputs }
+        ensures sends { result.1.items ≡ self.sends }
+    {
+        (self.outputs, self.sends)
     }
 
     /// Makes room for so many more outputs and sends. What is there stays, whatever the result.
@@ -89,7 +117,8 @@ impl<O: Drop, M: Drop> Effects<O, M> {
         &self.sends
     }
 
-    /// Moves the first output out. `None` comes where none is left.
+    /// Moves the first output out, in time that grows with what is left: to take all of them, give up the parts. `None` comes
+    /// where none is left.
     pub fn next_output(&mut self) -> Option<O>
         ensures some { IfSome result (λ first. self.old.outputs ≡ first ∷ self.new.outputs) }
         ensures none { IfNone result ((self.old.outputs ≡ []) × (self.new ≡ self.old)) }
@@ -102,7 +131,7 @@ impl<O: Drop, M: Drop> Effects<O, M> {
         Some(self.outputs.remove(0))
     }
 
-    /// Moves the first packet to send out, with its destination. `None` comes where none is left.
+    /// Moves the first packet to send out, with its destination, in the same time. `None` comes where none is left.
     pub fn next_send(&mut self) -> Option<(Node, M)>
         ensures some { IfSome result (λ first. self.old.sends ≡ first ∷ self.new.sends) }
         ensures none { IfNone result ((self.old.sends ≡ []) × (self.new ≡ self.old)) }

@@ -9,6 +9,9 @@ use vst_base::Node;
 /// The greatest number of packets that one event sends.
 pub const MAX_SENDS: usize = 8;
 
+/// The greatest number of outputs that one event makes: a replica that applies its whole log at once answers for each entry.
+pub const MAX_OUTPUTS: usize = 1_000_000;
+
 /// The greatest growth of `spent` in one event.
 pub const STEP_COST: u64 = 8;
 
@@ -107,11 +110,11 @@ pub trait Handlers: Drop {
     /// Nothing is spent at first.
     ghost fresh: { (h : Self) (n : ℕ) → n < (meaning h).nodes → spent h ((meaning h).init n) ≡ 0 };
 
-    /// An event sends at most `MAX_SENDS` packets, each to a node that exists, and spends at most
-    /// `STEP_COST`.
-    ghost modest_input: { (h : Self) (n : ℕ) (s : Self.State) (i : Self.Input) → n < (meaning h).nodes → IsTrue ((meaning h).takes_input n) → sound h n s → IsModest (meaning h).nodes 8 (spent h) s ((meaning h).input n s i) };
+    /// An event sends at most `MAX_SENDS` packets, each to a node that exists, makes at most `MAX_OUTPUTS` outputs, and spends
+    /// at most `STEP_COST`.
+    ghost modest_input: { (h : Self) (n : ℕ) (s : Self.State) (i : Self.Input) → n < (meaning h).nodes → IsTrue ((meaning h).takes_input n) → sound h n s → IsModest (meaning h).nodes (sound h n) (spent h) s ((meaning h).input n s i) };
 
-    ghost modest_message: { (h : Self) (n : ℕ) (s : Self.State) (from : ℕ) (m : Self.Msg) → n < (meaning h).nodes → from < (meaning h).nodes → sound h n s → IsModest (meaning h).nodes 8 (spent h) s ((meaning h).message n s from m) };
+    ghost modest_message: { (h : Self) (n : ℕ) (s : Self.State) (from : ℕ) (m : Self.Msg) → n < (meaning h).nodes → from < (meaning h).nodes → sound h n s → IsModest (meaning h).nodes (sound h n) (spent h) s ((meaning h).message n s from m) };
 
-    ghost modest_timeout: { (h : Self) (n : ℕ) (s : Self.State) → n < (meaning h).nodes → sound h n s → IsModest (meaning h).nodes 8 (spent h) s ((meaning h).timeout n s) };
+    ghost modest_timeout: { (h : Self) (n : ℕ) (s : Self.State) → n < (meaning h).nodes → sound h n s → IsModest (meaning h).nodes (sound h n) (spent h) s ((meaning h).timeout n s) };
 }

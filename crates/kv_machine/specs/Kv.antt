@@ -1,10 +1,8 @@
 -- The key-value machine, as functions on finite maps.
-use Rattle.std.specs.Prelude.{ℕ, Bool, List, Option, None, Some, if◌then◌else◌}
-use Rattle.std.specs.Cmp.Lexicographic.{slice_cmp}
-use Rattle.std.specs.FinMap.{FinMap, empty, get, insert, remove}
-use Rattle.std.specs.Option.{option_eq}
-use Rattle.std.specs.Ordering.{nat_cmp}
-use Rattle.std.specs.Str.{bytes_eq}
+use Rattle.std.specs.Prelude.{ℕ, List, None, Some, if◌then◌else◌}
+use Rattle.std.specs.FinMap.{empty, get, insert, remove}
+use Rattle.key_map.specs.ByKey.{ByKey}
+pub use Rattle.key_map.specs.ByKey.{holds}
 use Rattle.vst_base.specs.Machines.{MachineMeaning}
 use Rattle.kv_machine.specs.declared.cmd.KvCmd.{KvCmd}
 use Rattle.kv_machine.specs.declared.cmd.KvCmd.TheVariants.{Get, Put, Del, Cas, Cad}
@@ -12,11 +10,7 @@ use Rattle.kv_machine.specs.declared.out.KvOut.{KvOut}
 
 -- from the bytes of keys to those of values
 abbrev pub Store : Type 0
-Store = FinMap (slice_cmp nat_cmp) (List ℕ)
-
--- whether the key has this value, or none
-abbrev pub holds : Store → List ℕ → Option (List ℕ) → Bool
-holds m k v = option_eq bytes_eq (get m k) v
+Store = ByKey (List ℕ)
 
 -- what a command makes of the store, and its reply: the key, its value after and its value before
 abbrev pub Change : Type 0

@@ -1,20 +1,10 @@
 ghost use Rattle.std.specs.Prelude.{◌≡◌, IfOk, OnOk};
-ghost use Rattle.std.specs.Option.{option_copied};
 ghost use Rattle.kv_machine.specs.Kv.{keeps, removes, sets};
 
 use crate::{KvOut, KvState};
+use key_map::copy_token;
 use std::alloc::{AllocError, Global};
 use vst_base::{Key, Value};
-
-// An equal value, or none.
-pub fn copy_value(alloc: Global, value: Option<&Value>) -> Result<Option<Value>, AllocError>
-    ensures { IfOk result (λ copy. copy ≡ option_copied value.entry) }
-{
-    match value {
-        Some(value) => Ok(Some(value.copy(alloc)?)),
-        None => Ok(None),
-    }
-}
 
 // The store stays as it is.
 pub fn keeps(alloc: Global, state: &KvState, key: &Key) -> Result<KvOut, AllocError>
@@ -23,8 +13,8 @@ pub fn keeps(alloc: Global, state: &KvState, key: &Key) -> Result<KvOut, AllocEr
     let value = state.get(key);
     Ok(KvOut {
         key: key.copy(alloc)?,
-        after: copy_value(alloc, value)?,
-        before: copy_value(alloc, value)?,
+        after: copy_token(alloc, value)?,
+        before: copy_token(alloc, value)?,
     })
 }
 

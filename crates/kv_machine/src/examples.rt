@@ -7,6 +7,7 @@ use crate::KvCmd;
 
 /// Runs of commands from the first state on, with what they answer: the key, its value after and its
 /// value before.
+#[tactic(auto, using(key_map::proofs::Lookups::lookups))]
 pub fn worked()
     ensures get_of_absent { fold kv (KvCmd.Get a ∷ []) ≡ told a None None ∷ [] }
     ensures put_then_get { fold kv (KvCmd.Put a x ∷ KvCmd.Get a ∷ []) ≡ told a (Some x) None ∷ told a (Some x) (Some x) ∷ [] }

@@ -1,8 +1,9 @@
 ghost use Rattle.std.specs.Prelude.{◌≡◌, IfOk, IsOk};
 ghost use Rattle.kv_machine.specs.Kv.{kv};
 
-use crate::changes::{copy_value, keeps, removes, sets};
+use crate::changes::{keeps, removes, sets};
 use crate::{KvCmd, KvOut, KvState};
+use key_map::copy_token;
 use std::alloc::{AllocError, Global};
 use vst_base::Machine;
 
@@ -55,7 +56,7 @@ impl Machine for KvMachine {
             KvCmd::Del(key) => KvCmd::Del(key.copy(alloc)?),
             KvCmd::Cas(key, expected, value) => KvCmd::Cas(
                 key.copy(alloc)?,
-                copy_value(alloc, expected.as_ref())?,
+                copy_token(alloc, expected.as_ref())?,
                 value.copy(alloc)?,
             ),
             KvCmd::Cad(key, value) => KvCmd::Cad(key.copy(alloc)?, value.copy(alloc)?),
@@ -65,8 +66,8 @@ impl Machine for KvMachine {
     fn copy_out(&self, alloc: Global, out: &KvOut) -> Result<KvOut, AllocError> {
         Ok(KvOut {
             key: out.key.copy(alloc)?,
-            after: copy_value(alloc, out.after.as_ref())?,
-            before: copy_value(alloc, out.before.as_ref())?,
+            after: copy_token(alloc, out.after.as_ref())?,
+            before: copy_token(alloc, out.before.as_ref())?,
         })
     }
 }

@@ -10,10 +10,6 @@ use Rattle.vst_base.specs.declared.lock.LockMsg.TheVariants as msg
 use Rattle.lock_server.specs.declared.state.LockState.{LockState}
 use Rattle.lock_server.specs.declared.state.LockState.TheVariants.{Server, Client}
 
--- a server and one to eight clients
-abbrev pub IsLockCluster : ℕ → Type 0
-IsLockCluster nodes = (2 ≤ nodes) × (nodes ≤ 9)
-
 -- node 0 is the server, the others are clients
 abbrev pub is_client : ℕ → Bool
 is_client n = nat_lt 0 n

@@ -19,6 +19,11 @@ pub fn worked()
     ensures next_gets_it { (lock_server 3).message 0 (LockState.Server (1 ∷ 2 ∷ [])) 1 LockMsg.Unlock ≡ record { state = LockState.Server (2 ∷ []); outputs = []; sends = (2, LockMsg.Locked) ∷ [] } }
     ensures nobody_waits { (lock_server 3).message 0 (LockState.Server (2 ∷ [])) 2 LockMsg.Unlock ≡ record { state = LockState.Server []; outputs = []; sends = [] } }
     ensures nothing_to_take_back { (lock_server 3).message 0 (LockState.Server []) 2 LockMsg.Unlock ≡ record { state = LockState.Server []; outputs = []; sends = [] } }
+    ensures a_holder_asks_again { (lock_server 3).input 1 (LockState.Client true) LockInput.Lock ≡ record { state = LockState.Client true; outputs = []; sends = (0, LockMsg.Lock) ∷ [] } }
+    ensures asked_at_a_client { (lock_server 3).message 1 (LockState.Client true) 2 LockMsg.Lock ≡ record { state = LockState.Client true; outputs = []; sends = [] } }
+    ensures given_back_at_a_client { (lock_server 3).message 1 (LockState.Client true) 2 LockMsg.Unlock ≡ record { state = LockState.Client true; outputs = []; sends = [] } }
+    ensures handed_at_the_server { (lock_server 3).message 0 (LockState.Server (1 ∷ [])) 2 LockMsg.Locked ≡ record { state = LockState.Server (1 ∷ []); outputs = []; sends = [] } }
+    ensures tick_of_a_client { (lock_server 3).timeout 1 (LockState.Client true) ≡ record { state = LockState.Client true; outputs = []; sends = [] } }
     ensures tick { (lock_server 3).timeout 0 (LockState.Server (1 ∷ [])) ≡ record { state = LockState.Server (1 ∷ []); outputs = []; sends = [] } }
 {}
 

@@ -1,6 +1,6 @@
 ghost use Rattle.std.specs.Prelude.{◌≡◌, refl, ◌<◌, ◌≤◌, IsTrue, IsOk, IfOk, OnOk};
 ghost use Rattle.handler_trait.specs.Handling.{Does};
-ghost use Rattle.lock_server.specs.Locks.{IsLockCluster, IsSound, IsClient, lock_server};
+ghost use Rattle.lock_server.specs.Locks.{IsSound, IsClient, lock_server};
 ghost use Rattle.lock_server.specs.LockLaws.{modest_input, modest_message, modest_timeout};
 
 use crate::rules::{client_input, client_message, server_message};
@@ -27,9 +27,8 @@ impl Model for LockServer {
 }
 
 impl LockServer {
-    /// A cluster of a server and one to eight clients.
+    /// A cluster of so many nodes: a server, and clients that are the others.
     pub fn new(nodes: u8) -> Self
-        requires { IsLockCluster nodes }
         ensures { result ≡ nodes }
     {
         LockServer { nodes }

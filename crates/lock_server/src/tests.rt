@@ -1,19 +1,10 @@
-ghost use Rattle.std.specs.Prelude.{◌≡◌, ◌<◌, ◌≤◌, IsTrue, IfOk};
-ghost use Rattle.handler_trait.specs.declared.handlers.TheConstants.{MAX_SENDS};
+ghost use Rattle.std.specs.Prelude.{◌<◌, IsTrue};
 
 use super::*;
 use handler_trait::{Effects, Handlers, MAX_SENDS};
 use std::alloc::{AllocError, Global};
 use std::test::Fail;
 use vst_base::{LockInput, LockMsg, LockOutput, Node};
-
-fn room<O: Drop, M: Drop>(alloc: Global) -> Result<Effects<O, M>, AllocError>
-    ensures { IfOk result (λ effects. MAX_SENDS ≤ effects.send_places) }
-{
-    let mut effects = Effects::new(alloc);
-    effects.reserve(1, MAX_SENDS)?;
-    Ok(effects)
-}
 
 // How many packets node 1 sends when it takes an input first.
 fn sends_at_first<H: Handlers>(
@@ -26,7 +17,7 @@ fn sends_at_first<H: Handlers>(
 {
     let node = Node::new(1, handlers.nodes()).unwrap();
     let mut state = handlers.init(alloc, node)?;
-    let mut effects = room(alloc)?;
+    let mut effects = Effects::with_capacity(alloc, 1, MAX_SENDS)?;
     handlers.input(alloc, node, &mut state, input, &mut effects)?;
     Ok(effects.sends().len())
 }
@@ -56,7 +47,7 @@ fn the_server_hands_the_lock_round(rt: HostRuntime) -> Result<(), Fail> {
         (first, LockMsg::Unlock, Some((second, LockMsg::Locked))),
         (second, LockMsg::Unlock, None),
     ] {
-        let mut effects = room(alloc)?;
+        let mut effects = Effects::with_capacity(alloc, 1, MAX_SENDS)?;
         cluster.message(alloc, server, &mut state, from, &message, &mut effects)?;
         assert_eq!(rt; effects.next_send(), sent);
     }
@@ -70,7 +61,7 @@ fn a_client_gives_back_what_it_got(rt: HostRuntime) -> Result<(), Fail> {
     let server = Node::new(0, 3).unwrap();
     let client = Node::new(2, 3).unwrap();
     let mut state = cluster.init(alloc, client)?;
-    let mut effects = room(alloc)?;
+    let mut effects = Effects::with_capacity(alloc, 1, MAX_SENDS)?;
     cluster.message(
         alloc,
         client,
@@ -81,11 +72,11 @@ fn a_client_gives_back_what_it_got(rt: HostRuntime) -> Result<(), Fail> {
     )?;
     assert_eq!(rt; effects.next_output(), Some(LockOutput::Locked));
 
-    let mut effects = room(alloc)?;
+    let mut effects = Effects::with_capacity(alloc, 1, MAX_SENDS)?;
     cluster.timeout(alloc, client, &mut state, &mut effects)?;
     assert_eq!(rt; effects.next_send(), None);
 
-    let mut effects = room(alloc)?;
+    let mut effects = Effects::with_capacity(alloc, 1, MAX_SENDS)?;
     let unlock = cluster.copy_input(alloc, &LockInput::Unlock)?;
     cluster.input(alloc, client, &mut state, &unlock, &mut effects)?;
     assert_eq!(rt; effects.next_send(), Some((server, LockMsg::Unlock)));

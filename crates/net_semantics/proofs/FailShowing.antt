@@ -2,6 +2,7 @@
 use Rattle.std.proofs.Common.{◌≡◌, ℕ, zero, suc, ◌<◌, List, [], ◌∷◌, Option, Some, None, true, false, length, refl, ap, sym, ◌∙◌, subst, inl, inr}
 use Rattle.std.specs.Prelude.{slice_get, is_none, IfSome}
 use Rattle.std.proofs.lemmas.Bool.{cases_eq, false≢true}
+use Rattle.handler_trait.specs.Facts.{RebootPromises}
 use Rattle.handler_trait.specs.Handling.{Meaning, Recovery}
 use Rattle.vst_base.specs.declared.net.Net.TheVariants as net
 use Rattle.vst_base.specs.declared.step.Step.{Step}
@@ -16,7 +17,7 @@ use Rattle.net_semantics.proofs.Places.{put-there, put-elsewhere, change_at-ther
 
 -- what is shown where nodes have kept this
 abbrev pub fail_view : {H S K I O M : Type 0} → WorldView H S I O M → List (Option K) → FailView H S K I O M
-fail_view u kept = record { handlers = u.handlers; states = u.states; kept = kept; packets = u.packets; trace = u.trace; taken = u.taken }
+fail_view u kept = record { handlers = u.handlers; states = u.states; stopped = kept; packets = u.packets; trace = u.trace; taken = u.taken }
 
 -- the world with its nodes up
 abbrev pub all_up : {S K M : Type 0} → World S K M → World S S M
@@ -25,8 +26,8 @@ all_up w = record { state = w.state; is_up = λ _. true; kept = λ _. None; pack
 pub shows_up : {H S K I O M : Type 0} (nodes : ℕ) (u : WorldView H S I O M) (kept : List (Option K)) (w : World S K M) → ShowsFail nodes (fail_view u kept) w → Shows nodes u (all_up w)
 shows_up nodes u kept w sh = record { states = sh.states; up = λ n. refl; packets = sh.packets }
 
-pub sound_up : {H S K I O M : Type 0} (m : Meaning S I O M) (sound : ℕ → S → Type 0) (spent : S → ℕ) (fits : K → Type 0) (u : WorldView H S I O M) (kept : List (Option K)) → IsSoundFail m sound spent fits (fail_view u kept) → IsSound m sound spent u
-sound_up m sound spent fits u kept was = record {
+pub sound_up : {H S K I O M : Type 0} (f : RebootPromises S K I O M) (u : WorldView H S I O M) (kept : List (Option K)) → IsSoundFail f (fail_view u kept) → IsSound f.handlers u
+sound_up f u kept was = record {
   nodes = was.world.nodes;
   states = was.world.states;
   packets = was.world.packets;
@@ -34,8 +35,8 @@ sound_up m sound spent fits u kept was = record {
   few_steps = was.world.few_steps;
 }
 
-pub sound_fail : {H S K I O M : Type 0} (m : Meaning S I O M) (sound : ℕ → S → Type 0) (spent : S → ℕ) (fits : K → Type 0) (u : WorldView H S I O M) (kept : List (Option K)) → IsSound m sound spent u → length kept ≡ m.nodes → ((n : ℕ) → IfSome (kept_at (slice_get kept n)) fits) → IsSoundFail m sound spent fits (fail_view u kept)
-sound_fail m sound spent fits u kept h nodes fit = record {
+pub sound_fail : {H S K I O M : Type 0} (f : RebootPromises S K I O M) (u : WorldView H S I O M) (kept : List (Option K)) → IsSound f.handlers u → length kept ≡ f.handlers.meaning.nodes → ((n : ℕ) → IfSome (kept_at (slice_get kept n)) f.fits) → IsSoundFail f (fail_view u kept)
+sound_fail f u kept h nodes fit = record {
   world = record {
     nodes = h.nodes;
     states = h.states;
@@ -44,7 +45,7 @@ sound_fail m sound spent fits u kept h nodes fit = record {
     few_steps = h.few_steps;
   };
   nodes = nodes;
-  kept = fit;
+  stopped = fit;
 }
 
 -- what nodes have kept, where one of them keeps something or nothing from now on

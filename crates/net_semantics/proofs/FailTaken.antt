@@ -5,10 +5,12 @@ use Rattle.std.specs.Prelude.{nat_lt, is_none, slice_get, IfSome, IfOk, IfErr, O
 use Rattle.std.specs.declared.alloc.AllocError.{AllocError}
 use Rattle.std.proofs.lemmas.Bool.{cases_eq, lt-ltb, ltb-true}
 use Rattle.std.proofs.lemmas.Option.{IfSome_then}
+use Rattle.handler_trait.specs.Facts.{RebootPromises}
 use Rattle.handler_trait.specs.Handling.{Meaning, Recovery}
 use Rattle.vst_base.specs.declared.net.Net.TheVariants as net
 use Rattle.vst_base.specs.declared.step.Step.{Step}
 use Rattle.vst_base.specs.declared.step.Step.TheVariants as step
+use Rattle.vst_base.specs.declared.step.TheConstants.{MAX_STEPS}
 use Rattle.vst_base.specs.declared.step.StepRefusal.{StepRefusal}
 use Rattle.vst_base.specs.declared.step.StepRefusal.TheVariants as refusal
 use Rattle.vst_base.specs.Nets.{has_kind, kind_of}
@@ -17,7 +19,8 @@ use Rattle.net_semantics.specs.Steps.{next, refusal_of, items_of, acting, fails,
 use Rattle.net_semantics.specs.Runs.{no_recovery}
 use Rattle.net_semantics.specs.Shown.{WorldView, Shows, IsSound, IsSoundPacket, IsSoundState}
 use Rattle.net_semantics.specs.ShownFail.{ShowsFail, IsSoundFail, kept_at}
-use Rattle.net_semantics.specs.Kept.{kept_less, kept_copies}
+use Rattle.net_semantics.specs.Held.{held_less, held_copies}
+use Rattle.net_semantics.specs.Taking.{GrowsBy}
 use Rattle.net_semantics.specs.TakingFail.{AnswersFail, TakesFail}
 use Rattle.net_semantics.proofs.Places.{put-there, put-elsewhere, length-change_at, change_at-there, change_at-elsewhere, each-change_at, slice_get_there}
 use Rattle.net_semantics.proofs.Eventful.{if_some_at}
@@ -58,36 +61,36 @@ same_state a b o e f = cc
 
 -- what is shown after a loss, and after a step that changes nothing but which nodes are down
 abbrev pub lost : {H S I O M : Type 0} → WorldView H S I O M → ℕ → WorldView H S I O M
-lost u k = record u { packets = change_at kept_less k u.packets; taken = u.taken + 1 }
+lost u k = record u { packets = change_at held_less k u.packets; taken = u.taken + 1 }
 
 abbrev pub counted : {H S I O M : Type 0} → WorldView H S I O M → WorldView H S I O M
 counted u = record u { taken = u.taken + 1 }
 
-module _ {H S K I O M : Type 0} (m : Meaning S I O M) (r : Recovery S K) (sound : ℕ → S → Type 0) (spent : S → ℕ) (fits : K → Type 0) where
+module _ {H S K I O M : Type 0} (f : RebootPromises S K I O M) where
   -- a step that the world takes on which this one stands, where the node that acts is up
   module _ {A : Type 0} (u u2 : WorldView H S I O M) (kept : List (Option K)) (s : Step I) (has : has_kind net.Dup (kind_of s) ≡ true) (dup : u.net ≡ net.Dup)
-      (was : IsSoundFail m sound spent fits (fail_view u kept)) (up : (w : World S K M) → ShowsFail m.nodes (fail_view u kept) w → fails (acting w s) w.is_up ≡ false) (handlers : u2.handlers ≡ u.handlers) where
-    refused_shared : (answer : Result A StepRefusal) → ((w : World S S M) → Shows m.nodes u w → IsAnswer answer (refusal_of u.net m w s)) → (w : World S K M) → ShowsFail m.nodes (fail_view u kept) w → IsAnswer answer (refusal_of net.Fail m w s)
-    refused_shared answer refused w sh = subst (IsAnswer answer) (ap (λ n. refusal_of n m (all_up w) s) dup ∙ sym (refused_up m w s has (up w sh))) (refused (all_up w) (shows_up m.nodes u kept w sh))
+      (was : IsSoundFail f (fail_view u kept)) (up : (w : World S K M) → ShowsFail f.handlers.meaning.nodes (fail_view u kept) w → fails (acting w s) w.is_up ≡ false) (handlers : u2.handlers ≡ u.handlers) where
+    refused_shared : (answer : Result A StepRefusal) → ((w : World S S M) → Shows f.handlers.meaning.nodes u w → IsAnswer answer (refusal_of u.net f.handlers.meaning w s)) → (w : World S K M) → ShowsFail f.handlers.meaning.nodes (fail_view u kept) w → IsAnswer answer (refusal_of net.Fail f.handlers.meaning w s)
+    refused_shared answer refused w sh = subst (IsAnswer answer) (ap (λ n. refusal_of n f.handlers.meaning (all_up w) s) dup ∙ sym (refused_up f.handlers.meaning w s has (up w sh))) (refused (all_up w) (shows_up f.handlers.meaning.nodes u kept w sh))
 
     pub answers_shared : (answer : Result A StepRefusal)
-        → ((w : World S S M) → Shows m.nodes u w → IsAnswer answer (refusal_of u.net m w s))
+        → ((w : World S S M) → Shows f.handlers.meaning.nodes u w → IsAnswer answer (refusal_of u.net f.handlers.meaning w s))
         → IfErr answer (λ why. why ≢ refusal.Memory → u2 ≡ u)
-        → OnOk answer ((w : World S S M) → Shows m.nodes u w → Shows m.nodes u2 (next m no_recovery w s))
-        → OnOk answer ((w : World S S M) → Shows m.nodes u w → u2.trace ≡ u.trace ++ items_of m w s)
-        → OnOk answer (length u.trace ≤ length u2.trace)
+        → OnOk answer ((w : World S S M) → Shows f.handlers.meaning.nodes u w → Shows f.handlers.meaning.nodes u2 (next f.handlers.meaning no_recovery w s))
+        → OnOk answer ((w : World S S M) → Shows f.handlers.meaning.nodes u w → u2.trace ≡ u.trace ++ items_of f.handlers.meaning w s)
+        → OnOk answer (GrowsBy (length u.trace) (length u2.trace))
         → OnOk answer (u2.taken ≡ u.taken + 1)
-        → OnOk answer (IsSound m sound spent u2)
-        → AnswersFail m r sound spent fits s (fail_view u kept) (fail_view u2 kept) answer
+        → OnOk answer (IsSound f.handlers u2)
+        → AnswersFail f s (fail_view u kept) (fail_view u2 kept) answer
     answers_shared (Ok x) refused unchanged leads sees grows counts keeps = record {
       refused = refused_shared (Ok x) refused;
       unchanged = tt;
       taken = record {
-        leads = λ w sh. shows_next m r m.nodes u2 kept w s has sh.kept sh.up (leads (all_up w) (shows_up m.nodes u kept w sh));
-        sees = λ w sh. sees (all_up w) (shows_up m.nodes u kept w sh) ∙ ap (λ xs. u.trace ++ xs) (sym (items_up m w s));
+        leads = λ w sh. shows_next f.handlers.meaning f.recovery f.handlers.meaning.nodes u2 kept w s has sh.kept sh.up (leads (all_up w) (shows_up f.handlers.meaning.nodes u kept w sh));
+        sees = λ w sh. sees (all_up w) (shows_up f.handlers.meaning.nodes u kept w sh) ∙ ap (λ xs. u.trace ++ xs) (sym (items_up f.handlers.meaning w s));
         grows = grows;
         counts = counts;
-        keeps = sound_fail m sound spent fits u2 kept keeps was.nodes was.kept;
+        keeps = sound_fail f u2 kept keeps was.nodes was.stopped;
       };
       same_handlers = handlers;
     }
@@ -98,117 +101,117 @@ module _ {H S K I O M : Type 0} (m : Meaning S I O M) (r : Recovery S K) (sound 
       same_handlers = handlers;
     }
 
-  module _ (u : WorldView H S I O M) (kept : List (Option K)) (was : IsSoundFail m sound spent fits (fail_view u kept)) where
-    copies_same : (w : World S K M) → ShowsFail m.nodes (fail_view u kept) w → (k : ℕ) → kept_copies (slice_get u.packets k) ≡ copies w k
+  module _ (u : WorldView H S I O M) (kept : List (Option K)) (was : IsSoundFail f (fail_view u kept)) where
+    copies_same : (w : World S K M) → ShowsFail f.handlers.meaning.nodes (fail_view u kept) w → (k : ℕ) → held_copies (slice_get u.packets k) ≡ copies w k
     copies_same w sh k = copies_shown (slice_get u.packets k) (slice_get w.packets k) (sh.packets k)
 
-    lost_sound : (k : ℕ) → u.taken < 1000000 → IsSound m sound spent (lost u k)
+    lost_sound : (k : ℕ) → u.taken < MAX_STEPS → IsSound f.handlers (lost u k)
     lost_sound k few =
-        let all = sound_up m sound spent fits u kept was in
-        let each : (j : ℕ) → IfSome (slice_get u.packets j) (IsSoundPacket m.nodes (u.taken + 1)) = each_later m.nodes u.taken (u.taken + 1) (omega arith) u.packets all.packets in
-        sound_quiet m sound spent u (lost u k) all few refl refl (each_state_later m sound spent u (lost u k) all (omega arith) refl) (length-change_at kept_less u.packets k)
-        (each-change_at (IsSoundPacket m.nodes (u.taken + 1)) kept_less u.packets k each (IfSome_then (slice_get u.packets k) (each k) (less_sound m.nodes (u.taken + 1))))
+        let all = sound_up f u kept was in
+        let each : (j : ℕ) → IfSome (slice_get u.packets j) (IsSoundPacket f.handlers.meaning.nodes (u.taken + 1)) = each_later f.handlers.meaning.nodes u.taken (u.taken + 1) (omega arith) u.packets all.packets in
+        sound_quiet f.handlers u (lost u k) all few refl refl (each_state_later f.handlers u (lost u k) all (omega arith) refl) (length-change_at held_less u.packets k)
+        (each-change_at (IsSoundPacket f.handlers.meaning.nodes (u.taken + 1)) held_less u.packets k each (IfSome_then (slice_get u.packets k) (each k) (less_sound f.handlers.meaning.nodes (u.taken + 1))))
 
-    pub takes_lose : (k : ℕ) → 0 < kept_copies (slice_get u.packets k) → u.taken < 1000000 → TakesFail m r sound spent fits (step.Lose k) (fail_view u kept) (fail_view (lost u k) kept)
+    pub takes_lose : (k : ℕ) → 0 < held_copies (slice_get u.packets k) → u.taken < MAX_STEPS → TakesFail f (step.Lose k) (fail_view u kept) (fail_view (lost u k) kept)
     takes_lose k copy few = record {
-      leads = λ w sh. record { states = sh.states; kept = sh.kept; up = sh.up; packets = shown-change_at kept_less one_less (λ l. 0 < l) shown_less u.packets w.packets k copy sh.packets };
+      leads = λ w sh. record { states = sh.states; kept = sh.kept; up = sh.up; packets = shown-change_at held_less one_less (λ l. 0 < l) shown_less u.packets w.packets k copy sh.packets };
       sees = λ w sh. sym (append-nil u.trace);
-      grows = omega arith;
+      grows = record { least = omega arith; most = omega arith };
       counts = refl;
-      keeps = sound_fail m sound spent fits (lost u k) kept (lost_sound k few) was.nodes was.kept;
+      keeps = sound_fail f (lost u k) kept (lost_sound k few) was.nodes was.stopped;
     }
 
-    pub answers_lose : {A : Type 0} (u2 : WorldView H S I O M) (k : ℕ) (few : u.taken < 1000000) (answer : Result A StepRefusal)
-        → OnOk answer (0 < kept_copies (slice_get u.packets k)) → OnOk answer (u2 ≡ lost u k)
-        → IfErr answer (λ why. (why ≡ refusal.NoCopy) × (kept_copies (slice_get u.packets k) ≡ 0)) → OnErr answer (u2 ≡ u)
-        → AnswersFail m r sound spent fits (step.Lose k) (fail_view u kept) (fail_view u2 kept) answer
+    pub answers_lose : {A : Type 0} (u2 : WorldView H S I O M) (k : ℕ) (few : u.taken < MAX_STEPS) (answer : Result A StepRefusal)
+        → OnOk answer (0 < held_copies (slice_get u.packets k)) → OnOk answer (u2 ≡ lost u k)
+        → IfErr answer (λ why. (why ≡ refusal.NoCopy) × (held_copies (slice_get u.packets k) ≡ 0)) → OnErr answer (u2 ≡ u)
+        → AnswersFail f (step.Lose k) (fail_view u kept) (fail_view u2 kept) answer
     answers_lose {A = A} u2 k few (Ok x) copy is why unchanged = record {
       refused = λ w sh. let l : nat_lt 0 (copies w k) ≡ true = lt-ltb 0 (copies w k) (subst (λ n. 0 < n) (copies_same w sh k) copy) in rw l refl;
       unchanged = tt;
-      taken = subst (λ v. TakesFail m r sound spent fits (step.Lose k) (fail_view u kept) (fail_view v kept)) (sym is) (takes_lose k copy few);
+      taken = subst (λ v. TakesFail f (step.Lose k) (fail_view u kept) (fail_view v kept)) (sym is) (takes_lose k copy few);
       same_handlers = ap (λ v. v.handlers) is;
     }
     answers_lose {A = A} u2 k few (Err e) copy is why unchanged = record {
-      refused = λ w sh. subst (λ y. IsAnswer {A = A} (Err y) (refusal_of net.Fail m w (step.Lose k))) (sym why.0) (let l : nat_lt 0 (copies w k) ≡ false = subst (λ n. nat_lt 0 n ≡ false) (sym why.1 ∙ copies_same w sh k) refl in rw l refl);
+      refused = λ w sh. subst (λ y. IsAnswer {A = A} (Err y) (refusal_of net.Fail f.handlers.meaning w (step.Lose k))) (sym why.0) (let l : nat_lt 0 (copies w k) ≡ false = subst (λ n. nat_lt 0 n ≡ false) (sym why.1 ∙ copies_same w sh k) refl in rw l refl);
       unchanged = λ ne. ap (λ x. fail_view x kept) unchanged;
       taken = tt;
       same_handlers = ap (λ v. v.handlers) unchanged;
     }
 
     -- a node stops
-    module _ (n : ℕ) (below : n < m.nodes) (k : K) (s : S) (stood : slice_get u.states n ≡ Some s) (keeps : k ≡ r.keep s) (fit : fits k) (few : u.taken < 1000000) where
-      takes_crash : TakesFail m r sound spent fits (step.Crash n) (fail_view u kept) (fail_view (counted u) (change_at (λ _. Some k) n kept))
+    module _ (n : ℕ) (below : n < f.handlers.meaning.nodes) (k : K) (s : S) (stood : slice_get u.states n ≡ Some s) (keeps : k ≡ f.recovery.keep s) (fit : f.fits k) (few : u.taken < MAX_STEPS) where
+      takes_crash : TakesFail f (step.Crash n) (fail_view u kept) (fail_view (counted u) (change_at (λ _. Some k) n kept))
       takes_crash =
           let held : n < length kept = subst (λ l. n < l) (sym was.nodes) below in
-          let all = sound_up m sound spent fits u kept was in
+          let all = sound_up f u kept was in
           record {
             leads = λ w sh. record {
               states = sh.states;
-              kept = λ j. ap (λ x. put w.kept n (Some (r.keep x)) j) (same_state (w.state n) s (slice_get u.states n) (sh.states n below) stood) ∙ (ap (λ x. put w.kept n (Some x) j) (sym keeps) ∙ put_kept (λ x. x) w.kept kept n (Some k) held sh.kept j);
+              kept = λ j. ap (λ x. put w.kept n (Some (f.recovery.keep x)) j) (same_state (w.state n) s (slice_get u.states n) (sh.states n below) stood) ∙ (ap (λ x. put w.kept n (Some x) j) (sym keeps) ∙ put_kept (λ x. x) w.kept kept n (Some k) held sh.kept j);
               up = put_kept is_none w.is_up kept n (Some k) held sh.up;
               packets = sh.packets;
             };
             sees = λ w sh. sym (append-nil u.trace);
-            grows = omega arith;
+            grows = record { least = omega arith; most = omega arith };
             counts = refl;
-            keeps = sound_fail m sound spent fits (counted u) (change_at (λ _. Some k) n kept)
-                (sound_quiet m sound spent u (counted u) all few refl refl (each_state_later m sound spent u (counted u) all (omega arith) refl) refl (each_later m.nodes u.taken (u.taken + 1) (omega arith) u.packets all.packets))
+            keeps = sound_fail f (counted u) (change_at (λ _. Some k) n kept)
+                (sound_quiet f.handlers u (counted u) all few refl refl (each_state_later f.handlers u (counted u) all (omega arith) refl) refl (each_later f.handlers.meaning.nodes u.taken (u.taken + 1) (omega arith) u.packets all.packets))
                 (length-change_at (λ _. Some k) kept n ∙ was.nodes)
-                (each_kept fits kept n (Some k) held fit was.kept);
+                (each_kept f.fits kept n (Some k) held fit was.stopped);
           }
 
-      pub answers_crash : {A : Type 0} (x : A) (u2 : WorldView H S I O M) (kept2 : List (Option K)) → u2 ≡ counted u → kept2 ≡ change_at (λ _. Some k) n kept → ((w : World S K M) → ShowsFail m.nodes (fail_view u kept) w → w.is_up n ≡ true)
-          → AnswersFail m r sound spent fits (step.Crash n) (fail_view u kept) (fail_view u2 kept2) (Ok x)
+      pub answers_crash : {A : Type 0} (x : A) (u2 : WorldView H S I O M) (kept2 : List (Option K)) → u2 ≡ counted u → kept2 ≡ change_at (λ _. Some k) n kept → ((w : World S K M) → ShowsFail f.handlers.meaning.nodes (fail_view u kept) w → w.is_up n ≡ true)
+          → AnswersFail f (step.Crash n) (fail_view u kept) (fail_view u2 kept2) (Ok x)
       answers_crash x u2 kept2 e e2 up = record {
-        refused = λ w sh. let t : w.is_up n ≡ true = up w sh in let l : nat_lt n m.nodes ≡ true = lt-ltb n m.nodes below in rw (l, t) refl;
+        refused = λ w sh. let t : w.is_up n ≡ true = up w sh in let l : nat_lt n f.handlers.meaning.nodes ≡ true = lt-ltb n f.handlers.meaning.nodes below in rw (l, t) refl;
         unchanged = tt;
-        taken = subst (λ v. TakesFail m r sound spent fits (step.Crash n) (fail_view u kept) (fail_view v kept2)) (sym e) (subst (λ ks. TakesFail m r sound spent fits (step.Crash n) (fail_view u kept) (fail_view (counted u) ks)) (sym e2) takes_crash);
+        taken = subst (λ v. TakesFail f (step.Crash n) (fail_view u kept) (fail_view v kept2)) (sym e) (subst (λ ks. TakesFail f (step.Crash n) (fail_view u kept) (fail_view (counted u) ks)) (sym e2) takes_crash);
         same_handlers = ap (λ v. v.handlers) e;
       }
 
     -- a node starts again
-    module _ (n : ℕ) (below : n < m.nodes) where
-      module _ (k : K) (s : S) (stopped : kept_at (slice_get kept n) ≡ Some k) (starts : s ≡ r.reboot n k) (ok : sound n s) (fresh : spent s ≡ 0) (few : u.taken < 1000000) where
+    module _ (n : ℕ) (below : n < f.handlers.meaning.nodes) where
+      module _ (k : K) (s : S) (stopped : kept_at (slice_get kept n) ≡ Some k) (starts : s ≡ f.recovery.reboot n k) (ok : f.handlers.sound n s) (fresh : f.handlers.spent s ≡ 0) (few : u.taken < MAX_STEPS) where
         abbrev started : WorldView H S I O M
         started = with_states u (change_at (λ _. s) n u.states)
 
-        takes_reboot : TakesFail m r sound spent fits (step.Reboot n) (fail_view u kept) (fail_view started (change_at (λ _. None) n kept))
+        takes_reboot : TakesFail f (step.Reboot n) (fail_view u kept) (fail_view started (change_at (λ _. None) n kept))
         takes_reboot =
             let held : n < length kept = subst (λ l. n < l) (sym was.nodes) below in
-            let all = sound_up m sound spent fits u kept was in
+            let all = sound_up f u kept was in
             let stands : n < length u.states = subst (λ l. n < l) (sym all.nodes) below in
             record {
-              leads = λ w sh. subst (λ o. ShowsFail m.nodes (fail_view started (change_at (λ _. None) n kept)) (rebooted r w n o)) (sym (sh.kept n ∙ stopped)) (record {
-                states = λ j lt. states_put w.state u.states m.nodes n s stands sh.states j lt ∙ ap (λ x. Some (put w.state n x j)) starts;
+              leads = λ w sh. subst (λ o. ShowsFail f.handlers.meaning.nodes (fail_view started (change_at (λ _. None) n kept)) (rebooted f.recovery w n o)) (sym (sh.kept n ∙ stopped)) (record {
+                states = λ j lt. states_put w.state u.states f.handlers.meaning.nodes n s stands sh.states j lt ∙ ap (λ x. Some (put w.state n x j)) starts;
                 kept = put_kept (λ x. x) w.kept kept n None held sh.kept;
                 up = put_kept is_none w.is_up kept n None held sh.up;
                 packets = sh.packets;
               });
               sees = λ w sh. sym (append-nil u.trace);
-              grows = omega arith;
+              grows = record { least = omega arith; most = omega arith };
               counts = refl;
-              keeps = sound_fail m sound spent fits started (change_at (λ _. None) n kept)
-                  (sound_quiet m sound spent u started all few refl (length-change_at (λ _. s) u.states n)
-                  (states_sound_put (λ j. IsSoundState (sound j) spent (u.taken + 1)) u.states n s stands (record { keeps = ok; little = omega arith }) (each_state_later m sound spent u (counted u) all (omega arith) refl))
-                  refl (each_later m.nodes u.taken (u.taken + 1) (omega arith) u.packets all.packets))
+              keeps = sound_fail f started (change_at (λ _. None) n kept)
+                  (sound_quiet f.handlers u started all few refl (length-change_at (λ _. s) u.states n)
+                  (states_sound_put (λ j. IsSoundState (f.handlers.sound j) f.handlers.spent (u.taken + 1)) u.states n s stands (record { keeps = ok; little = omega arith }) (each_state_later f.handlers u (counted u) all (omega arith) refl))
+                  refl (each_later f.handlers.meaning.nodes u.taken (u.taken + 1) (omega arith) u.packets all.packets))
                   (length-change_at (λ _. None) kept n ∙ was.nodes)
-                  (each_kept fits kept n None held tt was.kept);
+                  (each_kept f.fits kept n None held tt was.stopped);
             }
 
         pub answers_reboot : {A : Type 0} (x : A) (u2 : WorldView H S I O M) (kept2 : List (Option K)) → u2 ≡ started → kept2 ≡ change_at (λ _. None) n kept
-            → AnswersFail m r sound spent fits (step.Reboot n) (fail_view u kept) (fail_view u2 kept2) (Ok x)
+            → AnswersFail f (step.Reboot n) (fail_view u kept) (fail_view u2 kept2) (Ok x)
         answers_reboot x u2 kept2 e e2 = record {
-          refused = λ w sh. let f : w.is_up n ≡ false = sh.up n ∙ ap is_none stopped in let l : nat_lt n m.nodes ≡ true = lt-ltb n m.nodes below in rw (l, f) refl;
+          refused = λ w sh. let down : w.is_up n ≡ false = sh.up n ∙ ap is_none stopped in let l : nat_lt n f.handlers.meaning.nodes ≡ true = lt-ltb n f.handlers.meaning.nodes below in rw (l, down) refl;
           unchanged = tt;
-          taken = subst (λ v. TakesFail m r sound spent fits (step.Reboot n) (fail_view u kept) (fail_view v kept2)) (sym e) (subst (λ ks. TakesFail m r sound spent fits (step.Reboot n) (fail_view u kept) (fail_view started ks)) (sym e2) takes_reboot);
+          taken = subst (λ v. TakesFail f (step.Reboot n) (fail_view u kept) (fail_view v kept2)) (sym e) (subst (λ ks. TakesFail f (step.Reboot n) (fail_view u kept) (fail_view started ks)) (sym e2) takes_reboot);
           same_handlers = ap (λ v. v.handlers) e;
         }
 
       -- but not one that is up
       pub answers_reboot_up : {A : Type 0} (kept2 : List (Option K)) → kept_at (slice_get kept n) ≡ None → kept2 ≡ change_at (λ _. None) n kept
-          → AnswersFail {A = A} m r sound spent fits (step.Reboot n) (fail_view u kept) (fail_view u kept2) (Err refusal.NodeUp)
+          → AnswersFail {A = A} f (step.Reboot n) (fail_view u kept) (fail_view u kept2) (Err refusal.NodeUp)
       answers_reboot_up kept2 nothing e = record {
-        refused = λ w sh. let t : w.is_up n ≡ true = sh.up n ∙ ap is_none nothing in let l : nat_lt n m.nodes ≡ true = lt-ltb n m.nodes below in rw (l, t) refl;
+        refused = λ w sh. let t : w.is_up n ≡ true = sh.up n ∙ ap is_none nothing in let l : nat_lt n f.handlers.meaning.nodes ≡ true = lt-ltb n f.handlers.meaning.nodes below in rw (l, t) refl;
         unchanged = λ ne. ap (fail_view u) (e ∙ still_nothing kept n nothing);
         taken = tt;
         same_handlers = refl;

@@ -4,25 +4,28 @@ use Rattle.std.proofs.lemmas.List.{length-map, append-nil}
 use Rattle.std.specs.Prelude.{◌==◌, nat_lt, slice_get, IfSome, IsSome, if◌then◌else◌}
 use Rattle.std.proofs.lemmas.Bool.{ne_eqb, eq-eqb, cases_eq, cases_lt, lt-ltb, false≢true}
 use Rattle.std.proofs.lemmas.Option.{IfSome_then, MatchOption-from_none, slice_get_past}
+use Rattle.handler_trait.specs.Facts.{Promises}
 use Rattle.handler_trait.specs.Handling.{Meaning, Effect, IsModest, AreSentBelow}
 use Rattle.handler_trait.specs.Gathering.{Gathered}
+use Rattle.handler_trait.specs.declared.handlers.TheConstants.{MAX_OUTPUTS, MAX_SENDS}
 use Rattle.vst_base.specs.declared.net.Net.{Net}
 use Rattle.vst_base.specs.declared.step.Step.TheVariants as step
 use Rattle.vst_base.specs.declared.step.StepKind.TheVariants as kind
 use Rattle.vst_base.specs.declared.step.Item.{Item}
+use Rattle.vst_base.specs.declared.step.TheConstants.{MAX_STEPS}
 use Rattle.vst_base.specs.Nets.{has_kind}
 use Rattle.vst_base.specs.declared.step.Item.TheVariants as item
 use Rattle.net_semantics.specs.Worlds.{World, Packet, put, change_at, one_more, one_less, sent_by, copies}
 use Rattle.net_semantics.specs.Steps.{refusal_of, input_item, delivery, after_event, with_packets, items_of_event}
 use Rattle.net_semantics.specs.Shown.{Shown, WorldView, Shows, ShowsAt, IsSound, IsSoundPacket, IsSoundState}
-use Rattle.net_semantics.specs.Kept.{kept_sent, kept_more, kept_less, kept_copies}
-use Rattle.net_semantics.specs.Taking.{Happens, Takes}
+use Rattle.net_semantics.specs.Held.{held_sent, held_more, held_less, held_copies}
+use Rattle.net_semantics.specs.Taking.{GrowsBy, Happens, Takes}
 use Rattle.net_semantics.proofs.Places.{put-there, put-elsewhere, length-change_at, change_at-there, change_at-elsewhere, each-append, each-change_at, slice_get_there}
 use Rattle.net_semantics.proofs.Eventful.{if_some_at, if_some_given}
 use Rattle.net_semantics.proofs.Showing.{ShowsAll, shown-append, shown_sent, shown-change_at, shown_more, shown_less, packet_of_shown}
 
 -- each packet that a node sends is sound
-each_sent : {M : Type 0} (nodes taken n : ℕ) → n < nodes → 1 ≤ taken → (sends : List (ℕ × M)) → AreSentBelow nodes sends → (k : ℕ) → IfSome (slice_get (map (kept_sent n) sends) k) (IsSoundPacket nodes taken)
+each_sent : {M : Type 0} (nodes taken n : ℕ) → n < nodes → 1 ≤ taken → (sends : List (ℕ × M)) → AreSentBelow nodes sends → (k : ℕ) → IfSome (slice_get (map (held_sent n) sends) k) (IsSoundPacket nodes taken)
 each_sent nodes taken n lt one [] below k = tt
 each_sent nodes taken n lt one (p ∷ ps) below zero = record { source = lt; destination = below.0; copies = one; content = λ _. refl; gone = λ e. absurd (omega arith) }
 each_sent nodes taken n lt one (p ∷ ps) below (suc k) = each_sent nodes taken n lt one ps below.1 k
@@ -39,7 +42,7 @@ less_content n o h s = let f : eqb n 0 ≡ false = ne_eqb n 0 (λ z. omega arith
 less_gone : {M : Type 0} (n : ℕ) (o : Option M) → n ≡ 0 → (if n == 0 then None else o) ≡ None
 less_gone n o z = let t : eqb n 0 ≡ true = eq-eqb n 0 z in rw t refl
 
-pub less_sound : {M : Type 0} (nodes taken : ℕ) (p : Shown M) → IsSoundPacket nodes taken p → IsSoundPacket nodes taken (kept_less p)
+pub less_sound : {M : Type 0} (nodes taken : ℕ) (p : Shown M) → IsSoundPacket nodes taken p → IsSoundPacket nodes taken (held_less p)
 less_sound nodes taken p h = record {
   source = h.source;
   destination = h.destination;
@@ -48,7 +51,7 @@ less_sound nodes taken p h = record {
   gone = λ e. less_gone (p.copies - 1) p.content e;
 }
 
-more_sound : {M : Type 0} (nodes taken : ℕ) (o : Option (Shown M)) → 0 < kept_copies o → IfSome o (IsSoundPacket nodes taken) → IfSome o (λ p. IsSoundPacket nodes (taken + 1) (kept_more p))
+more_sound : {M : Type 0} (nodes taken : ℕ) (o : Option (Shown M)) → 0 < held_copies o → IfSome o (IsSoundPacket nodes taken) → IfSome o (λ p. IsSoundPacket nodes (taken + 1) (held_more p))
 more_sound nodes taken None l h = tt
 more_sound nodes taken (Some p) l h = record {
   source = h.source;
@@ -58,29 +61,34 @@ more_sound nodes taken (Some p) l h = record {
   gone = λ e. absurd (omega arith);
 }
 
+-- an event has one input at most
+input_once : {I : Type 0} (O : Type 0) (n : ℕ) (input : Option I) → length (input_item {O = O} n input) ≤ 1
+input_once O n None = omega arith
+input_once O n (Some i) = omega arith
+
 -- an event happened at node n: it made gathered, and the packets were base before its sends
-pub record Occurs {H S I O M : Type 0} (m : Meaning S I O M) (sound : ℕ → S → Type 0) (spent : S → ℕ) (v v2 : WorldView H S I O M) (n : ℕ) (input : Option I) (event : S → Effect S O M) (gathered : Gathered O M) (base : List (Shown M)) : Type 0 where
-  pub was : IsSound m sound spent v
-  pub few : v.taken < 1000000
-  pub node : n < m.nodes
+pub record Occurs {H S I O M : Type 0} (x : Promises S I O M) (v v2 : WorldView H S I O M) (n : ℕ) (input : Option I) (event : S → Effect S O M) (gathered : Gathered O M) (base : List (Shown M)) : Type 0 where
+  pub was : IsSound x v
+  pub few : v.taken < MAX_STEPS
+  pub node : n < x.meaning.nodes
   pub happens : Happens event n v.states v2.states gathered
-  pub kept : IfSome (slice_get v2.states n) (sound n)
-  pub modest : (s : S) → sound n s → IsModest m.nodes 8 spent s (event s)
-  pub packets : v2.packets ≡ base ++ map (kept_sent n) gathered.sends
+  pub kept : IfSome (slice_get v2.states n) (x.sound n)
+  pub modest : (s : S) → x.sound n s → IsModest x.meaning.nodes (x.sound n) x.spent s (event s)
+  pub packets : v2.packets ≡ base ++ map (held_sent n) gathered.sends
   pub trace : v2.trace ≡ v.trace ++ (input_item n input ++ map (λ o. item.Output n o) gathered.outputs)
   pub taken : v2.taken ≡ v.taken + 1
 
-module _ {H S I O M : Type 0} (m : Meaning S I O M) (sound : ℕ → S → Type 0) (spent : S → ℕ) (v v2 : WorldView H S I O M) (n : ℕ) (input : Option I) (event : S → Effect S O M) (gathered : Gathered O M) (base : List (Shown M)) (h : Occurs m sound spent v v2 n input event gathered base) where
+module _ {H S I O M : Type 0} (x : Promises S I O M) (v v2 : WorldView H S I O M) (n : ℕ) (input : Option I) (event : S → Effect S O M) (gathered : Gathered O M) (base : List (Shown M)) (h : Occurs x v v2 n input event gathered base) where
   stood : (s : S) × (slice_get v.states n ≡ Some s)
   stood = slice_get_there v.states n (subst (λ l. n < l) (sym h.was.nodes) h.node)
 
-  stood_shown : (w : World S S M) → Shows m.nodes v w → slice_get v.states n ≡ Some (w.state n)
+  stood_shown : (w : World S S M) → Shows x.meaning.nodes v w → slice_get v.states n ≡ Some (w.state n)
   stood_shown w sh = sh.states n h.node
 
-  outputs_shown : (w : World S S M) → Shows m.nodes v w → gathered.outputs ≡ (event (w.state n)).outputs
+  outputs_shown : (w : World S S M) → Shows x.meaning.nodes v w → gathered.outputs ≡ (event (w.state n)).outputs
   outputs_shown w sh = if_some_given (λ s. gathered.outputs ≡ (event s).outputs) (slice_get v.states n) (w.state n) (stood_shown w sh) h.happens.outputs
 
-  sends_shown : (w : World S S M) → Shows m.nodes v w → gathered.sends ≡ (event (w.state n)).sends
+  sends_shown : (w : World S S M) → Shows x.meaning.nodes v w → gathered.sends ≡ (event (w.state n)).sends
   sends_shown w sh = if_some_given (λ s. gathered.sends ≡ (event s).sends) (slice_get v.states n) (w.state n) (stood_shown w sh) h.happens.sends
 
   stands_after : (s : S) → slice_get v.states n ≡ Some s → (k : ℕ) → k ≡ n → slice_get v2.states k ≡ Some (event s).state
@@ -89,127 +97,139 @@ module _ {H S I O M : Type 0} (m : Meaning S I O M) (sound : ℕ → S → Type 
   stays : (k : ℕ) → k ≢ n → slice_get v2.states k ≡ slice_get v.states k
   stays k ne = ap (λ xs. slice_get xs k) h.happens.put ∙ change_at-elsewhere (λ t. (event t).state) v.states n k ne
 
-  pub states_shown : (w : World S S M) → Shows m.nodes v w → (k : ℕ) → k < m.nodes → slice_get v2.states k ≡ Some (put w.state n (event (w.state n)).state k)
+  pub states_shown : (w : World S S M) → Shows x.meaning.nodes v w → (k : ℕ) → k < x.meaning.nodes → slice_get v2.states k ≡ Some (put w.state n (event (w.state n)).state k)
   states_shown w sh k lt = elim (cases_eq k n) [
     | inl e ↦ stands_after (w.state n) (stood_shown w sh) k e ∙ ap (λ s. Some s) (sym (put-there w.state n (event (w.state n)).state k e))
     | inr ne ↦ stays k ne ∙ (sh.states k lt ∙ ap (λ s. Some s) (sym (put-elsewhere w.state n (event (w.state n)).state k ne)))
   ]
 
-  pub packets_shown : (w : World S S M) → Shows m.nodes v w → (qs : List (Packet M)) → ShowsAll base qs → ShowsAll v2.packets (qs ++ sent_by n (event (w.state n)).sends)
+  pub packets_shown : (w : World S S M) → Shows x.meaning.nodes v w → (qs : List (Packet M)) → ShowsAll base qs → ShowsAll v2.packets (qs ++ sent_by n (event (w.state n)).sends)
   packets_shown w sh qs all =
       subst (λ ps. ShowsAll ps (qs ++ sent_by n (event (w.state n)).sends)) (sym h.packets)
-      (subst (λ xs. ShowsAll (base ++ map (kept_sent n) gathered.sends) (qs ++ sent_by n xs)) (sends_shown w sh) (shown-append base (map (kept_sent n) gathered.sends) qs (sent_by n gathered.sends) all (shown_sent n gathered.sends)))
+      (subst (λ xs. ShowsAll (base ++ map (held_sent n) gathered.sends) (qs ++ sent_by n xs)) (sends_shown w sh) (shown-append base (map (held_sent n) gathered.sends) qs (sent_by n gathered.sends) all (shown_sent n gathered.sends)))
 
-  pub trace_shown : (w : World S S M) → Shows m.nodes v w → v2.trace ≡ v.trace ++ (input_item n input ++ map (λ o. item.Output n o) (event (w.state n)).outputs)
+  pub trace_shown : (w : World S S M) → Shows x.meaning.nodes v w → v2.trace ≡ v.trace ++ (input_item n input ++ map (λ o. item.Output n o) (event (w.state n)).outputs)
   trace_shown w sh = h.trace ∙ ap (λ os. v.trace ++ (input_item n input ++ map (λ o. item.Output n o) os)) (outputs_shown w sh)
 
-  pub trace_grows : length v.trace ≤ length v2.trace
-  trace_grows = let size = ap length h.trace ∙ length-append v.trace (input_item n input ++ map (λ o. item.Output n o) gathered.outputs) in omega arith
+  was_state : IsSoundState (x.sound n) x.spent v.taken stood.0
+  was_state = if_some_given (IsSoundState (x.sound n) x.spent v.taken) (slice_get v.states n) stood.0 stood.1 (h.was.states n)
 
-  was_state : IsSoundState (sound n) spent v.taken stood.0
-  was_state = if_some_given (IsSoundState (sound n) spent v.taken) (slice_get v.states n) stood.0 stood.1 (h.was.states n)
-
-  was_modest : IsModest m.nodes 8 spent stood.0 (event stood.0)
+  was_modest : IsModest x.meaning.nodes (x.sound n) x.spent stood.0 (event stood.0)
   was_modest = h.modest stood.0 was_state.keeps
 
   sends_were : gathered.sends ≡ (event stood.0).sends
   sends_were = if_some_given (λ s. gathered.sends ≡ (event s).sends) (slice_get v.states n) stood.0 stood.1 h.happens.sends
 
-  sound_here : IsSoundState (sound n) spent v2.taken (event stood.0).state
+  sound_here : IsSoundState (x.sound n) x.spent v2.taken (event stood.0).state
   sound_here = record {
-    keeps = if_some_given (sound n) (slice_get v2.states n) (event stood.0).state (stands_after stood.0 stood.1 n refl) h.kept;
+    keeps = if_some_given (x.sound n) (slice_get v2.states n) (event stood.0).state (stands_after stood.0 stood.1 n refl) h.kept;
     little = let a = was_modest.cheap in let b = was_state.little in let c = h.taken in omega arith;
   }
 
-  state_later : (k : ℕ) (s : S) → IsSoundState (sound k) spent v.taken s → IsSoundState (sound k) spent v2.taken s
+  outputs_were : gathered.outputs ≡ (event stood.0).outputs
+  outputs_were = if_some_given (λ s. gathered.outputs ≡ (event s).outputs) (slice_get v.states n) stood.0 stood.1 h.happens.outputs
+
+  -- clients see at most one input, and the outputs that an event may have
+  pub trace_grows : GrowsBy (length v.trace) (length v2.trace)
+  trace_grows =
+      let given : List (Item I O) = input_item n input in
+      let outputs : List (Item I O) = map (λ o. item.Output n o) gathered.outputs in
+      let size = ap length h.trace ∙ length-append v.trace (given ++ outputs) in
+      let parts = length-append given outputs in
+      let seen : length outputs ≡ length gathered.outputs = length-map gathered.outputs (λ o. item.Output n o) in
+      let one : length given ≤ 1 = input_once O n input in
+      let few : length gathered.outputs ≤ MAX_OUTPUTS = subst (λ xs. length xs ≤ MAX_OUTPUTS) (sym outputs_were) (was_modest.few_outputs sound_here.keeps) in
+      record { least = omega arith; most = omega arith }
+
+  state_later : (k : ℕ) (s : S) → IsSoundState (x.sound k) x.spent v.taken s → IsSoundState (x.sound k) x.spent v2.taken s
   state_later k s p = record { keeps = p.keeps; little = let a = p.little in let c = h.taken in omega arith }
 
-  states_sound : (k : ℕ) → IfSome (slice_get v2.states k) (IsSoundState (sound k) spent v2.taken)
+  states_sound : (k : ℕ) → IfSome (slice_get v2.states k) (IsSoundState (x.sound k) x.spent v2.taken)
   states_sound k = elim (cases_eq k n) [
-    | inl e ↦ subst (λ j. IfSome (slice_get v2.states j) (IsSoundState (sound j) spent v2.taken)) (sym e) (if_some_at (IsSoundState (sound n) spent v2.taken) (slice_get v2.states n) (event stood.0).state (stands_after stood.0 stood.1 n refl) sound_here)
-    | inr ne ↦ subst (λ o. IfSome o (IsSoundState (sound k) spent v2.taken)) (sym (stays k ne)) (IfSome_then (slice_get v.states k) (h.was.states k) (state_later k))
+    | inl e ↦ subst (λ j. IfSome (slice_get v2.states j) (IsSoundState (x.sound j) x.spent v2.taken)) (sym e) (if_some_at (IsSoundState (x.sound n) x.spent v2.taken) (slice_get v2.states n) (event stood.0).state (stands_after stood.0 stood.1 n refl) sound_here)
+    | inr ne ↦ subst (λ o. IfSome o (IsSoundState (x.sound k) x.spent v2.taken)) (sym (stays k ne)) (IfSome_then (slice_get v.states k) (h.was.states k) (state_later k))
   ]
 
-  pub sound_after : ((k : ℕ) → IfSome (slice_get base k) (IsSoundPacket m.nodes v2.taken)) → length base ≡ length v.packets → IsSound m sound spent v2
+  pub sound_after : ((k : ℕ) → IfSome (slice_get base k) (IsSoundPacket x.meaning.nodes v2.taken)) → length base ≡ length v.packets → IsSound x v2
   sound_after each len = record {
     nodes = ap length h.happens.put ∙ (length-change_at (λ s. (event s).state) v.states n ∙ h.was.nodes);
     states = states_sound;
-    packets = subst (λ ps. (k : ℕ) → IfSome (slice_get ps k) (IsSoundPacket m.nodes v2.taken)) (sym h.packets)
-        (each-append (IsSoundPacket m.nodes v2.taken) base (map (kept_sent n) gathered.sends) each
-        (each_sent m.nodes v2.taken n h.node (let c = h.taken in omega arith) gathered.sends (subst (λ xs. AreSentBelow m.nodes xs) (sym sends_were) was_modest.to_nodes)));
+    packets = subst (λ ps. (k : ℕ) → IfSome (slice_get ps k) (IsSoundPacket x.meaning.nodes v2.taken)) (sym h.packets)
+        (each-append (IsSoundPacket x.meaning.nodes v2.taken) base (map (held_sent n) gathered.sends) each
+        (each_sent x.meaning.nodes v2.taken n h.node (let c = h.taken in omega arith) gathered.sends (subst (λ xs. AreSentBelow x.meaning.nodes xs) (sym sends_were) was_modest.to_nodes)));
     few_packets =
-        let a : length v2.packets ≡ length base + length gathered.sends = ap length h.packets ∙ (length-append base (map (kept_sent n) gathered.sends) ∙ ap (λ l. length base + l) (length-map gathered.sends (kept_sent n))) in
-        let b : length gathered.sends ≤ 8 = subst (λ xs. length xs ≤ 8) (sym sends_were) was_modest.few in
+        let a : length v2.packets ≡ length base + length gathered.sends = ap length h.packets ∙ (length-append base (map (held_sent n) gathered.sends) ∙ ap (λ l. length base + l) (length-map gathered.sends (held_sent n))) in
+        let b : length gathered.sends ≤ MAX_SENDS = subst (λ xs. length xs ≤ MAX_SENDS) (sym sends_were) was_modest.few in
         let c = h.taken in let d = h.was.few_packets in omega arith;
     few_steps = let c = h.taken in let d = h.few in omega arith;
   }
 
-module _ {H S I O M : Type 0} (m : Meaning S I O M) (sound : ℕ → S → Type 0) (spent : S → ℕ) (v v2 : WorldView H S I O M) where
+module _ {H S I O M : Type 0} (x : Promises S I O M) (v v2 : WorldView H S I O M) where
   -- an event that the network does nothing for
-  alone : (n : ℕ) (input : Option I) (event : S → Effect S O M) (gathered : Gathered O M) → Occurs m sound spent v v2 n input event gathered v.packets → IsSound m sound spent v2
-  alone n input event gathered h = sound_after m sound spent v v2 n input event gathered v.packets h (each_later m.nodes v.taken v2.taken (let c = h.taken in omega arith) v.packets h.was.packets) refl
+  alone : (n : ℕ) (input : Option I) (event : S → Effect S O M) (gathered : Gathered O M) → Occurs x v v2 n input event gathered v.packets → IsSound x v2
+  alone n input event gathered h = sound_after x v v2 n input event gathered v.packets h (each_later x.meaning.nodes v.taken v2.taken (let c = h.taken in omega arith) v.packets h.was.packets) refl
 
-  pub takes_in : (n : ℕ) (i : I) (gathered : Gathered O M) → Occurs m sound spent v v2 n (Some i) (λ s. m.input n s i) gathered v.packets → Takes m sound spent (step.In n i) v v2
+  pub takes_in : (n : ℕ) (i : I) (gathered : Gathered O M) → Occurs x v v2 n (Some i) (λ s. x.meaning.input n s i) gathered v.packets → Takes x (step.In n i) v v2
   takes_in n i gathered h = record {
     leads = λ w sh. record {
-      states = states_shown m sound spent v v2 n (Some i) (λ s. m.input n s i) gathered v.packets h w sh;
+      states = states_shown x v v2 n (Some i) (λ s. x.meaning.input n s i) gathered v.packets h w sh;
       up = sh.up;
-      packets = packets_shown m sound spent v v2 n (Some i) (λ s. m.input n s i) gathered v.packets h w sh w.packets sh.packets;
+      packets = packets_shown x v v2 n (Some i) (λ s. x.meaning.input n s i) gathered v.packets h w sh w.packets sh.packets;
     };
-    sees = λ w sh. trace_shown m sound spent v v2 n (Some i) (λ s. m.input n s i) gathered v.packets h w sh;
-    grows = trace_grows m sound spent v v2 n (Some i) (λ s. m.input n s i) gathered v.packets h;
+    sees = λ w sh. trace_shown x v v2 n (Some i) (λ s. x.meaning.input n s i) gathered v.packets h w sh;
+    grows = trace_grows x v v2 n (Some i) (λ s. x.meaning.input n s i) gathered v.packets h;
     counts = h.taken;
-    keeps = alone n (Some i) (λ s. m.input n s i) gathered h;
+    keeps = alone n (Some i) (λ s. x.meaning.input n s i) gathered h;
   }
 
-  pub takes_tick : (n : ℕ) (gathered : Gathered O M) → Occurs m sound spent v v2 n None (λ s. m.timeout n s) gathered v.packets → Takes m sound spent (step.Tick n) v v2
+  pub takes_tick : (n : ℕ) (gathered : Gathered O M) → Occurs x v v2 n None (λ s. x.meaning.timeout n s) gathered v.packets → Takes x (step.Tick n) v v2
   takes_tick n gathered h = record {
     leads = λ w sh. record {
-      states = states_shown m sound spent v v2 n None (λ s. m.timeout n s) gathered v.packets h w sh;
+      states = states_shown x v v2 n None (λ s. x.meaning.timeout n s) gathered v.packets h w sh;
       up = sh.up;
-      packets = packets_shown m sound spent v v2 n None (λ s. m.timeout n s) gathered v.packets h w sh w.packets sh.packets;
+      packets = packets_shown x v v2 n None (λ s. x.meaning.timeout n s) gathered v.packets h w sh w.packets sh.packets;
     };
-    sees = λ w sh. trace_shown m sound spent v v2 n None (λ s. m.timeout n s) gathered v.packets h w sh;
-    grows = trace_grows m sound spent v v2 n None (λ s. m.timeout n s) gathered v.packets h;
+    sees = λ w sh. trace_shown x v v2 n None (λ s. x.meaning.timeout n s) gathered v.packets h w sh;
+    grows = trace_grows x v v2 n None (λ s. x.meaning.timeout n s) gathered v.packets h;
     counts = h.taken;
-    keeps = alone n None (λ s. m.timeout n s) gathered h;
+    keeps = alone n None (λ s. x.meaning.timeout n s) gathered h;
   }
 
-  module _ (k : ℕ) (p : Shown M) (c : M) (gathered : Gathered O M) (sent : slice_get v.packets k ≡ Some p) (copy : 0 < p.copies) (content : p.content ≡ Some c) (h : Occurs m sound spent v v2 p.destination None (λ s. m.message p.destination s p.source c) gathered (change_at kept_less k v.packets)) where
+  module _ (k : ℕ) (p : Shown M) (c : M) (gathered : Gathered O M) (sent : slice_get v.packets k ≡ Some p) (copy : 0 < p.copies) (content : p.content ≡ Some c) (h : Occurs x v v2 p.destination None (λ s. x.meaning.message p.destination s p.source c) gathered (change_at held_less k v.packets)) where
     abbrev stood_for : Packet M
     stood_for = record { source = p.source; destination = p.destination; content = c; copies = p.copies }
 
-    delivered : (w : World S S M) → Shows m.nodes v w → slice_get w.packets k ≡ Some stood_for
+    delivered : (w : World S S M) → Shows x.meaning.nodes v w → slice_get w.packets k ≡ Some stood_for
     delivered w sh = packet_of_shown p c (slice_get w.packets k) copy content (subst (λ o. ShowsAt o (slice_get w.packets k)) sent (sh.packets k))
 
-    less_shown : (w : World S S M) → Shows m.nodes v w → ShowsAll (change_at kept_less k v.packets) (change_at one_less k w.packets)
-    less_shown w sh = shown-change_at kept_less one_less (λ l. 0 < l) shown_less v.packets w.packets k (subst (λ o. 0 < kept_copies o) (sym sent) copy) sh.packets
+    less_shown : (w : World S S M) → Shows x.meaning.nodes v w → ShowsAll (change_at held_less k v.packets) (change_at one_less k w.packets)
+    less_shown w sh = shown-change_at held_less one_less (λ l. 0 < l) shown_less v.packets w.packets k (subst (λ o. 0 < held_copies o) (sym sent) copy) sh.packets
 
-    leads_on : (w : World S S M) → Shows m.nodes v w → Shows m.nodes v2 (after_event (with_packets w (change_at one_less k w.packets)) (delivery m w (Some stood_for)))
+    leads_on : (w : World S S M) → Shows x.meaning.nodes v w → Shows x.meaning.nodes v2 (after_event (with_packets w (change_at one_less k w.packets)) (delivery x.meaning w (Some stood_for)))
     leads_on w sh = record {
-      states = states_shown m sound spent v v2 p.destination None (λ s. m.message p.destination s p.source c) gathered (change_at kept_less k v.packets) h w sh;
+      states = states_shown x v v2 p.destination None (λ s. x.meaning.message p.destination s p.source c) gathered (change_at held_less k v.packets) h w sh;
       up = sh.up;
-      packets = packets_shown m sound spent v v2 p.destination None (λ s. m.message p.destination s p.source c) gathered (change_at kept_less k v.packets) h w sh (change_at one_less k w.packets) (less_shown w sh);
+      packets = packets_shown x v v2 p.destination None (λ s. x.meaning.message p.destination s p.source c) gathered (change_at held_less k v.packets) h w sh (change_at one_less k w.packets) (less_shown w sh);
     }
 
-    less_sounds : (j : ℕ) → IfSome (slice_get (change_at kept_less k v.packets) j) (IsSoundPacket m.nodes v2.taken)
+    less_sounds : (j : ℕ) → IfSome (slice_get (change_at held_less k v.packets) j) (IsSoundPacket x.meaning.nodes v2.taken)
     less_sounds =
-        let each : (j : ℕ) → IfSome (slice_get v.packets j) (IsSoundPacket m.nodes v2.taken) = each_later m.nodes v.taken v2.taken (let t = h.taken in omega arith) v.packets h.was.packets in
-        each-change_at (IsSoundPacket m.nodes v2.taken) kept_less v.packets k each (IfSome_then (slice_get v.packets k) (each k) (less_sound m.nodes v2.taken))
+        let each : (j : ℕ) → IfSome (slice_get v.packets j) (IsSoundPacket x.meaning.nodes v2.taken) = each_later x.meaning.nodes v.taken v2.taken (let t = h.taken in omega arith) v.packets h.was.packets in
+        each-change_at (IsSoundPacket x.meaning.nodes v2.taken) held_less v.packets k each (IfSome_then (slice_get v.packets k) (each k) (less_sound x.meaning.nodes v2.taken))
 
-    pub takes_deliver : Takes m sound spent (step.Deliver k) v v2
+    pub takes_deliver : Takes x (step.Deliver k) v v2
     takes_deliver = record {
-      leads = λ w sh. subst (λ o. Shows m.nodes v2 (after_event (with_packets w (change_at one_less k w.packets)) (delivery m w o))) (sym (delivered w sh)) (leads_on w sh);
-      sees = λ w sh. subst (λ o. v2.trace ≡ v.trace ++ items_of_event (delivery m w o)) (sym (delivered w sh)) (trace_shown m sound spent v v2 p.destination None (λ s. m.message p.destination s p.source c) gathered (change_at kept_less k v.packets) h w sh);
-      grows = trace_grows m sound spent v v2 p.destination None (λ s. m.message p.destination s p.source c) gathered (change_at kept_less k v.packets) h;
+      leads = λ w sh. subst (λ o. Shows x.meaning.nodes v2 (after_event (with_packets w (change_at one_less k w.packets)) (delivery x.meaning w o))) (sym (delivered w sh)) (leads_on w sh);
+      sees = λ w sh. subst (λ o. v2.trace ≡ v.trace ++ items_of_event (delivery x.meaning w o)) (sym (delivered w sh)) (trace_shown x v v2 p.destination None (λ s. x.meaning.message p.destination s p.source c) gathered (change_at held_less k v.packets) h w sh);
+      grows = trace_grows x v v2 p.destination None (λ s. x.meaning.message p.destination s p.source c) gathered (change_at held_less k v.packets) h;
       counts = h.taken;
-      keeps = sound_after m sound spent v v2 p.destination None (λ s. m.message p.destination s p.source c) gathered (change_at kept_less k v.packets) h less_sounds (length-change_at kept_less v.packets k);
+      keeps = sound_after x v v2 p.destination None (λ s. x.meaning.message p.destination s p.source c) gathered (change_at held_less k v.packets) h less_sounds (length-change_at held_less v.packets k);
     }
 
   -- a step in which no event happens: a state and a packet are as before, or sound after it
-  pub sound_quiet : IsSound m sound spent v → v.taken < 1000000 → v2.taken ≡ v.taken + 1
-      → length v2.states ≡ length v.states → ((n : ℕ) → IfSome (slice_get v2.states n) (IsSoundState (sound n) spent v2.taken))
-      → length v2.packets ≡ length v.packets → ((k : ℕ) → IfSome (slice_get v2.packets k) (IsSoundPacket m.nodes v2.taken)) → IsSound m sound spent v2
+  pub sound_quiet : IsSound x v → v.taken < MAX_STEPS → v2.taken ≡ v.taken + 1
+      → length v2.states ≡ length v.states → ((n : ℕ) → IfSome (slice_get v2.states n) (IsSoundState (x.sound n) x.spent v2.taken))
+      → length v2.packets ≡ length v.packets → ((k : ℕ) → IfSome (slice_get v2.packets k) (IsSoundPacket x.meaning.nodes v2.taken)) → IsSound x v2
   sound_quiet was few taken same_nodes states same_packets packets = record {
     nodes = same_nodes ∙ was.nodes;
     states = states;
@@ -218,26 +238,26 @@ module _ {H S I O M : Type 0} (m : Meaning S I O M) (sound : ℕ → S → Type 
     few_steps = omega arith;
   }
 
-  pub each_state_later : IsSound m sound spent v → v.taken ≤ v2.taken → v2.states ≡ v.states → (n : ℕ) → IfSome (slice_get v2.states n) (IsSoundState (sound n) spent v2.taken)
+  pub each_state_later : IsSound x v → v.taken ≤ v2.taken → v2.states ≡ v.states → (n : ℕ) → IfSome (slice_get v2.states n) (IsSoundState (x.sound n) x.spent v2.taken)
   each_state_later was le states n =
-      subst (λ xs. IfSome (slice_get xs n) (IsSoundState (sound n) spent v2.taken)) (sym states)
-      (IfSome_then (slice_get v.states n) (was.states n) (λ (s : S) (p : IsSoundState (sound n) spent v.taken s). record { keeps = p.keeps; little = let a = p.little in omega arith }))
+      subst (λ xs. IfSome (slice_get xs n) (IsSoundState (x.sound n) x.spent v2.taken)) (sym states)
+      (IfSome_then (slice_get v.states n) (was.states n) (λ (s : S) (p : IsSoundState (x.sound n) x.spent v.taken s). record { keeps = p.keeps; little = let a = p.little in omega arith }))
 
-  module _ (k : ℕ) (copy : 0 < kept_copies (slice_get v.packets k)) (was : IsSound m sound spent v) (few : v.taken < 1000000) (states : v2.states ≡ v.states) (packets : v2.packets ≡ change_at kept_more k v.packets) (trace : v2.trace ≡ v.trace) (taken : v2.taken ≡ v.taken + 1) where
-    pub takes_dup : Takes m sound spent (step.Dup k) v v2
+  module _ (k : ℕ) (copy : 0 < held_copies (slice_get v.packets k)) (was : IsSound x v) (few : v.taken < MAX_STEPS) (states : v2.states ≡ v.states) (packets : v2.packets ≡ change_at held_more k v.packets) (trace : v2.trace ≡ v.trace) (taken : v2.taken ≡ v.taken + 1) where
+    pub takes_dup : Takes x (step.Dup k) v v2
     takes_dup = record {
       leads = λ w sh. record {
         states = λ n lt. ap (λ xs. slice_get xs n) states ∙ sh.states n lt;
         up = sh.up;
-        packets = subst (λ ps. ShowsAll ps (change_at one_more k w.packets)) (sym packets) (shown-change_at kept_more one_more (λ l. 0 < l) shown_more v.packets w.packets k copy sh.packets);
+        packets = subst (λ ps. ShowsAll ps (change_at one_more k w.packets)) (sym packets) (shown-change_at held_more one_more (λ l. 0 < l) shown_more v.packets w.packets k copy sh.packets);
       };
       sees = λ w sh. trace ∙ sym (append-nil v.trace);
-      grows = let size = ap length trace in omega arith;
+      grows = let size = ap length trace in record { least = omega arith; most = omega arith };
       counts = taken;
-      keeps = sound_quiet was few taken (ap length states) (each_state_later was (omega arith) states) (ap length packets ∙ length-change_at kept_more v.packets k)
-          (subst (λ ps. (j : ℕ) → IfSome (slice_get ps j) (IsSoundPacket m.nodes v2.taken)) (sym packets)
-          (each-change_at (IsSoundPacket m.nodes v2.taken) kept_more v.packets k (each_later m.nodes v.taken v2.taken (omega arith) v.packets was.packets)
-          (subst (λ t. IfSome (slice_get v.packets k) (λ p. IsSoundPacket m.nodes t (kept_more p))) (sym taken) (more_sound m.nodes v.taken (slice_get v.packets k) copy (was.packets k)))));
+      keeps = sound_quiet was few taken (ap length states) (each_state_later was (omega arith) states) (ap length packets ∙ length-change_at held_more v.packets k)
+          (subst (λ ps. (j : ℕ) → IfSome (slice_get ps j) (IsSoundPacket x.meaning.nodes v2.taken)) (sym packets)
+          (each-change_at (IsSoundPacket x.meaning.nodes v2.taken) held_more v.packets k (each_later x.meaning.nodes v.taken v2.taken (omega arith) v.packets was.packets)
+          (subst (λ t. IfSome (slice_get v.packets k) (λ p. IsSoundPacket x.meaning.nodes t (held_more p))) (sym taken) (more_sound x.meaning.nodes v.taken (slice_get v.packets k) copy (was.packets k)))));
     }
 
 -- the trace after an input and its outputs
@@ -249,10 +269,10 @@ pub some_there : {X : Type 0} (o : Option X) → IsSome o → (x : X) × (o ≡ 
 some_there None h = absurd (false≢true h)
 some_there (Some x) h = (x, refl)
 
-pub first_sound : {S I O M : Type 0} (m : Meaning S I O M) (sound : ℕ → S → Type 0) (spent : S → ℕ) (states : List S) → length states ≡ m.nodes → ((n : ℕ) → n < m.nodes → slice_get states n ≡ Some (m.init n)) → ((n : ℕ) → n < m.nodes → sound n (m.init n)) → ((n : ℕ) → n < m.nodes → spent (m.init n) ≡ 0) → (n : ℕ) → IfSome (slice_get states n) (IsSoundState (sound n) spent 0)
-first_sound m sound spent states len first ok fresh n = elim (cases_lt n m.nodes) [
-  | inl lt ↦ if_some_at (IsSoundState (sound n) spent 0) (slice_get states n) (m.init n) (first n lt) (record { keeps = ok n lt; little = let z = fresh n lt in omega arith })
-  | inr ge ↦ MatchOption-from_none (slice_get states n) (IsSoundState (sound n) spent 0) (slice_get_past states n (omega arith))
+pub first_sound : {S I O M : Type 0} (x : Promises S I O M) (states : List S) → length states ≡ x.meaning.nodes → ((n : ℕ) → n < x.meaning.nodes → slice_get states n ≡ Some (x.meaning.init n)) → ((n : ℕ) → n < x.meaning.nodes → x.sound n (x.meaning.init n)) → ((n : ℕ) → n < x.meaning.nodes → x.spent (x.meaning.init n) ≡ 0) → (n : ℕ) → IfSome (slice_get states n) (IsSoundState (x.sound n) x.spent 0)
+first_sound x states len first ok fresh n = elim (cases_lt n x.meaning.nodes) [
+  | inl lt ↦ if_some_at (IsSoundState (x.sound n) x.spent 0) (slice_get states n) (x.meaning.init n) (first n lt) (record { keeps = ok n lt; little = let z = fresh n lt in omega arith })
+  | inr ge ↦ MatchOption-from_none (slice_get states n) (IsSoundState (x.sound n) x.spent 0) (slice_get_past states n (omega arith))
 ]
 
 pub dup_not_refused : {S K I O M : Type 0} (net : Net) (m : Meaning S I O M) (w : World S K M) (k : ℕ) → has_kind net kind.Dup ≡ true → 0 < copies w k → refusal_of net m w (step.Dup k) ≡ None

@@ -2,13 +2,12 @@ pub mod Worlds
 pub mod Steps
 pub mod Runs
 pub mod Shown
-pub mod Kept
+pub mod Held
 pub mod Taking
 pub mod ShownFail
 pub mod TakingFail
 pub mod RunLaws
 pub mod Echo
-pub mod EchoLaws
 pub mod ShownLaws
 pub mod Once
 pub mod OnceLaws

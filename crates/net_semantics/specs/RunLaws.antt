@@ -2,12 +2,13 @@
 use Rattle.std.specs.Prelude.{◌≡◌, ℕ, zero, suc, List, [], ◌∷◌, ◌++◌, length, Option, Some, None, option_map, refl}
 use Rattle.std.proofs.Common.{ap, ◌∙◌, sym, append_assoc}
 use Rattle.handler_trait.specs.Handling.{Meaning, Recovery}
+use Rattle.vst_base.specs.Machines.{MachineMeaning, outputs_from}
 use Rattle.vst_base.specs.declared.net.Net.{Net}
 use Rattle.vst_base.specs.declared.step.Step.{Step}
 use Rattle.vst_base.specs.declared.step.StepRefusal.{StepRefusal}
 use Rattle.net_semantics.specs.Worlds.{World}
 use Rattle.net_semantics.specs.Steps.{next, refusal_of, items_of}
-use Rattle.net_semantics.specs.Runs.{run_from, trace_from, first_refused_from, place_and_why}
+use Rattle.net_semantics.specs.Runs.{run_from, trace_from, first_refused_from, machine_trace_from, outputs_in, place_and_why}
 
 -- a refusal that comes n steps later
 abbrev pub later : ℕ → Option (ℕ × StepRefusal) → Option (ℕ × StepRefusal)
@@ -45,3 +46,8 @@ module _ {S K I O M : Type 0} (m : Meaning S I O M) (r : Recovery S K) where
       let both = place_and_why-none (refusal_of net m w s) (first_refused_from net m r (next m r w s) ss) e in
       let rest = first_refused_from-append net (next m r w s) ss ts both.1 in
       place_and_why-later (refusal_of net m w s) _ both.0 ∙ ap (λ o. option_map (λ (p : ℕ × StepRefusal). (suc p.0, p.1)) o) rest
+
+-- clients of a single machine see its outputs, in order
+pub outputs_in-machine_trace_from : {S C O : Type 0} (m : MachineMeaning S C O) (s : S) (cs : List C) → outputs_in (machine_trace_from m s cs) ≡ outputs_from m s cs
+outputs_in-machine_trace_from m s [] = refl
+outputs_in-machine_trace_from m s (c ∷ cs) = ap (λ os. (m.apply s c).1 ∷ os) (outputs_in-machine_trace_from m (m.apply s c).0 cs)

@@ -1,7 +1,7 @@
 -- Runs of a schedule, which schedules a network allows, and traces.
 use Rattle.std.specs.Prelude.{◌≡◌, ℕ, suc, ◌==◌, List, [], ◌∷◌, ◌++◌, Option, Some, None, option_map}
 use Rattle.handler_trait.specs.Handling.{Meaning, Recovery}
-use Rattle.vst_base.specs.Machines.{MachineMeaning}
+use Rattle.vst_base.specs.Machines.{MachineMeaning, fold, outputs_from}
 use Rattle.vst_base.specs.declared.net.Net.{Net}
 use Rattle.vst_base.specs.declared.step.Step.{Step}
 use Rattle.vst_base.specs.declared.step.Item.{Item}
@@ -59,10 +59,21 @@ machine m = record {
   timeout = λ n s. record { state = s; outputs = []; sends = [] };
 }
 
--- the trace of a single machine: each command, followed by its output
+-- each command of a single node, followed by its output
+abbrev pub answered : {C O : Type 0} → List C → List O → List (Item C O)
+answered [] os = []
+answered (c ∷ cs) [] = []
+answered (c ∷ cs) (o ∷ os) = item.Input 0 c ∷ item.Output 0 o ∷ answered cs os
+
+-- the trace of a single machine from a state on, and from its first state
 abbrev pub machine_trace_from : {S C O : Type 0} → MachineMeaning S C O → S → List C → List (Item C O)
-machine_trace_from m s [] = []
-machine_trace_from m s (c ∷ cs) = item.Input 0 c ∷ item.Output 0 (m.apply s c).1 ∷ machine_trace_from m (m.apply s c).0 cs
+machine_trace_from m s cs = answered cs (outputs_from m s cs)
 
 abbrev pub machine_trace : {S C O : Type 0} → MachineMeaning S C O → List C → List (Item C O)
-machine_trace m cs = machine_trace_from m m.init cs
+machine_trace m cs = answered cs (fold m cs)
+
+-- the outputs that clients see, in order
+abbrev pub outputs_in : {I O : Type 0} → List (Item I O) → List O
+outputs_in [] = []
+outputs_in (item.Input n i ∷ items) = outputs_in items
+outputs_in (item.Output n o ∷ items) = o ∷ outputs_in items

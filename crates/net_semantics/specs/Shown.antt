@@ -1,10 +1,11 @@
 -- What contracts see of a `World`, and which world it stands for. The content of a packet without a
 -- copy may be gone, so the tie between the two is a relation.
 use Rattle.std.specs.Prelude.{◌≡◌, ℕ, true, ◌<◌, ◌≤◌, ◌*◌, List, length, Option, Some, None, IfSome, IsSome, slice_get}
-use Rattle.handler_trait.specs.Handling.{Meaning}
-use Rattle.handler_trait.specs.Facts.{HandlersFacts}
+use Rattle.handler_trait.specs.Facts.{HandlersFacts, Promises, promises_of}
+use Rattle.handler_trait.specs.declared.handlers.TheConstants.{MAX_SENDS, STEP_COST}
 use Rattle.vst_base.specs.declared.net.Net.{Net}
 use Rattle.vst_base.specs.declared.step.Item.{Item}
+use Rattle.vst_base.specs.declared.step.TheConstants.{MAX_STEPS}
 use Rattle.net_semantics.specs.Worlds.{World, Packet}
 
 -- a packet as it is kept
@@ -15,7 +16,7 @@ pub record Shown (M : Type 0) : Type 0 where
   pub content : Option M
 
 -- the handlers and their network, a state for each node, the packets, what clients saw since it was last
--- let go, and how many steps were taken
+-- cleared, and how many steps were taken
 pub record WorldView (H S I O M : Type 0) : Type 0 where
   pub handlers : H
   pub net : Net
@@ -54,21 +55,23 @@ pub record IsSoundPacket {M : Type 0} (nodes taken : ℕ) (p : Shown M) : Type 0
 -- a state keeps to what the handlers ask, and has spent little
 pub record IsSoundState {S : Type 0} (sound : S → Type 0) (spent : S → ℕ) (taken : ℕ) (s : S) : Type 0 where
   pub keeps : sound s
-  pub little : spent s ≤ 8 * taken
+  pub little : spent s ≤ STEP_COST * taken
 
--- what holds of a world when it is made and after each step that doesn't answer want of memory
-pub record IsSound {H S I O M : Type 0} (m : Meaning S I O M) (sound : ℕ → S → Type 0) (spent : S → ℕ)
-    (v : WorldView H S I O M) : Type 0 where
-  pub nodes : length v.states ≡ m.nodes
-  pub states : (n : ℕ) → IfSome (slice_get v.states n) (IsSoundState (sound n) spent v.taken)
-  pub packets : (k : ℕ) → IfSome (slice_get v.packets k) (IsSoundPacket m.nodes v.taken)
-  pub few_packets : length v.packets ≤ 8 * v.taken
-  pub few_steps : v.taken ≤ 1000000
+-- what holds of a world of these handlers when it is made and after each step that doesn't answer want of memory
+pub record IsSound {H S I O M : Type 0} (h : Promises S I O M) (v : WorldView H S I O M) : Type 0 where
+  pub nodes : length v.states ≡ h.meaning.nodes
+  pub states : (n : ℕ) → IfSome (slice_get v.states n) (IsSoundState (h.sound n) h.spent v.taken)
+  pub packets : (k : ℕ) → IfSome (slice_get v.packets k) (IsSoundPacket h.meaning.nodes v.taken)
+  pub few_packets : length v.packets ≤ MAX_SENDS * v.taken
+  pub few_steps : v.taken ≤ MAX_STEPS
 
--- the same two by what the view's own handlers promise
+-- the same by what the view's own handlers promise, and what holds of each world that the view stands for
 module _ {H S I O M : Type 0} (f : HandlersFacts H S I O M) (v : WorldView H S I O M) where
+  abbrev pub IsSoundBy : Type 0
+  IsSoundBy = IsSound (promises_of f v.handlers) v
+
   abbrev pub ShowsBy : World S S M → Type 0
   ShowsBy w = Shows (f.meaning v.handlers).nodes v w
 
-  abbrev pub IsSoundBy : Type 0
-  IsSoundBy = IsSound (f.meaning v.handlers) (f.sound v.handlers) (f.spent v.handlers) v
+  abbrev pub ForShown : (World S S M → Type 0) → Type 0
+  ForShown P = (w : World S S M) → ShowsBy w → P w

@@ -1,5 +1,5 @@
 ghost use Rattle.std.specs.Prelude.{◌≡◌, ℕ, ◌+◌, ◌*◌, ◌<◌, ◌≤◌, ◌++◌, length, map, IsTrue, IsSome, IfSome, IfOk, OnOk, Some, [], slice_get};
-ghost use Rattle.net_semantics.specs.Kept.{kept_sent};
+ghost use Rattle.net_semantics.specs.Held.{held_sent};
 ghost use Rattle.net_semantics.specs.Taking.{Happens, IsReady};
 
 use crate::Trace;
@@ -83,47 +83,49 @@ pub fn message_event<H: Handlers>(
     handlers.message(alloc, node, state, packet.source, message, effects)
 }
 
-// Clients see the node's outputs, in order.
-fn give_outputs<I: Drop, O: Drop, M: Drop>(
+// Clients see the node's outputs, in order. Where memory ran out the rest is dropped.
+fn give_outputs<I: Drop, O: Drop>(
     node: Node,
-    effects: &mut Effects<O, M>,
+    outputs: &mut Vec<O>,
     trace: &mut Trace<I, O>,
 ) -> Result<(), AllocError>
-    ensures trace { OnOk result (trace.new ≡ trace.old ++ map (λ o. Item.Output node o) effects.old.outputs) }
-    ensures sends { effects.new.sends ≡ effects.old.sends }
+    ensures { OnOk result (trace.new ≡ trace.old ++ map (λ o. Item.Output node o) outputs.old.items) }
 {
-    while let Some(output) = effects.next_output() {
+    for output in outputs.drain(..) {
         trace.push(Item::Output(node, output))?;
     }
     Ok(())
 }
 
 // What the node sends is in flight, in order.
-fn send_packets<O: Drop, M: Drop>(
+fn send_packets<M: Drop>(
     node: Node,
-    effects: &mut Effects<O, M>,
+    sends: &mut Vec<(Node, M)>,
     packets: &mut Packets<M>,
 ) -> Result<(), AllocError>
-    ensures { OnOk result (packets.new ≡ packets.old ++ map (kept_sent node) effects.old.sends) }
+    ensures { OnOk result (packets.new ≡ packets.old ++ map (held_sent node) sends.old.items) }
 {
-    while let Some((destination, content)) = effects.next_send() {
+    for (destination, content) in sends.drain(..) {
         packets.send(node, destination, content)?;
     }
     Ok(())
 }
 
-/// Clients see what the event put out at the node, and what it sends is in flight.
+/// Clients see what the event put out at the node, and what it sends is in flight. What is left are effects without either, with
+/// their room.
 pub fn publish<I: Drop, O: Drop, M: Drop>(
     node: Node,
-    effects: &mut Effects<O, M>,
+    effects: Effects<O, M>,
     trace: &mut Trace<I, O>,
     packets: &mut Packets<M>,
-) -> Result<(), AllocError>
-    ensures trace { OnOk result (trace.new ≡ trace.old ++ map (λ o. Item.Output node o) effects.old.outputs) }
-    ensures packets { OnOk result (packets.new ≡ packets.old ++ map (kept_sent node) effects.old.sends) }
+) -> Result<Effects<O, M>, AllocError>
+    ensures trace { OnOk result (trace.new ≡ trace.old ++ map (λ o. Item.Output node o) effects.outputs) }
+    ensures packets { OnOk result (packets.new ≡ packets.old ++ map (held_sent node) effects.sends) }
 {
-    give_outputs(node, effects, trace)?;
-    send_packets(node, effects, packets)
+    let (mut outputs, mut sends) = effects.into_parts();
+    give_outputs(node, &mut outputs, trace)?;
+    send_packets(node, &mut sends, packets)?;
+    Ok(Effects::from_parts(outputs, sends))
 }
 
 /// The first state of each node, in order.

@@ -1,9 +1,11 @@
 ghost use Rattle.std.specs.Prelude.{◌≡◌, ◌≢◌, ℕ, ◌+◌, ◌<◌, ◌≤◌, [], ◌++◌, length, true, false, IsTrue, IfOk, IfErr, OnOk, OnErr, MatchResult, Ok, Err};
 ghost use Rattle.net_semantics.specs.Worlds.{first_world, copies, ends};
 ghost use Rattle.net_semantics.specs.Steps.{next, refusal_of, items_of, IsAnswer, acting, fails};
-ghost use Rattle.net_semantics.specs.ShownFail.{IsSoundFailBy, ShowsFailBy};
+ghost use Rattle.net_semantics.specs.ShownFail.{ForShownFail, IsSoundFailBy, ShowsFailBy};
+ghost use Rattle.net_semantics.specs.Taking.{GrowsBy};
 ghost use Rattle.net_semantics.specs.TakingFail.{AnswersFailBy};
 ghost use Rattle.vst_base.specs.Nets.{has_kind, kind_of};
+ghost use Rattle.vst_base.specs.declared.step.TheConstants.{MAX_STEPS};
 
 use crate::refusals::{existing_node, input_node, or_memory};
 use crate::stopped::Stopped;
@@ -32,7 +34,7 @@ impl<H: Rebootable> Model for FailWorld<H> {
     ghost view = { λ f. record {
       handlers = f.world.handlers;
       states = f.world.states;
-      kept = f.stopped;
+      stopped = f.stopped;
       packets = f.world.packets;
       trace = f.world.trace;
       taken = f.world.taken;
@@ -65,16 +67,15 @@ impl<H: Rebootable> FailWorld<H> {
     /// After want of memory the world is given up.
     pub fn step(&mut self, step: &Step<H::Input>) -> Result<(), StepRefusal>
         requires sound { IsSoundFailBy H.Rebootable self.old }
-        requires steps { self.old.taken < 1000000 }
-        ensures refused { (w : _) → ShowsFailBy H.Rebootable self.old w
-            → IsAnswer result (refusal_of Net.Fail (H.meaning self.old.handlers) w step.now) }
+        requires steps { self.old.taken < MAX_STEPS }
+        ensures refused { ForShownFail H.Rebootable self.old (λ w.
+            IsAnswer result (refusal_of Net.Fail (H.meaning self.old.handlers) w step.now)) }
         ensures unchanged { IfErr result (λ why. why ≢ StepRefusal.Memory → self.new ≡ self.old) }
-        ensures next { OnOk result ((w : _) → ShowsFailBy H.Rebootable self.old w
-            → ShowsFailBy H.Rebootable self.new
-            (next (H.meaning self.old.handlers) (H.recovery self.old.handlers) w step.now)) }
-        ensures trace { OnOk result ((w : _) → ShowsFailBy H.Rebootable self.old w
-            → self.new.trace ≡ self.old.trace ++ items_of (H.meaning self.old.handlers) w step.now) }
-        ensures trace_grows { OnOk result (length self.old.trace ≤ length self.new.trace) }
+        ensures next { OnOk result (ForShownFail H.Rebootable self.old (λ w.
+            ShowsFailBy H.Rebootable self.new (next (H.meaning self.old.handlers) (H.recovery self.old.handlers) w step.now))) }
+        ensures trace { OnOk result (ForShownFail H.Rebootable self.old (λ w.
+            self.new.trace ≡ self.old.trace ++ items_of (H.meaning self.old.handlers) w step.now)) }
+        ensures trace_grows { OnOk result (GrowsBy (length self.old.trace) (length self.new.trace)) }
         ensures taken { OnOk result (self.new.taken ≡ self.old.taken + 1) }
         ensures handlers { self.new.handlers ≡ self.old.handlers }
         ensures sound { OnOk result (IsSoundFailBy H.Rebootable self.new) }
@@ -103,14 +104,14 @@ impl<H: Rebootable> FailWorld<H> {
         self.world.taken()
     }
 
-    /// Gives up the world for what clients saw since it was last let go.
+    /// Gives up the world for what clients saw since it was last cleared.
     pub fn into_trace(self) -> Trace<H::Input, H::Output>
         ensures { result ≡ self.trace }
     {
         self.world.into_trace()
     }
 
-    /// What clients saw since it was last let go.
+    /// What clients saw since it was last cleared.
     pub fn trace(&self) -> &Trace<H::Input, H::Output>
         ensures { result.now ≡ self.now.trace }
     {
@@ -126,14 +127,14 @@ impl<H: Rebootable> FailWorld<H> {
 
     /// How many copies of packet `k` are in flight, none of one that was never sent.
     pub fn copies(&self, k: u32) -> u32
-        ensures { (w : _) → ShowsFailBy H.Rebootable self.now w → result ≡ copies w k }
+        ensures { ForShownFail H.Rebootable self.now (λ w. result ≡ copies w k) }
     {
         self.world.copies(k)
     }
 
     /// The source and the destination of packet `k`, and `None` exactly where it was never sent.
     pub fn ends(&self, k: u32) -> Option<(Node, Node)>
-        ensures { (w : _) → ShowsFailBy H.Rebootable self.now w → result ≡ ends w k }
+        ensures { ForShownFail H.Rebootable self.now (λ w. result ≡ ends w k) }
     {
         self.world.ends(k)
     }
@@ -141,14 +142,14 @@ impl<H: Rebootable> FailWorld<H> {
     /// How many packets were sent.
     pub fn sent(&self) -> u32
         requires sound { IsSoundFailBy H.Rebootable self.now }
-        ensures { (w : _) → ShowsFailBy H.Rebootable self.now w → result ≡ length w.packets }
+        ensures { ForShownFail H.Rebootable self.now (λ w. result ≡ length w.packets) }
     {
         self.world.sent()
     }
 
     /// Whether node `n` is up.
     pub fn is_up(&self, n: Node) -> bool
-        ensures { (w : _) → ShowsFailBy H.Rebootable self.now w → result ≡ w.is_up n }
+        ensures { ForShownFail H.Rebootable self.now (λ w. result ≡ w.is_up n) }
     {
         self.stopped.is_up(n)
     }
@@ -157,7 +158,7 @@ impl<H: Rebootable> FailWorld<H> {
     pub fn state(&self, n: Node) -> &H::State
         requires sound { IsSoundFailBy H.Rebootable self.now }
         requires node { n < (H.meaning self.now.handlers).nodes }
-        ensures { (w : _) → ShowsFailBy H.Rebootable self.now w → result.now ≡ w.state n }
+        ensures { ForShownFail H.Rebootable self.now (λ w. result.now ≡ w.state n) }
     {
         self.world.state(n)
     }
@@ -166,8 +167,10 @@ impl<H: Rebootable> FailWorld<H> {
 impl<H: Rebootable> FailWorld<H> {
     // Node `n`, which has to be up.
     fn up(&self, n: Node) -> Result<(), StepRefusal>
-        ensures up { OnOk result ((w : _) → ShowsFailBy H.Rebootable self.now w → w.is_up n ≡ true) }
-        ensures down { OnErr result ((w : _) → ShowsFailBy H.Rebootable self.now w → w.is_up n ≡ false) }
+        ensures up { OnOk result (ForShownFail H.Rebootable self.now (λ w.
+            w.is_up n ≡ true)) }
+        ensures down { OnErr result (ForShownFail H.Rebootable self.now (λ w.
+            w.is_up n ≡ false)) }
         ensures why { IfErr result (λ why. why ≡ StepRefusal.NodeDown) }
     {
         if self.is_up(n) {
@@ -180,10 +183,10 @@ impl<H: Rebootable> FailWorld<H> {
     // The node that acts in the step, if any, has to be up.
     fn acting_up(&self, step: &Step<H::Input>) -> Result<(), StepRefusal>
         requires kind { IsTrue (has_kind Net.Dup (kind_of step.now)) }
-        ensures up { OnOk result ((w : _) → ShowsFailBy H.Rebootable self.now w
-            → fails (acting w step.now) w.is_up ≡ false) }
-        ensures refused { OnErr result ((w : _) → ShowsFailBy H.Rebootable self.now w
-            → IsAnswer result (refusal_of Net.Fail (H.meaning self.now.handlers) w step.now)) }
+        ensures up { OnOk result (ForShownFail H.Rebootable self.now (λ w.
+            fails (acting w step.now) w.is_up ≡ false)) }
+        ensures refused { OnErr result (ForShownFail H.Rebootable self.now (λ w.
+            IsAnswer result (refusal_of Net.Fail (H.meaning self.now.handlers) w step.now))) }
         ensures no_memory { result ≢ Err StepRefusal.Memory }
     {
         match step {
@@ -202,7 +205,7 @@ impl<H: Rebootable> FailWorld<H> {
     // stands on.
     fn pass_on(&mut self, step: &Step<H::Input>) -> Result<(), StepRefusal>
         requires sound { IsSoundFailBy H.Rebootable self.old }
-        requires steps { self.old.taken < 1000000 }
+        requires steps { self.old.taken < MAX_STEPS }
         requires kind { IsTrue (has_kind Net.Dup (kind_of step.now)) }
         ensures answers { AnswersFailBy H.Rebootable step.now self.old self.new result }
         ensures dup_takes_no_memory { (k : ℕ) → step.now ≡ Step.Dup k → result ≢ Err StepRefusal.Memory }
@@ -214,7 +217,7 @@ impl<H: Rebootable> FailWorld<H> {
     // A loss. It takes no memory.
     fn take_lose(&mut self, k: u32) -> Result<(), StepRefusal>
         requires sound { IsSoundFailBy H.Rebootable self.old }
-        requires steps { self.old.taken < 1000000 }
+        requires steps { self.old.taken < MAX_STEPS }
         ensures answers { AnswersFailBy H.Rebootable (Step.Lose k) self.old self.new result }
         ensures no_memory { result ≢ Err StepRefusal.Memory }
     {
@@ -224,7 +227,7 @@ impl<H: Rebootable> FailWorld<H> {
     // A crash.
     fn take_crash(&mut self, n: u32) -> Result<(), StepRefusal>
         requires sound { IsSoundFailBy H.Rebootable self.old }
-        requires steps { self.old.taken < 1000000 }
+        requires steps { self.old.taken < MAX_STEPS }
         ensures { AnswersFailBy H.Rebootable (Step.Crash n) self.old self.new result }
     {
         let node = existing_node(self.world.handlers(), n)?;
@@ -239,7 +242,7 @@ impl<H: Rebootable> FailWorld<H> {
     // A reboot.
     fn take_reboot(&mut self, n: u32) -> Result<(), StepRefusal>
         requires sound { IsSoundFailBy H.Rebootable self.old }
-        requires steps { self.old.taken < 1000000 }
+        requires steps { self.old.taken < MAX_STEPS }
         ensures { AnswersFailBy H.Rebootable (Step.Reboot n) self.old self.new result }
     {
         let node = existing_node(self.world.handlers(), n)?;

@@ -17,8 +17,8 @@ pub use pins::{
     kept_by_place, refusals_in_order, repeats_left_out, runs_and_traces, steps_of_a_world,
 };
 pub use trace::Trace;
-pub use vst_base::{Item, Net, Node, Step, StepKind, StepRefusal};
-pub use world::{MAX_STEPS, World};
+pub use vst_base::{Item, MAX_STEPS, Net, Node, Step, StepKind, StepRefusal};
+pub use world::World;
 
 #[cfg(test)]
 mod fail_tests;

@@ -1,6 +1,6 @@
 ghost use Rattle.std.specs.Prelude.{◌≡◌, ℕ, ◌+◌, ◌<◌, ◌^◌, [], ◌∷◌, ◌++◌, length, Some, IfOk, IfErr, OnOk, OnErr, slice_get};
 ghost use Rattle.net_semantics.specs.Worlds.{change_at};
-ghost use Rattle.net_semantics.specs.Kept.{kept_sent, kept_more, kept_less, kept_copies, kept_ends};
+ghost use Rattle.net_semantics.specs.Held.{held_sent, held_more, held_less, held_copies, held_ends};
 
 use std::alloc::{AllocError, Global};
 use std::marker::Model;
@@ -27,7 +27,7 @@ impl<M: Drop> Packet<M> {
     // One more copy is in flight.
     fn add_copy(&mut self)
         requires { self.old.copies + 1 < 2 ^ 32 }
-        ensures { self.new ≡ kept_more self.old }
+        ensures { self.new ≡ held_more self.old }
     {
         self.copies += 1;
     }
@@ -35,7 +35,7 @@ impl<M: Drop> Packet<M> {
     // One copy less is in flight.
     fn take_copy(&mut self)
         requires { 0 < self.old.copies }
-        ensures { self.new ≡ kept_less self.old }
+        ensures { self.new ≡ held_less self.old }
     {
         self.copies -= 1;
         if self.copies == 0 {
@@ -78,7 +78,7 @@ impl<M: Drop> Packets<M> {
 
     /// How many copies of packet `k` are in flight, none of one that was never sent.
     pub fn copies(&self, k: u32) -> u32
-        ensures { result ≡ kept_copies (slice_get self.now k) }
+        ensures { result ≡ held_copies (slice_get self.now k) }
     {
         match self.items.get(k as usize) {
             Some(packet) => packet.copies,
@@ -88,7 +88,7 @@ impl<M: Drop> Packets<M> {
 
     /// The source and the destination of packet `k`, and `None` where it was never sent.
     pub fn ends(&self, k: u32) -> Option<(Node, Node)>
-        ensures { result ≡ kept_ends (slice_get self.now k) }
+        ensures { result ≡ held_ends (slice_get self.now k) }
     {
         match self.items.get(k as usize) {
             Some(packet) => Some((packet.source, packet.destination)),
@@ -98,8 +98,8 @@ impl<M: Drop> Packets<M> {
 
     /// The place of packet `k`, of which a copy has to be in flight.
     pub fn in_flight(&self, k: u32) -> Result<usize, StepRefusal>
-        ensures ok { IfOk result (λ place. (place ≡ k) × (0 < kept_copies (slice_get self.now k))) }
-        ensures err { IfErr result (λ why. (why ≡ StepRefusal.NoCopy) × (kept_copies (slice_get self.now k) ≡ 0)) }
+        ensures ok { IfOk result (λ place. (place ≡ k) × (0 < held_copies (slice_get self.now k))) }
+        ensures err { IfErr result (λ why. (why ≡ StepRefusal.NoCopy) × (held_copies (slice_get self.now k) ≡ 0)) }
     {
         if self.copies(k) == 0 {
             return Err(StepRefusal::NoCopy);
@@ -118,8 +118,8 @@ impl<M: Drop> Packets<M> {
     /// One more copy of packet `k` is in flight. It takes no memory.
     pub fn add_copy(&mut self, k: usize)
         requires sent { k < length self.old }
-        requires fits { kept_copies (slice_get self.old k) + 1 < 2 ^ 32 }
-        ensures { self.new ≡ change_at kept_more k self.old }
+        requires fits { held_copies (slice_get self.old k) + 1 < 2 ^ 32 }
+        ensures { self.new ≡ change_at held_more k self.old }
     {
         let packet = &mut self.items[k];
         packet.add_copy();
@@ -127,8 +127,8 @@ impl<M: Drop> Packets<M> {
 
     /// One copy less of packet `k` is in flight.
     pub fn take_copy(&mut self, k: usize)
-        requires { 0 < kept_copies (slice_get self.old k) }
-        ensures { self.new ≡ change_at kept_less k self.old }
+        requires { 0 < held_copies (slice_get self.old k) }
+        ensures { self.new ≡ change_at held_less k self.old }
     {
         let packet = &mut self.items[k];
         packet.take_copy();
@@ -136,7 +136,7 @@ impl<M: Drop> Packets<M> {
 
     /// Adds a packet with one copy in flight.
     pub fn send(&mut self, source: Node, destination: Node, content: M) -> Result<(), AllocError>
-        ensures sent { OnOk result (self.new ≡ self.old ++ kept_sent source (destination, content) ∷ []) }
+        ensures sent { OnOk result (self.new ≡ self.old ++ held_sent source (destination, content) ∷ []) }
     {
         self.items.push(Packet {
             source,

@@ -1,9 +1,10 @@
 ghost use Rattle.std.specs.Prelude.{◌≡◌, ℕ, [], ◌∷◌, true, false, Some, None, slice_get};
 ghost use Rattle.net_semantics.specs.Worlds.{copies, ends};
-ghost use Rattle.net_semantics.specs.Runs.{trace, first_refused, machine, machine_trace, no_recovery};
+ghost use Rattle.net_semantics.specs.Runs.{trace, first_refused, machine, machine_trace, no_recovery, outputs_in};
 ghost use Rattle.net_semantics.specs.Once.{once};
 ghost use Rattle.net_semantics.specs.ShownFail.{kept_at};
-ghost use Rattle.net_semantics.specs.Echo.{echo, echo_recovery, echo_after, echo_refuses, adder};
+ghost use Rattle.handler_trait.specs.Echo.{echo, echo_recovery};
+ghost use Rattle.net_semantics.specs.Echo.{echo_after, echo_refuses, adder};
 
 use vst_base::{Item, Net, Step, StepRefusal};
 
@@ -37,6 +38,7 @@ pub fn refusals_in_order()
     ensures down_for_tick { echo_refuses Net.Fail (Step.Crash 1 ∷ []) (Step.Tick 1) ≡ Some StepRefusal.NodeDown }
     ensures down_for_crash { echo_refuses Net.Fail (Step.Crash 1 ∷ []) (Step.Crash 1) ≡ Some StepRefusal.NodeDown }
     ensures down_before_copy { echo_refuses Net.Fail (Step.In 1 5 ∷ Step.Deliver 0 ∷ Step.Crash 0 ∷ []) (Step.Deliver 0) ≡ Some StepRefusal.NodeDown }
+    ensures copied_while_down { echo_refuses Net.Fail (Step.In 1 5 ∷ Step.Crash 0 ∷ []) (Step.Dup 0) ≡ None }
     ensures source_may_be_down { echo_refuses Net.Fail (Step.In 1 5 ∷ Step.Crash 1 ∷ []) (Step.Deliver 0) ≡ None }
     ensures lost_while_down { echo_refuses Net.Fail (Step.In 1 5 ∷ Step.Crash 0 ∷ []) (Step.Lose 0) ≡ None }
     ensures up { echo_refuses Net.Fail [] (Step.Reboot 1) ≡ Some StepRefusal.NodeUp }
@@ -59,7 +61,8 @@ pub fn steps_of_a_world()
     ensures input_from_a_state { (echo_after (Step.In 1 5 ∷ Step.In 1 3 ∷ [])).state 1 ≡ 5 }
     ensures other_state { (echo_after (Step.In 1 5 ∷ [])).state 0 ≡ 0 }
     ensures input_packets { (echo_after (Step.In 1 5 ∷ [])).packets ≡ record { source = 1; destination = 0; content = 5; copies = 1 } ∷ [] }
-    ensures tick_state { (echo_after (Step.In 1 5 ∷ Step.Tick 1 ∷ [])).state 1 ≡ 5 }
+    ensures tick_state { (echo_after (Step.In 1 5 ∷ Step.Tick 1 ∷ [])).state 1 ≡ 40 }
+    ensures tick_packets { (echo_after (Step.Tick 1 ∷ [])).packets ≡ record { source = 1; destination = 1; content = 9; copies = 1 } ∷ [] }
     ensures order_of_sending { (echo_after (Step.Tick 1 ∷ Step.In 1 5 ∷ [])).packets ≡ record { source = 1; destination = 1; content = 9; copies = 1 } ∷ record { source = 1; destination = 0; content = 5; copies = 1 } ∷ [] }
 
     ensures deliver_state { (echo_after (Step.In 1 5 ∷ Step.Deliver 0 ∷ [])).state 0 ≡ 105 }
@@ -74,17 +77,17 @@ pub fn steps_of_a_world()
 
     ensures crash_up { (echo_after (Step.In 1 5 ∷ Step.Crash 1 ∷ [])).is_up 1 ≡ false }
     ensures crash_other_up { (echo_after (Step.In 1 5 ∷ Step.Crash 1 ∷ [])).is_up 0 ≡ true }
-    ensures crash_kept { (echo_after (Step.In 1 5 ∷ Step.Crash 1 ∷ [])).kept 1 ≡ Some 10 }
+    ensures crash_kept { (echo_after (Step.In 1 5 ∷ Step.Crash 1 ∷ [])).kept 1 ≡ Some 2 }
     ensures crash_packets { copies (echo_after (Step.In 1 5 ∷ Step.Crash 1 ∷ [])) 0 ≡ 1 }
     ensures reboot_up { (echo_after (Step.In 1 5 ∷ Step.Crash 1 ∷ Step.Reboot 1 ∷ [])).is_up 1 ≡ true }
-    ensures reboot_state { (echo_after (Step.In 1 5 ∷ Step.Crash 1 ∷ Step.Reboot 1 ∷ [])).state 1 ≡ 11 }
+    ensures reboot_state { (echo_after (Step.In 1 5 ∷ Step.Crash 1 ∷ Step.Reboot 1 ∷ [])).state 1 ≡ 3 }
     ensures reboot_kept { (echo_after (Step.In 1 5 ∷ Step.Crash 1 ∷ Step.Reboot 1 ∷ [])).kept 1 ≡ None }
 {}
 
 /// Short runs of three nodes, and of a single machine.
 pub fn runs_and_traces()
     ensures nothing { trace (echo 3) echo_recovery [] ≡ [] }
-    ensures input_then_outputs { trace (echo 3) echo_recovery (Step.In 1 5 ∷ Step.In 2 7 ∷ Step.Deliver 1 ∷ Step.Tick 0 ∷ Step.Deliver 0 ∷ []) ≡ Item.Input 1 5 ∷ Item.Output 1 5 ∷ Item.Input 2 7 ∷ Item.Output 2 7 ∷ Item.Output 0 7 ∷ Item.Output 0 5 ∷ [] }
+    ensures input_then_outputs { trace (echo 3) echo_recovery (Step.In 1 5 ∷ Step.In 2 7 ∷ Step.Deliver 1 ∷ Step.Tick 0 ∷ Step.Deliver 0 ∷ []) ≡ Item.Input 1 5 ∷ Item.Output 1 5 ∷ Item.Input 2 7 ∷ Item.Output 2 7 ∷ Item.Output 0 7 ∷ Item.Output 0 40 ∷ Item.Output 0 5 ∷ [] }
     ensures silent_steps { trace (echo 3) echo_recovery (Step.In 2 7 ∷ Step.Dup 0 ∷ Step.Lose 0 ∷ Step.Crash 1 ∷ Step.Reboot 1 ∷ []) ≡ Item.Input 2 7 ∷ Item.Output 2 7 ∷ [] }
     ensures allowed { first_refused Net.Bag (echo 3) echo_recovery (Step.In 1 5 ∷ Step.Deliver 0 ∷ Step.Tick 2 ∷ []) ≡ None }
     ensures refused_at_once { first_refused Net.Bag (echo 3) echo_recovery (Step.Tick 3 ∷ Step.Dup 0 ∷ []) ≡ Some (0, StepRefusal.NoSuchNode) }
@@ -92,6 +95,7 @@ pub fn runs_and_traces()
     ensures refused_later { first_refused Net.Dup (echo 3) echo_recovery (Step.In 1 5 ∷ Step.Dup 0 ∷ Step.Deliver 1 ∷ []) ≡ Some (2, StepRefusal.NoCopy) }
 
     ensures machine_answers { machine_trace adder (3 ∷ 4 ∷ []) ≡ Item.Input 0 3 ∷ Item.Output 0 0 ∷ Item.Input 0 4 ∷ Item.Output 0 3 ∷ [] }
+    ensures machine_outputs { outputs_in (machine_trace adder (3 ∷ 4 ∷ [])) ≡ 0 ∷ 3 ∷ [] }
     ensures machine_as_handlers { trace (machine adder) no_recovery (Step.In 0 3 ∷ Step.In 0 4 ∷ []) ≡ machine_trace adder (3 ∷ 4 ∷ []) }
     ensures machine_alone { first_refused Net.One (machine adder) no_recovery (Step.In 0 3 ∷ Step.In 1 4 ∷ []) ≡ Some (1, StepRefusal.NoSuchNode) }
 {}

@@ -2,10 +2,11 @@ ghost use Rattle.std.specs.Prelude.{◌≡◌, ◌≢◌, ℕ, ◌+◌, ◌<◌,
 ghost use Rattle.net_semantics.specs.Worlds.{first_world, change_at, copies, ends};
 ghost use Rattle.net_semantics.specs.Steps.{next, refusal_of, items_of, IsAnswer};
 ghost use Rattle.net_semantics.specs.Runs.{no_recovery};
-ghost use Rattle.net_semantics.specs.Shown.{IsSoundBy, ShowsBy};
-ghost use Rattle.net_semantics.specs.Kept.{kept_copies, kept_less};
-ghost use Rattle.net_semantics.specs.Taking.{AnswersBy, TakesBy};
+ghost use Rattle.net_semantics.specs.Shown.{ForShown, IsSoundBy, ShowsBy};
+ghost use Rattle.net_semantics.specs.Held.{held_copies, held_less};
+ghost use Rattle.net_semantics.specs.Taking.{AnswersBy, GrowsBy, TakesBy};
 ghost use Rattle.vst_base.specs.Nets.{has_kind};
+ghost use Rattle.vst_base.specs.declared.step.TheConstants.{MAX_STEPS};
 
 use crate::Trace;
 use crate::events::{first_states, input_event, message_event, publish, timeout_event};
@@ -14,10 +15,8 @@ use crate::refusals::{existing_node, input_node, or_memory};
 use handler_trait::{Effects, Handlers};
 use std::alloc::{AllocError, Global};
 use std::marker::Model;
+use std::mem;
 use vst_base::{Item, Net, Node, Step, StepKind, StepRefusal};
-
-/// The greatest number of steps that a world takes.
-pub const MAX_STEPS: u32 = 1_000_000;
 
 /// A network without crashes: inputs alone, a bag of packets, or a bag that `Dup` steps may copy from.
 #[derive(Drop)]
@@ -52,9 +51,10 @@ impl<H: Handlers> Model for World<H> {
 }
 
 impl<H: Handlers> World<H> {
-    /// The first world of these handlers, on a network that stops no node.
+    /// The first world of these handlers, on a network that stops no node. Where a network has inputs alone there is one node.
     pub fn new(alloc: Global, handlers: H, net: Net) -> Result<Self, AllocError>
-        requires { net ≢ Net.Fail }
+        requires net { net ≢ Net.Fail }
+        requires alone { net ≡ Net.One → (H.meaning handlers).nodes ≡ 1 }
         ensures handlers { IfOk result (λ world. world.handlers ≡ handlers) }
         ensures net { IfOk result (λ world. world.net ≡ net) }
         ensures first { IfOk result (λ world. ShowsBy H.Handlers world (first_world (H.meaning handlers))) }
@@ -79,15 +79,15 @@ impl<H: Handlers> World<H> {
     /// After want of memory the world is given up.
     pub fn step(&mut self, step: &Step<H::Input>) -> Result<(), StepRefusal>
         requires sound { IsSoundBy H.Handlers self.old }
-        requires steps { self.old.taken < 1000000 }
-        ensures refused { (w : _) → ShowsBy H.Handlers self.old w
-            → IsAnswer result (refusal_of self.old.net (H.meaning self.old.handlers) w step.now) }
+        requires steps { self.old.taken < MAX_STEPS }
+        ensures refused { ForShown H.Handlers self.old (λ w.
+            IsAnswer result (refusal_of self.old.net (H.meaning self.old.handlers) w step.now)) }
         ensures unchanged { IfErr result (λ why. why ≢ StepRefusal.Memory → self.new ≡ self.old) }
-        ensures next { OnOk result ((w : _) → ShowsBy H.Handlers self.old w
-            → ShowsBy H.Handlers self.new (next (H.meaning self.old.handlers) no_recovery w step.now)) }
-        ensures trace { OnOk result ((w : _) → ShowsBy H.Handlers self.old w
-            → self.new.trace ≡ self.old.trace ++ items_of (H.meaning self.old.handlers) w step.now) }
-        ensures trace_grows { OnOk result (length self.old.trace ≤ length self.new.trace) }
+        ensures next { OnOk result (ForShown H.Handlers self.old (λ w.
+            ShowsBy H.Handlers self.new (next (H.meaning self.old.handlers) no_recovery w step.now))) }
+        ensures trace { OnOk result (ForShown H.Handlers self.old (λ w.
+            self.new.trace ≡ self.old.trace ++ items_of (H.meaning self.old.handlers) w step.now)) }
+        ensures trace_grows { OnOk result (GrowsBy (length self.old.trace) (length self.new.trace)) }
         ensures taken { OnOk result (self.new.taken ≡ self.old.taken + 1) }
         ensures handlers { self.new.handlers ≡ self.old.handlers }
         ensures net { self.new.net ≡ self.old.net }
@@ -120,14 +120,14 @@ impl<H: Handlers> World<H> {
         self.taken
     }
 
-    /// Gives up the world for what clients saw since it was last let go.
+    /// Gives up the world for what clients saw since it was last cleared.
     pub fn into_trace(self) -> Trace<H::Input, H::Output>
         ensures { result ≡ self.trace }
     {
         self.trace
     }
 
-    /// What clients saw since it was last let go.
+    /// What clients saw since it was last cleared.
     pub fn trace(&self) -> &Trace<H::Input, H::Output>
         ensures { result.now ≡ self.now.trace }
     {
@@ -143,14 +143,14 @@ impl<H: Handlers> World<H> {
 
     /// How many copies of packet `k` are in flight, none of one that was never sent.
     pub fn copies(&self, k: u32) -> u32
-        ensures { (w : _) → ShowsBy H.Handlers self.now w → result ≡ copies w k }
+        ensures { ForShown H.Handlers self.now (λ w. result ≡ copies w k) }
     {
         self.packets.copies(k)
     }
 
     /// The source and the destination of packet `k`, and `None` exactly where it was never sent.
     pub fn ends(&self, k: u32) -> Option<(Node, Node)>
-        ensures { (w : _) → ShowsBy H.Handlers self.now w → result ≡ ends w k }
+        ensures { ForShown H.Handlers self.now (λ w. result ≡ ends w k) }
     {
         self.packets.ends(k)
     }
@@ -158,14 +158,14 @@ impl<H: Handlers> World<H> {
     /// How many packets were sent.
     pub fn sent(&self) -> u32
         requires sound { IsSoundBy H.Handlers self.now }
-        ensures { (w : _) → ShowsBy H.Handlers self.now w → result ≡ length w.packets }
+        ensures { ForShown H.Handlers self.now (λ w. result ≡ length w.packets) }
     {
         self.packets.len() as u32
     }
 
     /// Whether node `n` is up: on these networks it always is.
     pub fn is_up(&self, n: Node) -> bool
-        ensures { (w : _) → ShowsBy H.Handlers self.now w → result ≡ w.is_up n }
+        ensures { ForShown H.Handlers self.now (λ w. result ≡ w.is_up n) }
     {
         true
     }
@@ -174,7 +174,7 @@ impl<H: Handlers> World<H> {
     pub fn state(&self, n: Node) -> &H::State
         requires sound { IsSoundBy H.Handlers self.now }
         requires node { n < (H.meaning self.now.handlers).nodes }
-        ensures { (w : _) → ShowsBy H.Handlers self.now w → result.now ≡ w.state n }
+        ensures { ForShown H.Handlers self.now (λ w. result.now ≡ w.state n) }
     {
         self.held_state(n)
     }
@@ -192,7 +192,7 @@ impl<H: Handlers> World<H> {
     // An input step.
     fn take_input(&mut self, n: u32, input: &H::Input) -> Result<(), StepRefusal>
         requires sound { IsSoundBy H.Handlers self.old }
-        requires steps { self.old.taken < 1000000 }
+        requires steps { self.old.taken < MAX_STEPS }
         requires kind { IsTrue (has_kind self.old.net StepKind.In) }
         ensures { AnswersBy H.Handlers (Step.In n input.now) self.old self.new result }
     {
@@ -203,7 +203,7 @@ impl<H: Handlers> World<H> {
     // A step of a timer.
     fn take_tick(&mut self, n: u32) -> Result<(), StepRefusal>
         requires sound { IsSoundBy H.Handlers self.old }
-        requires steps { self.old.taken < 1000000 }
+        requires steps { self.old.taken < MAX_STEPS }
         requires kind { IsTrue (has_kind self.old.net StepKind.Tick) }
         ensures { AnswersBy H.Handlers (Step.Tick n) self.old self.new result }
     {
@@ -214,7 +214,7 @@ impl<H: Handlers> World<H> {
     // A delivery.
     fn take_deliver(&mut self, k: u32) -> Result<(), StepRefusal>
         requires sound { IsSoundBy H.Handlers self.old }
-        requires steps { self.old.taken < 1000000 }
+        requires steps { self.old.taken < MAX_STEPS }
         requires kind { IsTrue (has_kind self.old.net StepKind.Deliver) }
         ensures { AnswersBy H.Handlers (Step.Deliver k) self.old self.new result }
     {
@@ -225,7 +225,7 @@ impl<H: Handlers> World<H> {
     // A step that copies a packet. It takes no memory.
     fn take_dup(&mut self, k: u32) -> Result<(), StepRefusal>
         requires sound { IsSoundBy H.Handlers self.old }
-        requires steps { self.old.taken < 1000000 }
+        requires steps { self.old.taken < MAX_STEPS }
         requires kind { IsTrue (has_kind self.old.net StepKind.Dup) }
         ensures answers { AnswersBy H.Handlers (Step.Dup k) self.old self.new result }
         ensures no_memory { result ≢ Err StepRefusal.Memory }
@@ -239,7 +239,7 @@ impl<H: Handlers> World<H> {
     // The node takes the input.
     fn input(&mut self, node: Node, input: &H::Input) -> Result<(), AllocError>
         requires sound { IsSoundBy H.Handlers self.old }
-        requires steps { self.old.taken < 1000000 }
+        requires steps { self.old.taken < MAX_STEPS }
         requires node { node < (H.meaning self.old.handlers).nodes }
         requires takes { IsTrue ((H.meaning self.old.handlers).takes_input node) }
         ensures takes { OnOk result (TakesBy H.Handlers (Step.In node input.now) self.old self.new) }
@@ -256,7 +256,9 @@ impl<H: Handlers> World<H> {
             &mut self.effects,
         )?;
         self.trace.push(Item::Input(node, copy))?;
-        publish(node, &mut self.effects, &mut self.trace, &mut self.packets)?;
+        let effects = mem::replace(&mut self.effects, Effects::new(self.alloc));
+        let emptied = publish(node, effects, &mut self.trace, &mut self.packets)?;
+        self.effects = emptied;
         self.taken += 1;
         Ok(())
     }
@@ -264,7 +266,7 @@ impl<H: Handlers> World<H> {
     // The node's timer fires.
     fn tick(&mut self, node: Node) -> Result<(), AllocError>
         requires sound { IsSoundBy H.Handlers self.old }
-        requires steps { self.old.taken < 1000000 }
+        requires steps { self.old.taken < MAX_STEPS }
         requires node { node < (H.meaning self.old.handlers).nodes }
         ensures takes { OnOk result (TakesBy H.Handlers (Step.Tick node) self.old self.new) }
         ensures handlers { self.new.handlers ≡ self.old.handlers }
@@ -277,7 +279,9 @@ impl<H: Handlers> World<H> {
             &mut self.states,
             &mut self.effects,
         )?;
-        publish(node, &mut self.effects, &mut self.trace, &mut self.packets)?;
+        let effects = mem::replace(&mut self.effects, Effects::new(self.alloc));
+        let emptied = publish(node, effects, &mut self.trace, &mut self.packets)?;
+        self.effects = emptied;
         self.taken += 1;
         Ok(())
     }
@@ -285,8 +289,8 @@ impl<H: Handlers> World<H> {
     // A copy of packet `k` comes to its destination.
     fn deliver(&mut self, k: usize) -> Result<(), AllocError>
         requires sound { IsSoundBy H.Handlers self.old }
-        requires steps { self.old.taken < 1000000 }
-        requires copy { 0 < kept_copies (slice_get self.old.packets k) }
+        requires steps { self.old.taken < MAX_STEPS }
+        requires copy { 0 < held_copies (slice_get self.old.packets k) }
         ensures takes { OnOk result (TakesBy H.Handlers (Step.Deliver k) self.old self.new) }
         ensures handlers { self.new.handlers ≡ self.old.handlers }
         ensures net { self.new.net ≡ self.old.net }
@@ -301,7 +305,9 @@ impl<H: Handlers> World<H> {
             &mut self.effects,
         )?;
         self.packets.take_copy(k);
-        publish(node, &mut self.effects, &mut self.trace, &mut self.packets)?;
+        let effects = mem::replace(&mut self.effects, Effects::new(self.alloc));
+        let emptied = publish(node, effects, &mut self.trace, &mut self.packets)?;
+        self.effects = emptied;
         self.taken += 1;
         Ok(())
     }
@@ -311,12 +317,12 @@ impl<H: Handlers> World<H> {
 impl<H: Handlers> World<H> {
     /// A step in which a copy of packet `k` is lost. It takes no memory.
     pub(crate) fn lose(&mut self, k: u32) -> Result<(), StepRefusal>
-        requires { self.old.taken < 1000000 }
-        ensures copy { OnOk result (0 < kept_copies (slice_get self.old.packets k)) }
+        requires { self.old.taken < MAX_STEPS }
+        ensures copy { OnOk result (0 < held_copies (slice_get self.old.packets k)) }
         ensures lost { OnOk result (self.new
-            ≡ record self.old { packets = change_at kept_less k self.old.packets; taken = self.old.taken + 1 }) }
+            ≡ record self.old { packets = change_at held_less k self.old.packets; taken = self.old.taken + 1 }) }
         ensures why { IfErr result (λ why.
-            (why ≡ StepRefusal.NoCopy) × (kept_copies (slice_get self.old.packets k) ≡ 0)) }
+            (why ≡ StepRefusal.NoCopy) × (held_copies (slice_get self.old.packets k) ≡ 0)) }
         ensures unchanged { OnErr result (self.new ≡ self.old) }
     {
         let place = self.packets.in_flight(k)?;
@@ -327,7 +333,7 @@ impl<H: Handlers> World<H> {
 
     /// A step that changes nothing here.
     pub(crate) fn count_step(&mut self)
-        requires { self.old.taken < 1000000 }
+        requires { self.old.taken < MAX_STEPS }
         ensures { self.new ≡ record self.old { taken = self.old.taken + 1 } }
     {
         self.taken += 1;
@@ -336,7 +342,7 @@ impl<H: Handlers> World<H> {
     /// A step in which node `n` starts again from this state.
     pub(crate) fn restart(&mut self, n: Node, state: H::State)
         requires node { n < length self.old.states }
-        requires steps { self.old.taken < 1000000 }
+        requires steps { self.old.taken < MAX_STEPS }
         ensures { self.new
             ≡ record self.old { states = change_at (λ _. state) n self.old.states; taken = self.old.taken + 1 } }
     {

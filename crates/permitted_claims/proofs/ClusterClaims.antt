@@ -1,28 +1,26 @@
 -- What a claim on a machine on a cluster holds has texts, where the claim was read.
-use Rattle.std.specs.Prelude.{◌≡◌, ◌↔◌, ℕ, List, [], ◌∷◌, map, Option, Some, None, is_none, option_and_then, refl}
+use Rattle.std.specs.Prelude.{◌≡◌, ℕ, List, [], ◌∷◌, map, Option, Some, None, is_none, option_and_then, refl}
 use Rattle.check_text.specs.Forms.{Form, claim_of, form_of}
 use Rattle.check_text.specs.ImageLines.{behind_order, order_of, order_says}
 use Rattle.check_text.specs.Reading.{Whole}
-use Rattle.claim_verdicts.specs.Clusters.{ClusterClaim, cluster_verdict}
+use Rattle.claim_verdicts.specs.Clusters.{ClusterClaim}
 use Rattle.claim_verdicts.specs.Laws.{AreSpelled, IsSpelledItem}
-use Rattle.claim_verdicts.specs.declared.verdict.Verdict.TheVariants.{Yes}
+use Rattle.claim_verdicts.proofs.Decided.{yes-linearizable}
 use Rattle.line_reader.specs.declared.why.Why.TheVariants as why
-use Rattle.linearizability.specs.Linearizable.{Each, IsLinearizable}
+use Rattle.linearizability.specs.Linearizable.{Each}
 use Rattle.raft_text.specs.RaftTexts.{IsRaftInput, IsRaftOutput, raft_input_of, raft_output_of}
 use Rattle.raft_text.specs.RaftTextLaws.{raft_inputs_are_spelled, raft_outputs_are_spelled}
 use Rattle.raft_types.specs.declared.client.RaftInput.{RaftInput}
 use Rattle.raft_types.specs.declared.client.RaftOut.{RaftOut}
 use Rattle.raft_types.specs.declared.client.RaftOut.TheVariants as told
-use Rattle.stacks.specs.Kinds.{clustered}
+use Rattle.stacks.specs.Kinds.{Application, clustered}
 use Rattle.stacks.specs.Stack.{Texts}
 use Rattle.vst_base.specs.Firsts.{first_of}
-use Rattle.vst_base.specs.Machines.{MachineMeaning}
 use Rattle.vst_base.specs.declared.step.Item.{Item}
 use Rattle.vst_base.specs.declared.step.Item.TheVariants as item
+use Rattle.permitted_claims.specs.Spelled.{HasInputText, HasOutputText, IsSpelledMachine, IsTextItem}
 use Rattle.permitted_claims.proofs.Eaches.{IfThere, each-weaker}
 use Rattle.permitted_claims.proofs.ReadClaims.{AreApart, IfSays, read-whole, said-there}
-use Rattle.permitted_claims.proofs.TextItems.{IsTextItem}
-use Rattle.permitted_claims.proofs.TextMachines.{IsTextMachine, fold-text}
 use Rattle.permitted_claims.proofs.Verdicts.{IsDecided}
 
 commands-text : {C : Type 0} (HasIn : C → Type 0) (order : List (RaftInput C)) → Each (IsRaftInput HasIn) order → Each HasIn (map (λ r. r.cmd) order)
@@ -53,19 +51,25 @@ module _ {I : Type 0} (f : List ℕ → Option I) (HasIn : I → Type 0) (has_te
 abbrev pub order_form : {C O : Type 0} → ℕ → Texts C O → Form (RaftInput C) (RaftOut O) (RaftInput C)
 order_form nodes t = form_of nodes (raft_input_of t.input_of) (raft_output_of t.output_of) None (order_says (raft_input_of t.input_of))
 
-module _ {S C O : Type 0} (apart : AreApart) (nodes : ℕ) (m : MachineMeaning S C O) (t : Texts C O) (HasIn : C → Type 0) (HasOut : O → Type 0) (Sound : S → Type 0) (spelled : IsTextMachine m t HasIn HasOut Sound)
-    (law : (c : ClusterClaim C O) → AreSpelled HasIn HasOut m c → (cluster_verdict t.input_text t.output_text m c ≡ Yes) ↔ IsLinearizable m c.image c.trace) where
-  cluster-spelled : (ls : List (List ℕ)) (c : ClusterClaim C O) → claim_of (order_form nodes t) ls ≡ Whole c → AreSpelled HasIn HasOut m c
+module _ (apart : AreApart) (nodes : ℕ) (p : Application) (spelled : IsSpelledMachine p) where
+  abbrev HasIn : p.Command → Type 0
+  HasIn c = HasInputText p.texts c
+
+  abbrev HasOut : p.Output → Type 0
+  HasOut o = HasOutputText p.texts o
+
+  cluster-spelled : (ls : List (List ℕ)) (c : ClusterClaim p.Command p.Output) → claim_of (order_form nodes p.texts) ls ≡ Whole c → AreSpelled HasIn HasOut p.machine c
   cluster-spelled ls c is =
-      let requests = raft_inputs_are_spelled spelled.ins in
-      let answers = raft_outputs_are_spelled spelled.outs in
-      let read = read-whole apart (order_form nodes t) (IsRaftInput HasIn) (IsRaftOutput HasOut) (IsRaftInput HasIn) requests.has_text answers.has_text
-      (order-text (raft_input_of t.input_of) (IsRaftInput HasIn) requests.has_text) ls c is in
+      let requests = raft_inputs_are_spelled spelled.texts.inputs in
+      let answers = raft_outputs_are_spelled spelled.texts.outputs in
+      let read = read-whole apart (order_form nodes p.texts) (IsRaftInput HasIn) (IsRaftOutput HasOut) (IsRaftInput HasIn) requests.has_text answers.has_text
+      (order-text (raft_input_of p.texts.input_of) (IsRaftInput HasIn) requests.has_text) ls c is in
       record {
         trace = each-weaker (IsTextItem nodes (IsRaftInput HasIn) (IsRaftOutput HasOut)) (IsSpelledItem HasIn HasOut) (item-spelled nodes HasIn HasOut) c.trace read.trace;
         order = each-weaker (IsRaftInput HasIn) (λ r. HasIn r.cmd) (λ r has. has.2) c.image read.image;
-        outputs = fold-text m HasIn HasOut Sound spelled.keeps (map (λ r. r.cmd) c.image) (commands-text HasIn c.image read.image);
+        outputs = spelled.answers (map (λ r. r.cmd) c.image) (commands-text HasIn c.image read.image);
       }
 
-  pub cluster-decided : (n : ℕ) → IsDecided nodes (clustered m t n)
-  cluster-decided n ls c is = law c (cluster-spelled ls c is)
+  pub cluster-decided : (n : ℕ) → IsDecided nodes (clustered p.machine p.texts n)
+  cluster-decided n ls c is =
+      yes-linearizable HasOut p.texts.output_of p.texts.output_text spelled.texts.outputs p.machine HasIn p.texts.input_of p.texts.input_text spelled.texts.inputs c (cluster-spelled ls c is)

@@ -16,10 +16,10 @@ use Rattle.vst_base.specs.declared.pb_msg.PbMsg.TheVariants as msg
 use Rattle.vst_base.specs.declared.pb_out.PbOut.{PbOut}
 use Rattle.vst_base.specs.declared.step.Item.{Item}
 use Rattle.vst_base.specs.declared.step.Item.TheVariants as item
+use Rattle.permitted_claims.specs.Spelled.{IsTextItem}
 use Rattle.permitted_claims.proofs.Eaches.{IfThere, each-at, each-both, each-drop, either}
-use Rattle.permitted_claims.proofs.KvRuns.{MachineKeeps}
+use Rattle.permitted_claims.proofs.Machines.{MachineKeeps}
 use Rattle.permitted_claims.proofs.Runs.{IsFine, KeepsTexts}
-use Rattle.permitted_claims.proofs.TextItems.{IsTextItem}
 
 module _ {S C O : Type 0} (m : MachineMeaning S C O) (HasIn : C → Type 0) (HasOut : O → Type 0) (Sound : S → Type 0) (keeps : MachineKeeps m HasIn HasOut Sound) where
   -- the requests that a node remembers have texts, and so have those that are sent

@@ -24,8 +24,8 @@ use Rattle.check_text.specs.TraceLines.{ItemParts, begins_as_input, count_item, 
 use Rattle.check_text.specs.declared.image_line.ImageLine.{ImageLine}
 use Rattle.check_text.specs.declared.image_line.ImageLine.TheVariants as line
 use Rattle.check_text.proofs.ImageHeaders.{header-headed}
+use Rattle.permitted_claims.specs.Spelled.{IsTextItem}
 use Rattle.permitted_claims.proofs.Eaches.{IfThere}
-use Rattle.permitted_claims.proofs.TextItems.{IsTextItem}
 
 -- what was read whole is so
 abbrev pub IfWhole : {A : Type 0} → (A → Type 0) → Reading A → Type 0

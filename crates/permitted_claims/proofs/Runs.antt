@@ -15,8 +15,8 @@ use Rattle.net_semantics.specs.Runs.{IsAllowed, first_refused_from, place_and_wh
 use Rattle.net_semantics.specs.Steps.{Event, after_event, after_network, delivery, event_of, fails, input_item, items_of, items_of_event, next, node_of, rebooted, refusal_of}
 use Rattle.net_semantics.specs.Worlds.{Packet, World, change_at, first_world, one_less, one_more, put, sent_by}
 use Rattle.schedule_text.specs.Spellable.{IsSpellable}
+use Rattle.permitted_claims.specs.Spelled.{IsTextItem}
 use Rattle.permitted_claims.proofs.Eaches.{IfThere, each-at, each-both}
-use Rattle.permitted_claims.proofs.TextItems.{IsTextItem}
 
 -- a test that gives no refusal fails
 pub no-refusal : {W : Type 0} (t : Bool) (w : W) (o : Option W) → cond t (Some w) o ≡ None → (t ≡ false) × (o ≡ None)

@@ -15,12 +15,8 @@ use Rattle.schedule_text.specs.Words.{cut, is_text}
 use Rattle.schedule_text.proofs.NumeralLaws.{number_of-decimal, own}
 use Rattle.schedule_text.proofs.ReadBackLaws.{cut-digits}
 use Rattle.check_text.specs.Forms.{Form}
+use Rattle.permitted_claims.specs.Spelled.{IsTextItem}
 use Rattle.check_text.specs.TraceLines.{ItemParts, is_beyond, item_of, item_or_refusal, item_parts, node_in, trace_says}
-
--- an item at a node below so many, whose input or output has a text
-abbrev pub IsTextItem : {I O : Type 0} → ℕ → (I → Type 0) → (O → Type 0) → Item I O → Type 0
-IsTextItem nodes HasIn HasOut (item.Input n i) = (n < nodes) × HasIn i
-IsTextItem nodes HasIn HasOut (item.Output n o) = (n < nodes) × HasOut o
 
 -- fewer nodes are below more
 pub more-nodes : {I O : Type 0} (few many : ℕ) (HasIn : I → Type 0) (HasOut : O → Type 0) → few ≤ many → (items : List (Item I O)) → Each (IsTextItem few HasIn HasOut) items → Each (IsTextItem many HasIn HasOut) items

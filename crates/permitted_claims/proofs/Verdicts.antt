@@ -8,7 +8,7 @@ use Rattle.claim_verdicts.specs.declared.verdict.Verdict.TheVariants.{No, Yes}
 use Rattle.line_reader.specs.Lines.{lines_of}
 use Rattle.line_reader.specs.declared.why.Why.TheVariants as why
 use Rattle.stacks.specs.Stack.{AnyStack, Entry, Found, Here, IfFound, Nowhere, found_or}
-use Rattle.trace_check.specs.Checks.{IsClaim, checked_on, form_on, said, stack_in}
+use Rattle.stacks.specs.Checks.{IsClaim, checked_on, form_on, said, stack_in}
 
 -- the verdict on each claim that is read is yes exactly where its image explains its trace
 abbrev pub IsDecided : ℕ → AnyStack → Type 0

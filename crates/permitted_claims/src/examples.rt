@@ -1,11 +1,20 @@
-ghost use Rattle.std.specs.Prelude.{codes};
-ghost use Rattle.trace_check.specs.Checks.{IsNotPermitted, IsPermitted};
+ghost use Rattle.std.specs.Prelude.{None, codes, replicate};
+ghost use Rattle.app_text.specs.KvTexts.{kv_out};
+ghost use Rattle.kv_machine.specs.declared.cmd.KvCmd.TheVariants as cmd;
+ghost use Rattle.permitted_claims.specs.Spelled.{HasInputText, HasOutputText};
+ghost use Rattle.stacks.specs.Checks.{IsNotPermitted, IsPermitted};
+ghost use Rattle.stacks.specs.Table.{kv_texts};
 ghost use Rattle.vst_base.specs.declared.stack.StackId.TheVariants as stack;
 
 use crate::permitted_claims_are_explained;
 
-/// Texts that are claims which are explained, and such as are not.
+/// Texts that are claims which are explained, and such as are not; and values that have a text, and such as have none.
 pub fn worked()
+    ensures longest_key { HasInputText kv_texts (cmd.Get (replicate 64 97)) }
+    ensures key_too_long { HasInputText kv_texts (cmd.Get (replicate 65 97)) → ⊥ }
+    ensures space_in_a_key { HasInputText kv_texts (cmd.Get (codes "a b")) → ⊥ }
+    ensures output { HasOutputText kv_texts (kv_out (codes "a") None None) }
+    ensures no_key { HasOutputText kv_texts (kv_out (codes "") None None) → ⊥ }
     ensures in_order { IsPermitted stack.KvRaft (codes "in 0 7 1 put a x\nout 0 reply 7 1 a =x -\nbelow\norder 7 1 put a x\n") }
     ensures not_in_the_order { IsPermitted stack.KvRaft (codes "in 0 7 1 put a x\nout 0 reply 7 1 a =x -\nbelow\n") → ⊥ }
     ensures no_image { IsPermitted stack.KvRaft (codes "in 0 7 1 put a x\n") → ⊥ }

@@ -1,15 +1,21 @@
 ghost use Rattle.std.specs.Prelude.{◌≡◌, ◌↔◌, ℕ, List, Ok};
 ghost use Rattle.claim_verdicts.specs.declared.verdict.Verdict.TheVariants.{No, Yes};
-ghost use Rattle.trace_check.specs.Checks.{IsNotPermitted, IsPermitted, checked};
+ghost use Rattle.permitted_claims.specs.Spelled.{IsSpelledKind};
+ghost use Rattle.stacks.specs.Checks.{IsNotPermitted, IsPermitted, checked};
+ghost use Rattle.stacks.specs.Stack.{IfFound};
+ghost use Rattle.stacks.specs.Table.{kind_at};
+ghost use Rattle.vst_base.specs.Stacks.{row_of};
 ghost use Rattle.vst_base.specs.declared.stack.StackId.{StackId};
 
-use app_text::{KvText, LockText};
-use claim_verdicts::{yes_is_linearizable, yes_is_one_machine, yes_is_what_clients_see};
-use kv_machine::KvMachine;
-use lock_server::LockServer;
 use schedule_text::headers_follow_the_rows;
-use single_node::{SingleNode, is_the_machine};
+use stacks::stacks_fit_their_rows;
 use vst_base::stacks_have_one_word;
+
+/// The inputs and outputs of each stack are spelled, and stay so: each value that is read has one text, which is read back and fits
+/// on a line; and what the handlers or the machine of the stack answer to inputs that have texts has texts.
+pub fn stacks_are_spelled()
+    ensures { (i : StackId) → IfFound (kind_at (row_of i).net i) IsSpelledKind }
+{}
 
 /// A check of a text says yes exactly where the text is a claim that its image explains: on a cluster its trace is linearizable by
 /// its order; on a primary and its backup one machine explains its trace, and its image is what that machine took; on a machine
@@ -22,9 +28,6 @@ pub fn permitted_claims_are_explained()
 {
     stacks_have_one_word();
     headers_follow_the_rows();
-    is_the_machine::<KvMachine>();
-    yes_is_linearizable::<KvMachine, KvText>();
-    yes_is_one_machine::<KvMachine, KvText>();
-    yes_is_what_clients_see::<SingleNode<KvMachine>, KvText>();
-    yes_is_what_clients_see::<LockServer, LockText>();
+    stacks_fit_their_rows();
+    stacks_are_spelled();
 }

@@ -6,4 +6,4 @@ mod examples;
 mod laws;
 
 pub use examples::worked;
-pub use laws::permitted_claims_are_explained;
+pub use laws::{permitted_claims_are_explained, stacks_are_spelled};

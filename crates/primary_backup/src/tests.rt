@@ -1,51 +1,10 @@
-ghost use Rattle.std.specs.Prelude.{max, ◌<◌, ◌≤◌, IfOk, IsTrue};
-ghost use Rattle.handler_trait.specs.declared.handlers.TheConstants.{MAX_SENDS};
+ghost use Rattle.std.specs.Prelude.{◌<◌, IsTrue};
 
 use super::*;
 use handler_trait::{Effects, Handlers, MAX_SENDS};
 use std::alloc::{AllocError, Global};
 use std::test::Fail;
-use vst_base::{Machine, Node, PbMsg, PbOut};
-
-// A machine that keeps the greatest command, and answers with the greatest before.
-#[derive(Drop)]
-struct Greatest;
-
-impl Machine for Greatest {
-    type State = u8;
-
-    type Cmd = u8;
-
-    type Out = u8;
-
-    ghost meaning = { λ _. record { init = 0; apply = λ s c. (max s c, s) } };
-
-    fn init(&self, _alloc: Global) -> Result<u8, AllocError> {
-        Ok(0)
-    }
-
-    fn apply(&self, _alloc: Global, state: &mut u8, cmd: &u8) -> Result<u8, AllocError> {
-        let before = *state;
-        *state = before.max(*cmd);
-        Ok(before)
-    }
-
-    fn copy_cmd(&self, _alloc: Global, cmd: &u8) -> Result<u8, AllocError> {
-        Ok(*cmd)
-    }
-
-    fn copy_out(&self, _alloc: Global, out: &u8) -> Result<u8, AllocError> {
-        Ok(*out)
-    }
-}
-
-fn room<O: Drop, M: Drop>(alloc: Global) -> Result<Effects<O, M>, AllocError>
-    ensures { IfOk result (λ effects. MAX_SENDS ≤ effects.send_places) }
-{
-    let mut effects = Effects::new(alloc);
-    effects.reserve(1, MAX_SENDS)?;
-    Ok(effects)
-}
+use vst_base::{Counter, Machine, Node, PbMsg, PbOut};
 
 // What the first acknowledgement makes of a primary that was asked twice.
 fn first_acknowledged<M: Machine>(
@@ -58,11 +17,11 @@ fn first_acknowledged<M: Machine>(
     let primary = Node::new(0, 2).unwrap();
     let backup = Node::new(1, 2).unwrap();
     let mut state = nodes.init(alloc, primary)?;
-    let mut effects = room(alloc)?;
+    let mut effects = Effects::with_capacity(alloc, 1, MAX_SENDS)?;
     nodes.input(alloc, primary, &mut state, first, &mut effects)?;
-    let mut effects = room(alloc)?;
+    let mut effects = Effects::with_capacity(alloc, 1, MAX_SENDS)?;
     nodes.input(alloc, primary, &mut state, second, &mut effects)?;
-    let mut effects = room(alloc)?;
+    let mut effects = Effects::with_capacity(alloc, 1, MAX_SENDS)?;
     nodes.message(
         alloc,
         primary,
@@ -77,7 +36,7 @@ fn first_acknowledged<M: Machine>(
 #[test]
 fn an_acknowledgement_brings_a_reply_and_sends_the_next(rt: HostRuntime) -> Result<(), Fail> {
     let backup = Node::new(1, 2).unwrap();
-    let mut effects = first_acknowledged(rt.alloc(), Greatest, &5, &7)?;
+    let mut effects = first_acknowledged(rt.alloc(), Counter, &5, &7)?;
     assert_eq!(rt; effects.next_output(), Some(PbOut::Reply(0)));
     assert_eq!(rt; effects.next_output(), None);
     assert_eq!(rt; effects.next_send(), Some((backup, PbMsg::Apply(7))));
@@ -88,11 +47,11 @@ fn an_acknowledgement_brings_a_reply_and_sends_the_next(rt: HostRuntime) -> Resu
 #[test]
 fn the_backup_acknowledges_what_it_applies(rt: HostRuntime) -> Result<(), Fail> {
     let alloc = rt.alloc();
-    let nodes = PrimaryBackup::new(Greatest);
+    let nodes = PrimaryBackup::new(Counter);
     let primary = Node::new(0, 2).unwrap();
     let backup = Node::new(1, 2).unwrap();
     let mut state = nodes.init(alloc, backup)?;
-    let mut effects = room(alloc)?;
+    let mut effects = Effects::with_capacity(alloc, 1, MAX_SENDS)?;
     nodes.message(
         alloc,
         backup,
@@ -117,14 +76,14 @@ fn first_input<H: Handlers>(
     requires takes { IsTrue ((H.meaning handlers.now).takes_input node) }
 {
     let mut state = handlers.init(alloc, node)?;
-    let mut effects = room(alloc)?;
+    let mut effects = Effects::with_capacity(alloc, 1, MAX_SENDS)?;
     handlers.input(alloc, node, &mut state, input, &mut effects)?;
     Ok(effects)
 }
 
 #[test]
 fn an_input_is_sent_on_or_redirected_through_the_bound(rt: HostRuntime) -> Result<(), Fail> {
-    let nodes = PrimaryBackup::new(Greatest);
+    let nodes = PrimaryBackup::new(Counter);
     let primary = Node::new(0, 2).unwrap();
     let backup = Node::new(1, 2).unwrap();
 

@@ -1,41 +1,7 @@
-ghost use Rattle.vst_base.specs.Examples.{counter};
-
 use super::*;
 use std::alloc::{AllocError, Global};
 use std::test::Fail;
-use vst_base::{ClientId, Entry, Machine, Node, ReqId, What};
-
-// Adds its commands up to 255, and answers with the sum before.
-#[derive(Drop)]
-struct Counter;
-
-impl Machine for Counter {
-    type State = u8;
-
-    type Cmd = u8;
-
-    type Out = u8;
-
-    ghost meaning = { λ _. counter };
-
-    fn init(&self, _alloc: Global) -> Result<u8, AllocError> {
-        Ok(0)
-    }
-
-    fn apply(&self, _alloc: Global, state: &mut u8, cmd: &u8) -> Result<u8, AllocError> {
-        let before = *state;
-        *state = before.saturating_add(*cmd);
-        Ok(before)
-    }
-
-    fn copy_cmd(&self, _alloc: Global, cmd: &u8) -> Result<u8, AllocError> {
-        Ok(*cmd)
-    }
-
-    fn copy_out(&self, _alloc: Global, out: &u8) -> Result<u8, AllocError> {
-        Ok(*out)
-    }
-}
+use vst_base::{ClientId, Counter, Entry, Machine, Node, ReqId, What};
 
 // A request of a client, by its number, for this command.
 fn asks(client: u64, request: u64, cmd: u8) -> Result<Entry<u8>, Fail> {

@@ -3,39 +3,7 @@ use raft_types::MAX_INDEX;
 use std::alloc::{AllocError, Global};
 use std::process::Abort;
 use std::test::Fail;
-use vst_base::{ClientId, Entry, MAX_TERM, Machine, Node, ReqId, What};
-
-// A machine that keeps the last command.
-#[derive(Drop)]
-struct Last;
-
-impl Machine for Last {
-    type State = u8;
-
-    type Cmd = u8;
-
-    type Out = u8;
-
-    ghost meaning = { λ _. record { init = 0; apply = λ s c. (c, s) } };
-
-    fn init(&self, _alloc: Global) -> Result<u8, AllocError> {
-        Ok(0)
-    }
-
-    fn apply(&self, _alloc: Global, state: &mut u8, cmd: &u8) -> Result<u8, AllocError> {
-        let before = *state;
-        *state = *cmd;
-        Ok(before)
-    }
-
-    fn copy_cmd(&self, _alloc: Global, cmd: &u8) -> Result<u8, AllocError> {
-        Ok(*cmd)
-    }
-
-    fn copy_out(&self, _alloc: Global, out: &u8) -> Result<u8, AllocError> {
-        Ok(*out)
-    }
-}
+use vst_base::{ClientId, Counter, Entry, MAX_TERM, Machine, Node, ReqId, What};
 
 // The logs of Figure 7 of the Raft paper, by their terms: the new leader's, and the followers' a to f.
 const LEADER: [u64; 10] = [1, 1, 1, 4, 4, 5, 5, 6, 6, 6];
@@ -115,7 +83,7 @@ fn a_leaders_own_entry_is_taken_with_the_others(rt: HostRuntime) -> Result<(), F
     }
     leader.push(Entry::new(2, What::Noop))?;
     let mut follower = Log::new(Vec::new(alloc));
-    let taken = accept(alloc, &Last, &mut follower, 0, leader.entries(), 0)?;
+    let taken = accept(alloc, &Counter, &mut follower, 0, leader.entries(), 0)?;
     assert_eq!(rt; taken, Accept::Taken(2));
     assert!(rt; follower.entries() == leader.entries());
     assert_eq!(rt;
@@ -134,7 +102,7 @@ fn answer(
     commit: u32,
 ) -> Result<Accept, Fail> {
     let sent = entries(alloc, terms, 9)?;
-    accept(alloc, &Last, log, prev, &sent, commit)
+    accept(alloc, &Counter, log, prev, &sent, commit)
 }
 
 // What a follower of these terms answers to all of the leader's entries behind the index `prev`, and its

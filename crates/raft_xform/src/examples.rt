@@ -8,6 +8,7 @@ ghost use Rattle.raft_xform.specs.Nodes.{sending, stays};
 ghost use Rattle.raft_xform.specs.Raft.{raft, raft_recovery};
 ghost use Rattle.raft_xform.specs.Replicating.{follower as following, telling};
 ghost use Rattle.vst_base.specs.declared.entry.Entry.{Entry};
+ghost use Rattle.raft_types.specs.declared.limits.TheConstants.{MAX_INDEX};
 
 use crate::Role;
 use vst_base::{Item, Net};
@@ -50,9 +51,9 @@ pub fn worked_leaders()
         ≡ telling (with_five_added 2 (leader 2 1 (entry 1 0 1 5 ∷ noop 2 ∷ []) 2 (peer 2 0 ∷ []))) (told.Reply 7 1 0) }
     ensures one_place_left { (log : List (Entry ℕ)) → length log ≡ 999999
         → ((raft 3 counter).message 0 (candidate 1 0 1 log) 1 (vote 1 true)).state.log ≡ log ++ noop 1 ∷ [] }
-    ensures full { (log : List (Entry ℕ)) → length log ≡ 1000000
+    ensures full { (log : List (Entry ℕ)) → length log ≡ MAX_INDEX
         → ((raft 3 counter).message 0 (candidate 1 0 1 log) 1 (vote 1 true)).state.log ≡ log }
-    ensures a_full_one_leads { (log : List (Entry ℕ)) → length log ≡ 1000000
+    ensures a_full_one_leads { (log : List (Entry ℕ)) → length log ≡ MAX_INDEX
         → ((raft 3 counter).message 0 (candidate 1 0 1 log) 1 (vote 1 true)).state.role ≡ Role.Leader }
 
     ensures its_noop_is_committed { (raft 3 counter).message 0 (leader 1 3 (noop 1 ∷ []) 0 (replicate 3 (peer 1 0))) 1 (appended 1 true 1)
@@ -116,7 +117,7 @@ pub fn worked_replication()
 pub fn worked_refusals()
     ensures not_the_leader { (raft 3 counter).input 1 (follower 1 (Some 0) []) (asked 1 5) ≡ telling (follower 1 (Some 0) []) (told.NotLeader 7 1) }
     ensures not_the_leader_yet { (raft 3 counter).input 0 (candidate 1 0 1 []) (asked 1 5) ≡ telling (candidate 1 0 1 []) (told.NotLeader 7 1) }
-    ensures full { (log : List (Entry ℕ)) → length log ≡ 1000000
+    ensures full { (log : List (Entry ℕ)) → length log ≡ MAX_INDEX
         → (raft 3 counter).input 0 (leader 1 3 log 0 []) (asked 1 5) ≡ telling (leader 1 3 log 0 []) (told.Full 7 1) }
     ensures one_place_left { (log : List (Entry ℕ)) → length log ≡ 999999
         → ((raft 3 counter).input 0 (leader 1 3 log 0 []) (asked 1 5)).state.log ≡ log ++ entry 1 0 1 5 ∷ [] }

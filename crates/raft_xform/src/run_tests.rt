@@ -1,14 +1,15 @@
 ghost use Rattle.std.specs.Prelude.{◌≡◌, ◌<◌, length, IfOk};
 ghost use Rattle.raft_types.specs.Ranges.{IsClusterSize};
+ghost use Rattle.vst_base.specs.declared.step.TheConstants.{MAX_STEPS};
 
-use super::tests::{Counter, asks};
+use super::tests::asks;
 use super::*;
 use handler_trait::Rebootable;
 use net_semantics::{FailWorld, Trace};
 use raft_types::{RaftInput, RaftOut};
 use std::alloc::{AllocError, Global};
 use std::test::Fail;
-use vst_base::{ClientId, Item, Node, ReqId, Step, StepRefusal};
+use vst_base::{ClientId, Counter, Item, Node, ReqId, Step, StepRefusal};
 
 // What clients see of these steps.
 fn trace_of<H: Rebootable>(
@@ -16,7 +17,7 @@ fn trace_of<H: Rebootable>(
     handlers: H,
     steps: &[Step<H::Input>],
 ) -> Result<Trace<H::Input, H::Output>, StepRefusal>
-    requires { length steps.now < 1000000 }
+    requires { length steps.now < MAX_STEPS }
 {
     let Ok(mut world) = FailWorld::new(alloc, handlers) else {
         return Err(StepRefusal::Memory);

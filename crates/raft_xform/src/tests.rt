@@ -3,7 +3,6 @@ ghost use Rattle.handler_trait.specs.declared.handlers.TheConstants.{MAX_SENDS};
 ghost use Rattle.raft_types.specs.Ranges.{IsIndex, IsTerm};
 ghost use Rattle.raft_xform.specs.Sound.{IsSoundNode};
 ghost use Rattle.vst_base.specs.Entries.{HasOrigin};
-ghost use Rattle.vst_base.specs.Examples.{counter};
 
 use super::*;
 use handler_trait::{Effects, Handlers, MAX_SENDS, Rebootable};
@@ -13,39 +12,7 @@ use raft_types::{
 use std::alloc::{AllocError, Global};
 use std::process::Abort;
 use std::test::Fail;
-use vst_base::{ClientId, Entry, MAX_TERM, Machine, Node, ReqId, What};
-
-// Adds its commands up to 255, and answers with the sum before.
-#[derive(Drop)]
-pub(crate) struct Counter;
-
-impl Machine for Counter {
-    type State = u8;
-
-    type Cmd = u8;
-
-    type Out = u8;
-
-    ghost meaning = { λ _. counter };
-
-    fn init(&self, _alloc: Global) -> Result<u8, AllocError> {
-        Ok(0)
-    }
-
-    fn apply(&self, _alloc: Global, state: &mut u8, cmd: &u8) -> Result<u8, AllocError> {
-        let before = *state;
-        *state = before.saturating_add(*cmd);
-        Ok(before)
-    }
-
-    fn copy_cmd(&self, _alloc: Global, cmd: &u8) -> Result<u8, AllocError> {
-        Ok(*cmd)
-    }
-
-    fn copy_out(&self, _alloc: Global, out: &u8) -> Result<u8, AllocError> {
-        Ok(*out)
-    }
-}
+use vst_base::{ClientId, Counter, Entry, MAX_TERM, Node, ReqId, What};
 
 // Client 7 asks for this to be added.
 pub(crate) fn asks(request: u64, cmd: u8) -> RaftInput<u8> {
@@ -85,14 +52,6 @@ fn entries(alloc: Global, terms: &[u64]) -> Result<Entries<u8>, Fail>
     Ok(Entries::new(made))
 }
 
-fn room<O: Drop, M: Drop>(alloc: Global) -> Result<Effects<O, M>, AllocError>
-    ensures { IfOk result (λ effects. MAX_SENDS ≤ effects.send_places) }
-{
-    let mut effects = Effects::new(alloc);
-    effects.reserve(1, MAX_SENDS)?;
-    Ok(effects)
-}
-
 // What a node that starts from this makes of a message.
 fn told<H: Rebootable>(
     alloc: Global,
@@ -107,7 +66,7 @@ fn told<H: Rebootable>(
     requires fits { H.fits handlers.now kept }
 {
     let mut state = handlers.reboot(alloc, node, kept)?;
-    let mut effects = room(alloc)?;
+    let mut effects = Effects::with_capacity(alloc, 1, MAX_SENDS)?;
     handlers.message(alloc, node, &mut state, from, message, &mut effects)?;
     Ok((state, effects))
 }
@@ -274,7 +233,7 @@ fn fires(
     }
     let raft = Raft::new(Counter, 3);
     let mut state = raft.reboot(alloc, node, kept)?;
-    let mut effects = room(alloc)?;
+    let mut effects = Effects::with_capacity(alloc, 1, MAX_SENDS)?;
     raft.timeout(alloc, node, &mut state, &mut effects)?;
     Ok((state, effects))
 }
@@ -293,7 +252,7 @@ fn elected(
     }
     let (mut state, _) = fires(alloc, me, kept)?;
     let vote = RaftMsg::Vote(Vote::new(term, true));
-    let mut effects = room(alloc)?;
+    let mut effects = Effects::with_capacity(alloc, 1, MAX_SENDS)?;
     Raft::new(Counter, 3).message(alloc, me, &mut state, voter, &vote, &mut effects)?;
     Ok((state, effects))
 }
@@ -306,7 +265,7 @@ fn elected_and_asked(
 ) -> Result<(RaftState<u8, u8, u8>, Effects<RaftOut<u8>, RaftMsg<u8>>), Fail> {
     let me = Node::new(0, 3).unwrap();
     let (mut state, _) = elected(alloc, kept, term)?;
-    let mut effects = room(alloc)?;
+    let mut effects = Effects::with_capacity(alloc, 1, MAX_SENDS)?;
     Raft::new(Counter, 3).input(alloc, me, &mut state, &asks(1, 5), &mut effects)?;
     Ok((state, effects))
 }
@@ -385,7 +344,7 @@ fn hears(alloc: Global, message: &RaftMsg<u8>) -> Result<(bool, u64, Option<u8>,
     let (me, from) = (Node::new(0, 3).unwrap(), Node::new(1, 3).unwrap());
     let raft = Raft::new(Counter, 3);
     let (mut state, _) = elected(alloc, Kept::new(1, None, entries(alloc, &[1])?), 2)?;
-    let mut effects = room(alloc)?;
+    let mut effects = Effects::with_capacity(alloc, 1, MAX_SENDS)?;
     raft.message(alloc, me, &mut state, from, message, &mut effects)?;
     let kept = raft.keep(alloc, &state)?;
     let voted = kept.voted().map(|node| node.index());
@@ -450,7 +409,7 @@ fn a_candidate_asks_again_in_the_next_term(rt: HostRuntime) -> Result<(), Fail> 
     let alloc = rt.alloc();
     let (raft, me) = (Raft::new(Counter, 3), Node::new(1, 3).unwrap());
     let (mut state, _) = fires(alloc, me, Kept::new(4, None, entries(alloc, &[])?))?;
-    let mut effects = room(alloc)?;
+    let mut effects = Effects::with_capacity(alloc, 1, MAX_SENDS)?;
     raft.timeout(alloc, me, &mut state, &mut effects)?;
     let [first, second] = effects.sends() else {
         return Err(Fail::from("two packets"));

@@ -8,10 +8,11 @@ use Rattle.schedule_text.specs.declared.header.Header.{Header}
 use Rattle.stacks.specs.Stack.{Play, found_or}
 use Rattle.stacks.specs.Table.{stack_at}
 use Rattle.schedule_replay.specs.Replaying.{Replayed, refused_at, no_counts, replayed_script}
+use Rattle.schedule_text.specs.declared.reading.TheConstants.{MAX_LINES}
 
 -- the greatest number of a line
 abbrev pub most_lines : ℕ
-most_lines = 2000000
+most_lines = MAX_LINES
 
 -- what replay makes of these lines of a stack's schedule: the first has this number, so many events stand before it, and no line
 -- may have a number over the most

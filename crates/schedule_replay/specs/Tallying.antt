@@ -1,5 +1,6 @@
 -- How many inputs, outputs and replies were written.
-use Rattle.std.specs.Prelude.{◌+◌, Bool, List, count_by}
+use Rattle.std.specs.Prelude.{ℕ, ◌+◌, ◌*◌, ◌^◌, ◌<◌, ◌≤◌, Bool, List, count_by}
+use Rattle.handler_trait.specs.declared.handlers.TheConstants.{MAX_OUTPUTS}
 use Rattle.vst_base.specs.declared.step.Item.{Item}
 use Rattle.schedule_replay.specs.declared.tally.Tally.{Tally}
 use Rattle.schedule_replay.specs.Replaying.{is_input, is_output, is_reply_by}
@@ -10,3 +11,15 @@ tallied is_reply tally items = record {
   outputs = tally.outputs + count_by is_output items;
   replies = tally.replies + count_by (is_reply_by is_reply) items;
 }
+
+-- so many more of each would still be counted in 64 bits
+pub record HasRoom (tally : Tally) (more : ℕ) : Type 0 where
+  pub inputs : tally.inputs + more < 2 ^ 64
+  pub outputs : tally.outputs + more < 2 ^ 64
+  pub replies : tally.replies + more < 2 ^ 64
+
+-- no count is greater than so many steps can make it: clients see at most an input and its outputs of each
+pub record IsOfSteps (steps : ℕ) (tally : Tally) : Type 0 where
+  pub inputs : tally.inputs ≤ steps * (MAX_OUTPUTS + 1)
+  pub outputs : tally.outputs ≤ steps * (MAX_OUTPUTS + 1)
+  pub replies : tally.replies ≤ steps * (MAX_OUTPUTS + 1)

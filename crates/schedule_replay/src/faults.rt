@@ -1,4 +1,4 @@
-ghost use Rattle.std.specs.Prelude.{◌≡◌};
+ghost use Rattle.std.specs.Prelude.{◌≡◌, ◌≢◌};
 ghost use Rattle.schedule_replay.specs.Faults.{replay_fault};
 ghost use Rattle.schedule_replay.specs.declared.fault.ReplayFault.TheVariants.{Memory};
 
@@ -14,16 +14,16 @@ impl From<AllocError> for ReplayFault {
     }
 }
 
-// The end of a text never comes here: no call whose fault a replay hands on answers it.
-impl From<LineFault> for ReplayFault {
-    ghost from_gives = { λ line fault. fault ≡ replay_fault line };
-
-    fn from(fault: LineFault) -> Self {
-        match fault {
-            LineFault::Read => ReplayFault::Read,
-            LineFault::Write => ReplayFault::Write,
-            LineFault::Refused { line, why } => ReplayFault::Refused { line, why },
-            LineFault::Memory | LineFault::End => ReplayFault::Memory,
-        }
+// A fault of a line as a fault of a replay. The end of a text is none.
+pub(crate) fn replay_fault(fault: LineFault) -> ReplayFault
+    requires { fault ≢ LineFault.End }
+    ensures { result ≡ replay_fault fault }
+{
+    match fault {
+        LineFault::Read => ReplayFault::Read,
+        LineFault::Write => ReplayFault::Write,
+        LineFault::Refused { line, why } => ReplayFault::Refused { line, why },
+        LineFault::Memory => ReplayFault::Memory,
+        LineFault::End => unreachable!(),
     }
 }

@@ -2,6 +2,7 @@ ghost use Rattle.std.specs.Prelude.{◌≡◌, ◌≢◌, ◌≤◌, Err, IfErr,
 ghost use Rattle.schedule_replay.specs.Outcomes.{ComesTo, HasFault, KeepsSink, ReplaysRest};
 ghost use Rattle.schedule_replay.specs.Replays.{replayed, replayed_so_far};
 
+use crate::faults::replay_fault;
 use crate::rest::replay_rest;
 use crate::{Done, ReplayFault};
 use outside::{Sink, Source};
@@ -24,13 +25,13 @@ impl<S: Source, K: Sink> OnStack<Reader, S, K> for Replaying {
 
     fn on<C: StackCode>(
         self,
-        stack: C,
+        nodes: u8,
         reader: &mut Reader,
         source: &mut S,
         sink: &mut K,
     ) -> Result<Done, ReplayFault> {
-        let below = stack.below();
-        let running = stack.start(self.alloc)?;
+        let below = C::below(nodes);
+        let running = C::start(self.alloc, nodes)?;
         replay_rest::<C::Running, C::Text, C::Line, S, K>(
             self.alloc, running, below, reader, source, sink,
         )
@@ -54,6 +55,9 @@ pub fn replay<S: Source, K: Sink>(
     ensures writes { K.faults sink.old ≤ K.faults sink.new }
 {
     let mut reader = Reader::new(alloc, MAX_LINES)?;
-    let header = read_header(&mut reader, source)?;
+    let header = match read_header(&mut reader, source) {
+        Ok(header) => header,
+        Err(fault) => return Err(replay_fault(fault)),
+    };
     on_stack(&header, Replaying { alloc }, &mut reader, source, sink)
 }

@@ -1,5 +1,7 @@
-ghost use Rattle.std.specs.Prelude.{◌≡◌, ◌≢◌, ◌+◌, ◌<◌, ◌≤◌, List, true, false, None, Some, Ok, IfOk, OnOk};
+ghost use Rattle.std.specs.Prelude.{◌≡◌, ◌≢◌, ◌+◌, ◌<◌, ◌≤◌, List, length, true, false, None, Some, Ok, IfOk, OnOk};
+ghost use Rattle.net_semantics.specs.Taking.{GrowsBy};
 ghost use Rattle.outside.specs.Counting.{Rose};
+ghost use Rattle.vst_base.specs.declared.step.TheConstants.{MAX_STEPS};
 ghost use Rattle.vst_base.specs.declared.step.Step.{Step};
 ghost use Rattle.vst_base.specs.declared.step.Item.{Item};
 ghost use Rattle.schedule_replay.specs.declared.halt.Halt.{Halt};
@@ -17,6 +19,7 @@ use xform_stack::{RunFault, Runs};
 
 // A world's refusal as a line's. Want of memory is no refusal.
 fn why_of(refusal: StepRefusal) -> Why
+    requires { refusal ≢ StepRefusal.Memory }
     ensures { result ≡ why_of refusal }
 {
     match refusal {
@@ -25,7 +28,8 @@ fn why_of(refusal: StepRefusal) -> Why
         StepRefusal::NoInputHere => Why::NoInputHere,
         StepRefusal::NodeDown => Why::NodeDown,
         StepRefusal::NodeUp => Why::NodeUp,
-        StepRefusal::NoCopy | StepRefusal::Memory => Why::NoCopy,
+        StepRefusal::NoCopy => Why::NoCopy,
+        StepRefusal::Memory => unreachable!(),
     }
 }
 
@@ -42,6 +46,8 @@ pub(crate) fn take_step<R: Runs, A: AppText<Input = R::Input, Output = R::Output
         → TookStep (R.system running.old) R.follows R.progress A.input_of running.new ss gone reader.old reader.new (S.left source.old) (S.left source.new) answer) }
     ensures system { R.system running.new ≡ R.system running.old }
     ensures taken { result ≡ Ok None → (R.progress running.new).taken ≡ (R.progress running.old).taken + 1 }
+    ensures few { result ≡ Ok None → (R.progress running.new).taken ≤ MAX_STEPS }
+    ensures grows { result ≡ Ok None → GrowsBy (length (R.progress running.old).trace) (length (R.progress running.new).trace) }
     ensures sound { OnOk result (R.sound running.new) }
     ensures events { result ≡ Ok None → reader.new.events ≡ reader.old.events + 1 }
     ensures number { result ≡ Ok None → (reader.old.number < reader.new.number) × (reader.new.number ≤ reader.new.most) }
@@ -62,7 +68,8 @@ pub(crate) fn take_step<R: Runs, A: AppText<Input = R::Input, Output = R::Output
         Err(LineFault::End) => Ok(Some(Halt::End)),
         Err(LineFault::Read) => Ok(Some(Halt::Read)),
         Err(LineFault::Refused { line, why }) => Ok(Some(Halt::Refused(line, why))),
-        // A write never fails here.
-        Err(LineFault::Memory | LineFault::Write) => Err(AllocError),
+        Err(LineFault::Memory) => Err(AllocError),
+        // Nothing is written here.
+        Err(LineFault::Write) => unreachable!(),
     }
 }

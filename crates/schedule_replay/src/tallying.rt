@@ -1,10 +1,9 @@
-ghost use Rattle.std.specs.Prelude.{◌≡◌, ◌+◌, count_by, IfOk};
+ghost use Rattle.std.specs.Prelude.{◌≡◌, count_by, length};
 ghost use Rattle.schedule_replay.specs.Replaying.{is_input, is_output, is_reply_by};
-ghost use Rattle.schedule_replay.specs.Tallying.{tallied};
+ghost use Rattle.schedule_replay.specs.Tallying.{HasRoom, tallied};
 
 use crate::tally::Tally;
 use app_text::AppText;
-use std::alloc::AllocError;
 use vst_base::Item;
 
 fn is_input<I, O>(item: &Item<I, O>) -> bool
@@ -43,25 +42,16 @@ fn replies_in<A: AppText>(items: &[Item<A::Input, A::Output>]) -> usize
     items.iter().filter(|item| is_reply::<A>(item)).count()
 }
 
-// A count that has grown by so many. One over the greatest `u64` is answered as want of memory.
-fn grown(count: u64, more: usize) -> Result<u64, AllocError>
-    ensures { IfOk result (λ sum. sum ≡ count + more) }
-{
-    count.checked_add(more as u64).ok_or(AllocError)
-}
-
 impl Tally {
     /// Counts the items of a trace too.
-    pub fn count<A: AppText>(
-        &self,
-        items: &[Item<A::Input, A::Output>],
-    ) -> Result<Tally, AllocError>
-        ensures { IfOk result (λ tally. tally ≡ tallied A.replies self.now items.now) }
+    pub fn count<A: AppText>(&self, items: &[Item<A::Input, A::Output>]) -> Tally
+        requires { HasRoom self.now (length items.now) }
+        ensures { result ≡ tallied A.replies self.now items.now }
     {
-        Ok(Tally {
-            inputs: grown(self.inputs, inputs_in(items))?,
-            outputs: grown(self.outputs, outputs_in(items))?,
-            replies: grown(self.replies, replies_in::<A>(items))?,
-        })
+        Tally {
+            inputs: self.inputs + inputs_in(items) as u64,
+            outputs: self.outputs + outputs_in(items) as u64,
+            replies: self.replies + replies_in::<A>(items) as u64,
+        }
     }
 }

@@ -12,6 +12,7 @@ use Rattle.schedule_text.specs.declared.line.Line.TheVariants.{Skipped, IsStep, 
 use Rattle.line_reader.specs.Limits.{line_refusals}
 use Rattle.schedule_text.specs.Lines.{is_skipped}
 use Rattle.schedule_text.specs.Words.{cut, kind_named, number_up_to}
+use Rattle.vst_base.specs.declared.step.TheConstants.{MAX_STEPS}
 
 -- the parts of a step line: its kind, its number and, of an input, its text
 pub record Parts : Type 0 where
@@ -61,7 +62,7 @@ abbrev pub step_refusals : {I : Type 0} → (List ℕ → Option I) → ℕ → 
 step_refusals input_of events line =
     (why.UnknownWord, is_none (parts_of line))
     ∷ (why.Number, is_none (number_in line))
-    ∷ (why.TooManyEvents, nat_le 1000000 events)
+    ∷ (why.TooManyEvents, nat_le MAX_STEPS events)
     ∷ (why.Text, is_none (step_of input_of line))
     ∷ []
 

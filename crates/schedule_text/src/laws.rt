@@ -10,6 +10,7 @@ ghost use Rattle.schedule_text.specs.Printing.{step_text, steps_text};
 ghost use Rattle.schedule_text.specs.Reading.{step_of};
 ghost use Rattle.schedule_text.specs.Spellable.{AreSpellable, IsSpellable, numbered_steps};
 ghost use Rattle.schedule_text.specs.Words.{number_up_to};
+ghost use Rattle.vst_base.specs.declared.step.TheConstants.{MAX_STEPS};
 
 use app_text::AppText;
 use vst_base::{Net, StackId, Step};
@@ -25,7 +26,7 @@ pub fn numbers_have_one_spelling()
 pub fn steps_read_back<A: AppText>()
     ensures step { (s : Step A.Input) → IsSpellable A.is_input s → step_of A.input_of (step_text A.input_text s) ≡ Some s }
     ensures lines { (ss : List (Step A.Input)) → AreSpellable A.is_input A.input_text ss → lines_of (steps_text A.input_text ss) ≡ map (λ s. step_text A.input_text s) ss }
-    ensures script { (most n e : ℕ) (ss : List (Step A.Input)) → AreSpellable A.is_input A.input_text ss → n + length ss ≤ most + 1 → e + length ss ≤ 1000000
+    ensures script { (most n e : ℕ) (ss : List (Step A.Input)) → AreSpellable A.is_input A.input_text ss → n + length ss ≤ most + 1 → e + length ss ≤ MAX_STEPS
         → script most A.input_of n e (lines_of (steps_text A.input_text ss)) ≡ record { steps = numbered_steps n ss; fault = None } }
 {}
 

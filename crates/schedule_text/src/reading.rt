@@ -9,13 +9,10 @@ use crate::words::number_of;
 use app_text::{AppText, TextFault};
 use line_reader::Why;
 use std::alloc::{AllocError, Global};
-use vst_base::{Step, StepKind};
+use vst_base::{MAX_STEPS, Step, StepKind};
 
 /// The greatest number of lines of a schedule.
 pub const MAX_LINES: u32 = 2_000_000;
-
-/// The greatest number of events of a schedule.
-pub const MAX_EVENTS: u32 = 1_000_000;
 
 // A line that is not skipped, behind so many events: its step, or why it is refused.
 fn step_line<A: AppText>(
@@ -31,7 +28,7 @@ fn step_line<A: AppText>(
     let Some(n) = number_of(parts.number) else {
         return Ok(Line::Refused(Why::Number));
     };
-    if events >= MAX_EVENTS {
+    if events >= MAX_STEPS {
         return Ok(Line::Refused(Why::TooManyEvents));
     }
     match parts.kind {

@@ -1,7 +1,7 @@
 ghost use Rattle.std.specs.Prelude.{◌≡◌, ◌≤◌, IfErr, IsErrOf, OnErr, OnOk};
 ghost use Rattle.outside.specs.Counting.{Rose};
 ghost use Rattle.outside.specs.Wholes.{Gained, GainedFront};
-ghost use Rattle.schedule_text.specs.Printing.{as_line, lines_text, step_text, steps_text, trace_text};
+ghost use Rattle.schedule_text.specs.Printing.{as_line, lines_text, step_text, trace_text};
 ghost use Rattle.schedule_text.specs.Sending.{HasWriteCause, Spilled};
 
 use crate::printing::Printed;
@@ -91,23 +91,6 @@ pub fn print_step<A: AppText, K: Sink>(
     let mut text = Vec::new(alloc);
     Printed::<A>::push_line(step, &mut text)?;
     print_text(sink, &text)
-}
-
-/// Writes the lines of steps, in order. At an `Err`, which is `Write` or `Memory`, a front of them was written.
-pub fn print_steps<A: AppText, K: Sink>(
-    alloc: Global,
-    sink: &mut K,
-    steps: &[Step<A::Input>],
-) -> Result<(), LineFault>
-    ensures ok { OnOk result (Gained (K.written sink.old) (K.written sink.new) (steps_text A.input_text steps.now)) }
-    ensures err { OnErr result (GainedFront (K.written sink.old) (K.written sink.new) (steps_text A.input_text steps.now)) }
-    ensures fault { IfErr result (HasWriteCause (K.faults sink.old) (K.faults sink.new)) }
-    ensures unfailed { IsErrOf result LineFault.Memory → K.faults sink.new ≡ K.faults sink.old }
-    ensures unwanted { IsErrOf result LineFault.Write → K.wants sink.new ≡ K.wants sink.old }
-    ensures quiet { OnOk result ((K.faults sink.new ≡ K.faults sink.old) × (K.wants sink.new ≡ K.wants sink.old)) }
-    ensures counts { K.faults sink.old ≤ K.faults sink.new }
-{
-    print_lines::<A, Step<A::Input>, K>(alloc, sink, steps)
 }
 
 /// Writes the lines of a trace, in order. At an `Err`, which is `Write` or `Memory`, a front of them was written.

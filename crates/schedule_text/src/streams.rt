@@ -4,6 +4,7 @@ ghost use Rattle.line_reader.specs.Readers.{HasRest};
 ghost use Rattle.schedule_text.specs.Headers.{header_of};
 ghost use Rattle.schedule_text.specs.Reading.{step_of};
 ghost use Rattle.schedule_text.specs.Streams.{ReadsHeader, ReadsStep, header_fault};
+ghost use Rattle.vst_base.specs.declared.step.TheConstants.{MAX_STEPS};
 
 use crate::headers::header_of;
 use crate::reading::line_says;
@@ -62,7 +63,7 @@ pub fn read_step<A: AppText, S: Source>(
     ensures told { (rest : List ℕ) → HasRest reader.old (S.left source.old) rest → ReadsStep A.input_of reader.old reader.new (S.left source.new) rest result }
     ensures step { IfOk result (λ s. step_of A.input_of reader.new.line ≡ Some s) }
     ensures number { OnOk result ((reader.old.number < reader.new.number) × (reader.new.number ≤ reader.new.most)) }
-    ensures events { OnOk result ((reader.new.events ≡ reader.old.events + 1) × (reader.new.events ≤ 1000000)) × OnErr result (reader.new.events ≡ reader.old.events) }
+    ensures events { OnOk result ((reader.new.events ≡ reader.old.events + 1) × (reader.new.events ≤ MAX_STEPS)) × OnErr result (reader.new.events ≡ reader.old.events) }
     ensures kept { reader.new.most ≡ reader.old.most }
     ensures stays { reader.old.ended ≡ true → reader.new.ended ≡ true }
     ensures fault { IfErr result (HasReadCause reader.old (S.faults source.old) (S.faults source.new)) }

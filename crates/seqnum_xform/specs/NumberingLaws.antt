@@ -15,42 +15,43 @@ below-numbered_from nodes n [] below = tt
 below-numbered_from nodes n (p ∷ ps) below = (below.0, below-numbered_from nodes (n + 1) ps below.1)
 
 module _ {H S I O M : Type 0} (meaning : H → Meaning S I O M) (sound : H → ℕ → S → Type 0) (spent : H → S → ℕ) where
-  abbrev IsModestFrom : H → S → Effect S O M → Type 0
-  IsModestFrom h s e = IsModest (meaning h).nodes 8 (spent h) s e
+  abbrev IsModestFrom : H → ℕ → S → Effect S O M → Type 0
+  IsModestFrom h n s e = IsModest (meaning h).nodes (sound h n) (spent h) s e
 
-  abbrev IsModestNumbered : H → Numbered S → Effect (Numbered S) O (SeqMsg M) → Type 0
-  IsModestNumbered h s e = IsModest (meaning h).nodes 8 (numbered_spent spent h) s e
+  abbrev IsModestNumbered : H → ℕ → Numbered S → Effect (Numbered S) O (SeqMsg M) → Type 0
+  IsModestNumbered h n s e = IsModest (meaning h).nodes (numbered_sound sound h n) (numbered_spent spent h) s e
 
-  modest-numbered : (h : H) (s : Numbered S) (seen : Seen) (e : Effect S O M) → IsModestFrom h s.inner e → IsModestNumbered h s (numbered s.next seen e)
-  modest-numbered h s seen e modest = record {
+  modest-numbered : (h : H) (n : ℕ) (s : Numbered S) (seen : Seen) (e : Effect S O M) → IsModestFrom h n s.inner e → IsModestNumbered h n s (numbered s.next seen e)
+  modest-numbered h n s seen e modest = record {
     few = omega (arith, length-numbered_from s.next e.sends, modest.few);
     to_nodes = below-numbered_from (meaning h).nodes s.next e.sends modest.to_nodes;
     cheap = omega (arith, modest.cheap, modest.few);
+    few_outputs = modest.few_outputs;
   }
 
-  modest-nothing : (h : H) (s : Numbered S) → IsModestNumbered h s (nothing s)
-  modest-nothing h s = record { few = omega arith; to_nodes = tt; cheap = omega arith }
+  modest-nothing : (h : H) (n : ℕ) (s : Numbered S) → IsModestNumbered h n s (nothing s)
+  modest-nothing h n s = record { few = omega arith; to_nodes = tt; cheap = omega arith; few_outputs = λ after. omega arith }
 
   pub fresh : ((h : H) (n : ℕ) → n < (meaning h).nodes → spent h ((meaning h).init n) ≡ 0)
       → (h : H) (n : ℕ) → n < (meaning h).nodes → numbered_spent spent h ((sequence_numbered (meaning h)).init n) ≡ 0
   fresh inner h n below = omega (arith, inner h n below)
 
-  pub modest_input : ((h : H) (n : ℕ) (s : S) (i : I) → n < (meaning h).nodes → IsTrue ((meaning h).takes_input n) → sound h n s → IsModestFrom h s ((meaning h).input n s i))
+  pub modest_input : ((h : H) (n : ℕ) (s : S) (i : I) → n < (meaning h).nodes → IsTrue ((meaning h).takes_input n) → sound h n s → IsModestFrom h n s ((meaning h).input n s i))
       → (h : H) (n : ℕ) (s : Numbered S) (i : I) → n < (meaning h).nodes → IsTrue ((meaning h).takes_input n) → numbered_sound sound h n s
-      → IsModestNumbered h s ((sequence_numbered (meaning h)).input n s i)
-  modest_input inner h n s i below takes ok = modest-numbered h s s.seen ((meaning h).input n s.inner i) (inner h n s.inner i below takes ok)
+      → IsModestNumbered h n s ((sequence_numbered (meaning h)).input n s i)
+  modest_input inner h n s i below takes ok = modest-numbered h n s s.seen ((meaning h).input n s.inner i) (inner h n s.inner i below takes ok)
 
-  modest-unless : (h : H) (s : Numbered S) (e : Effect (Numbered S) O (SeqMsg M)) (b : Bool) → IsModestNumbered h s e → IsModestNumbered h s (cond b (nothing s) e)
-  modest-unless h s e true modest = modest-nothing h s
-  modest-unless h s e false modest = modest
+  modest-unless : (h : H) (n : ℕ) (s : Numbered S) (e : Effect (Numbered S) O (SeqMsg M)) (b : Bool) → IsModestNumbered h n s e → IsModestNumbered h n s (cond b (nothing s) e)
+  modest-unless h n s e true modest = modest-nothing h n s
+  modest-unless h n s e false modest = modest
 
-  pub modest_message : ((h : H) (n : ℕ) (s : S) (from : ℕ) (m : M) → n < (meaning h).nodes → from < (meaning h).nodes → sound h n s → IsModestFrom h s ((meaning h).message n s from m))
+  pub modest_message : ((h : H) (n : ℕ) (s : S) (from : ℕ) (m : M) → n < (meaning h).nodes → from < (meaning h).nodes → sound h n s → IsModestFrom h n s ((meaning h).message n s from m))
       → (h : H) (n : ℕ) (s : Numbered S) (from : ℕ) (m : SeqMsg M) → n < (meaning h).nodes → from < (meaning h).nodes → numbered_sound sound h n s
-      → IsModestNumbered h s ((sequence_numbered (meaning h)).message n s from m)
+      → IsModestNumbered h n s ((sequence_numbered (meaning h)).message n s from m)
   modest_message inner h n s from m below from_below ok =
-      modest-unless h s _ (has_seen s.seen from m.number) (modest-numbered h s _ ((meaning h).message n s.inner from m.inner) (inner h n s.inner from m.inner below from_below ok))
+      modest-unless h n s _ (has_seen s.seen from m.number) (modest-numbered h n s _ ((meaning h).message n s.inner from m.inner) (inner h n s.inner from m.inner below from_below ok))
 
-  pub modest_timeout : ((h : H) (n : ℕ) (s : S) → n < (meaning h).nodes → sound h n s → IsModestFrom h s ((meaning h).timeout n s))
+  pub modest_timeout : ((h : H) (n : ℕ) (s : S) → n < (meaning h).nodes → sound h n s → IsModestFrom h n s ((meaning h).timeout n s))
       → (h : H) (n : ℕ) (s : Numbered S) → n < (meaning h).nodes → numbered_sound sound h n s
-      → IsModestNumbered h s ((sequence_numbered (meaning h)).timeout n s)
-  modest_timeout inner h n s below ok = modest-numbered h s s.seen ((meaning h).timeout n s.inner) (inner h n s.inner below ok)
+      → IsModestNumbered h n s ((sequence_numbered (meaning h)).timeout n s)
+  modest_timeout inner h n s below ok = modest-numbered h n s s.seen ((meaning h).timeout n s.inner) (inner h n s.inner below ok)

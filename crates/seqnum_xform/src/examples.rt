@@ -1,5 +1,5 @@
 ghost use Rattle.std.specs.Prelude.{◌≡◌, ℕ, [], ◌∷◌, true, false, None};
-ghost use Rattle.net_semantics.specs.Echo.{echo};
+ghost use Rattle.handler_trait.specs.Echo.{echo};
 ghost use Rattle.net_semantics.specs.Runs.{first_refused, no_recovery, trace};
 ghost use Rattle.seqnum_xform.specs.Numbered.{Numbered, has_seen, with_seen};
 ghost use Rattle.seqnum_xform.specs.Numbering.{numbered_from, sequence_numbered};

@@ -1,32 +1,20 @@
-ghost use Rattle.std.specs.Prelude.{◌≡◌, ◌+◌, ◌<◌, ◌≤◌, ◌^◌, [], ◌++◌, length, IfOk, OnOk};
+ghost use Rattle.std.specs.Prelude.{◌≡◌, ◌+◌, ◌<◌, ◌≤◌, ◌^◌, ◌++◌, length, vec_len, OnOk};
 ghost use Rattle.seqnum_xform.specs.Numbering.{numbered_from};
 
-use handler_trait::{Effects, MAX_SENDS};
-use std::alloc::{AllocError, Global};
-use vst_base::SeqMsg;
-
-/// Room for what the handlers within make of an event.
-pub(crate) fn room<O: Drop, M: Drop>(alloc: Global) -> Result<Effects<O, M>, AllocError>
-    ensures outputs { IfOk result (λ within. within.outputs ≡ []) }
-    ensures sends { IfOk result (λ within. within.sends ≡ []) }
-    ensures room { IfOk result (λ within. MAX_SENDS ≤ within.send_places) }
-{
-    let mut within = Effects::new(alloc);
-    within.reserve(0, MAX_SENDS)?;
-    Ok(within)
-}
+use handler_trait::Effects;
+use std::alloc::AllocError;
+use vst_base::{Node, SeqMsg};
 
 // Hands on the outputs, in order.
 fn outputs<O: Drop, M: Drop>(
-    within: &mut Effects<O, M>,
-    effects: &mut Effects<O, SeqMsg<M>>,
+    within: Vec<O>,
+    effects: &mut Effects<O, M>,
 ) -> Result<(), AllocError>
-    ensures outputs { OnOk result (effects.new.outputs ≡ effects.old.outputs ++ within.old.outputs) }
+    ensures outputs { OnOk result (effects.new.outputs ≡ effects.old.outputs ++ within.items) }
     ensures sends { effects.new.sends ≡ effects.old.sends }
     ensures room { effects.new.send_places ≡ effects.old.send_places }
-    ensures within { within.new.sends ≡ within.old.sends }
 {
-    while let Some(output) = within.next_output() {
+    for output in within {
         effects.output(output)?;
     }
     Ok(())
@@ -34,17 +22,17 @@ fn outputs<O: Drop, M: Drop>(
 
 // Hands on the packets, in order, each with the next number.
 fn sends<O: Drop, M: Drop>(
-    within: &mut Effects<O, M>,
+    within: Vec<(Node, M)>,
     next: &mut u64,
     effects: &mut Effects<O, SeqMsg<M>>,
 )
-    requires room { length within.old.sends ≤ effects.old.send_places }
-    requires fits { next.old + length within.old.sends < 2 ^ 64 }
-    ensures sends { effects.new.sends ≡ effects.old.sends ++ numbered_from next.old within.old.sends }
-    ensures next { next.new ≡ next.old + length within.old.sends }
+    requires room { vec_len within ≤ effects.old.send_places }
+    requires fits { next.old + vec_len within < 2 ^ 64 }
+    ensures sends { effects.new.sends ≡ effects.old.sends ++ numbered_from next.old within.items }
+    ensures next { next.new ≡ next.old + vec_len within }
     ensures outputs { effects.new.outputs ≡ effects.old.outputs }
 {
-    while let Some((to, inner)) = within.next_send() {
+    for (to, inner) in within {
         effects.send(
             to,
             SeqMsg {
@@ -58,17 +46,18 @@ fn sends<O: Drop, M: Drop>(
 
 /// Hands on what the handlers within made of an event, with its packets numbered from the next number on.
 pub(crate) fn hand_on<O: Drop, M: Drop>(
-    within: &mut Effects<O, M>,
+    within: Effects<O, M>,
     next: &mut u64,
     effects: &mut Effects<O, SeqMsg<M>>,
 ) -> Result<(), AllocError>
-    requires room { length within.old.sends ≤ effects.old.send_places }
-    requires fits { next.old + length within.old.sends < 2 ^ 64 }
-    ensures outputs { OnOk result (effects.new.outputs ≡ effects.old.outputs ++ within.old.outputs) }
-    ensures sends { OnOk result (effects.new.sends ≡ effects.old.sends ++ numbered_from next.old within.old.sends) }
-    ensures next { OnOk result (next.new ≡ next.old + length within.old.sends) }
+    requires room { length within.sends ≤ effects.old.send_places }
+    requires fits { next.old + length within.sends < 2 ^ 64 }
+    ensures outputs { OnOk result (effects.new.outputs ≡ effects.old.outputs ++ within.outputs) }
+    ensures sends { OnOk result (effects.new.sends ≡ effects.old.sends ++ numbered_from next.old within.sends) }
+    ensures next { OnOk result (next.new ≡ next.old + length within.sends) }
 {
-    outputs(within, effects)?;
-    sends(within, next, effects);
+    let (given, sent) = within.into_parts();
+    outputs(given, effects)?;
+    sends(sent, next, effects);
     Ok(())
 }

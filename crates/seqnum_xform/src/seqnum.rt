@@ -1,13 +1,13 @@
 ghost use Rattle.std.specs.Prelude.{◌≡◌, ℕ, ◌+◌, ◌<◌, ◌≤◌, IsOk, IsTrue, OnOk};
 ghost use Rattle.handler_trait.specs.Handling.{Does};
-ghost use Rattle.handler_trait.specs.declared.handlers.TheConstants.{MAX_SENDS, STEP_COST, SPENT_MAX};
+ghost use Rattle.handler_trait.specs.declared.handlers.TheConstants.{STEP_COST, SPENT_MAX};
 ghost use Rattle.seqnum_xform.specs.Numbered.{has_seen};
 ghost use Rattle.seqnum_xform.specs.Numbering.{numbered_sound, numbered_spent, sequence_numbered};
 ghost use Rattle.seqnum_xform.specs.NumberingLaws.{fresh, modest_input, modest_message, modest_timeout};
 
-use crate::hand_on::{hand_on, room};
+use crate::hand_on::hand_on;
 use crate::{SeenNumbers, SeqState};
-use handler_trait::{Effects, Handlers};
+use handler_trait::{Effects, Handlers, MAX_SENDS};
 use std::alloc::{AllocError, Global};
 use std::marker::Model;
 use vst_base::{Node, SeqMsg};
@@ -77,10 +77,10 @@ impl<H: Handlers> Handlers for SeqNum<H> {
         input: &H::Input,
         effects: &mut Effects<H::Output, SeqMsg<H::Msg>>,
     ) -> Result<(), AllocError> {
-        let mut within = room(alloc)?;
+        let mut within = Effects::with_capacity(alloc, 0, MAX_SENDS)?;
         self.inner
             .input(alloc, node, &mut state.inner, input, &mut within)?;
-        hand_on(&mut within, &mut state.next, effects)
+        hand_on(within, &mut state.next, effects)
     }
 
     fn message(
@@ -106,7 +106,7 @@ impl<H: Handlers> Handlers for SeqNum<H> {
             return Ok(());
         }
         state.seen.add(alloc, from, message.number)?;
-        let mut within = room(alloc)?;
+        let mut within = Effects::with_capacity(alloc, 0, MAX_SENDS)?;
         self.inner.message(
             alloc,
             node,
@@ -115,7 +115,7 @@ impl<H: Handlers> Handlers for SeqNum<H> {
             &message.inner,
             &mut within,
         )?;
-        hand_on(&mut within, &mut state.next, effects)
+        hand_on(within, &mut state.next, effects)
     }
 
     fn timeout(
@@ -125,10 +125,10 @@ impl<H: Handlers> Handlers for SeqNum<H> {
         state: &mut SeqState<H::State>,
         effects: &mut Effects<H::Output, SeqMsg<H::Msg>>,
     ) -> Result<(), AllocError> {
-        let mut within = room(alloc)?;
+        let mut within = Effects::with_capacity(alloc, 0, MAX_SENDS)?;
         self.inner
             .timeout(alloc, node, &mut state.inner, &mut within)?;
-        hand_on(&mut within, &mut state.next, effects)
+        hand_on(within, &mut state.next, effects)
     }
 
     ghost fresh = { fresh H.meaning H.sound H.spent H.fresh };

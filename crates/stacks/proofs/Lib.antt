@@ -1,2 +1,4 @@
 pub mod Found
 pub mod Starting
+pub mod Fitting
+pub mod Explaining

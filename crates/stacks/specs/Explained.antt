@@ -1,9 +1,26 @@
--- What it means that a stack explains what it plays.
+-- What it means that a stack explains what it plays, and that what stands below a trace can itself be replayed.
 use Rattle.std.specs.Prelude.{◌≡◌, List, None}
+use Rattle.net_semantics.specs.Runs.{machine_trace}
+use Rattle.trace_maps.specs.Replying.{alone}
 use Rattle.vst_base.specs.declared.step.Step.{Step}
 use Rattle.stacks.specs.ClaimTexts.{claim_by}
+use Rattle.stacks.specs.Kinds.{Application, Kind, Plain, Numbered, Alone, Backed, BackedNumbered, Clustered, by_itself}
 use Rattle.stacks.specs.Stack.{AnyStack}
 
 -- the image of each schedule that its network allows explains the trace
 abbrev pub ExplainsAll : AnyStack → Type 0
 ExplainsAll a = (ss : List (Step a.Input)) → a.stack.play.refused ss ≡ None → a.Explains (claim_by a.stack.play ss)
+
+-- a machine alone takes any commands, and its trace is each of them with the machine's answer after it
+pub record TakesCommands (p : Application) : Type 0 where
+  pub allowed : (cs : List p.Command) → (by_itself p.own p.machine p.texts).stack.play.refused (alone cs) ≡ None
+  pub trace : (cs : List p.Command) → (by_itself p.own p.machine p.texts).stack.play.trace (alone cs) ≡ machine_trace p.machine cs
+
+-- where an image is a schedule of a machine alone, it takes the image
+abbrev pub TakesImages : Kind → Type 0
+TakesImages (Plain h) = Unit {0}
+TakesImages (Numbered h) = Unit {0}
+TakesImages (Alone p) = TakesCommands p
+TakesImages (Backed p) = TakesCommands p
+TakesImages (BackedNumbered p) = TakesCommands p
+TakesImages (Clustered p) = Unit {0}

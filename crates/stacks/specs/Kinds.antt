@@ -1,4 +1,4 @@
--- The kinds of stacks, each of any handlers or machine.
+-- The kinds of stacks, each of any handlers that are a stack by themselves, or of any machine with its texts.
 use Rattle.std.specs.Prelude.{◌≡◌, ℕ, Option, Some, None}
 use Rattle.vst_base.specs.Machines.{MachineMeaning}
 use Rattle.vst_base.specs.Stacks.{row_of}
@@ -53,8 +53,8 @@ pub record IsWhatClientsSee {S I O M : Type 0} (net : Net) (m : Meaning S I O M)
   pub allowed : IsAllowed net m (no_recovery {S = S}) c.image
   pub trace : c.trace ≡ trace m (no_recovery {S = S}) c.image
 
--- handlers without a transformer, which are a stack by themselves, and the same with numbered packets on a network: an image is
--- a schedule of the handlers themselves, on as many nodes as its header says
+-- handlers without a transformer, which are a stack by themselves, and the same with numbered packets on a network that copies
+-- packets: an image is a schedule of the handlers themselves, on as many nodes as its header says
 module _ {S I O M : Type 0} (own : StackId) (handlers : ℕ → Meaning S I O M) (t : Texts I O) where
   abbrev pub own_verdict : ScheduleClaim I O → Verdict
   own_verdict c = schedule_verdict t.input_text t.output_text (row_of own).net (handlers (nodes_of c.header)) c
@@ -65,8 +65,8 @@ module _ {S I O M : Type 0} (own : StackId) (handlers : ℕ → Meaning S I O M)
   abbrev pub plain : ℕ → AnyStack
   plain n = any (stack_of (system_of (row_of own).net (handlers n) (λ ss. ss)) t (schedule_below (header_on own n) t) own_verdict) IsItsRun
 
-  abbrev pub numbered : Net → ℕ → AnyStack
-  numbered on n = any (stack_of (system_of on (sequence_numbered (handlers n)) once) t (schedule_below (header_on own n) t) own_verdict) IsItsRun
+  abbrev pub numbered : ℕ → AnyStack
+  numbered n = any (stack_of (system_of net.Dup (sequence_numbered (handlers n)) once) t (schedule_below (header_on own n) t) own_verdict) IsItsRun
 
 -- how a machine's commands and outputs are spelled under primary-backup, and on a cluster
 abbrev pub pb_texts : {C O : Type 0} → Texts C O → Texts C (PbOut O)
@@ -115,3 +115,46 @@ module _ {S C O : Type 0} (m : MachineMeaning S C O) (t : Texts C O) where
   clustered n = any
       (stack_of (cluster_of m n) (raft_texts t) (order_below t) (cluster_verdict t.input_text t.output_text m))
       (λ c. IsLinearizable m c.image c.trace)
+
+-- handlers of so many nodes with their texts, which without a transformer are this stack
+pub record OwnHandlers : Type 1 where
+  pub State : Type 0
+  pub Input : Type 0
+  pub Output : Type 0
+  pub Msg : Type 0
+  pub own : StackId
+  pub handlers : ℕ → Meaning State Input Output Msg
+  pub texts : Texts Input Output
+
+abbrev pub own_handlers : {S I O M : Type 0} → StackId → (ℕ → Meaning S I O M) → Texts I O → OwnHandlers
+own_handlers {S = S} {I = I} {O = O} {M = M} own handlers t = record { State = S; Input = I; Output = O; Msg = M; own = own; handlers = handlers; texts = t }
+
+-- a machine with its texts, which alone is this stack
+pub record Application : Type 1 where
+  pub State : Type 0
+  pub Command : Type 0
+  pub Output : Type 0
+  pub own : StackId
+  pub machine : MachineMeaning State Command Output
+  pub texts : Texts Command Output
+
+abbrev pub application : {S C O : Type 0} → StackId → MachineMeaning S C O → Texts C O → Application
+application {S = S} {C = C} {O = O} own m t = record { State = S; Command = C; Output = O; own = own; machine = m; texts = t }
+
+-- a kind of stack, with what it is a stack of
+pub data Kind : Type 1 where
+  Plain : OwnHandlers → Kind
+  Numbered : OwnHandlers → Kind
+  Alone : Application → Kind
+  Backed : Application → Kind
+  BackedNumbered : Application → Kind
+  Clustered : Application → Kind
+
+-- the stack of so many nodes
+abbrev pub of_kind : Kind → ℕ → AnyStack
+of_kind (Plain h) n = plain h.own h.handlers h.texts n
+of_kind (Numbered h) n = numbered h.own h.handlers h.texts n
+of_kind (Alone p) n = by_itself p.own p.machine p.texts
+of_kind (Backed p) n = backed p.own p.machine p.texts
+of_kind (BackedNumbered p) n = backed_numbered p.own p.machine p.texts
+of_kind (Clustered p) n = clustered p.machine p.texts n

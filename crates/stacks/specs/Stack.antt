@@ -87,3 +87,7 @@ IfFound (Here a) P = P a
 abbrev pub found_or : {A : Type 1} {B : Type 0} → B → (A → B) → Found A → B
 found_or b f Nowhere = b
 found_or b f (Here a) = f a
+
+abbrev pub found_map : {A B : Type 1} → (A → B) → Found A → Found B
+found_map f Nowhere = Nowhere
+found_map f (Here a) = Here (f a)

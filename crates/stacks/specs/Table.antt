@@ -1,5 +1,5 @@
--- The stacks' table: one line a stack.
-use Rattle.std.specs.Prelude.{ℕ, true}
+-- The stacks' table.
+use Rattle.std.specs.Prelude.{true}
 use Rattle.vst_base.specs.Stacks.{row_of}
 use Rattle.vst_base.specs.declared.lock.LockInput.{LockInput}
 use Rattle.vst_base.specs.declared.lock.LockOutput.{LockOutput}
@@ -13,8 +13,8 @@ use Rattle.kv_machine.specs.Kv.{kv}
 use Rattle.kv_machine.specs.declared.cmd.KvCmd.{KvCmd}
 use Rattle.kv_machine.specs.declared.out.KvOut.{KvOut}
 use Rattle.lock_server.specs.Locks.{lock_server}
-use Rattle.stacks.specs.Kinds.{backed, backed_numbered, by_itself, clustered, numbered, plain}
-use Rattle.stacks.specs.Stack.{AnyStack, Entry, Found, Here, Nowhere, Texts, texts_of}
+use Rattle.stacks.specs.Kinds.{Application, Kind, OwnHandlers, Plain, Numbered, Alone, Backed, BackedNumbered, Clustered, application, of_kind, own_handlers}
+use Rattle.stacks.specs.Stack.{Entry, Found, Here, Nowhere, Texts, found_map, texts_of}
 
 abbrev pub lock_texts : Texts LockInput LockOutput
 lock_texts = texts_of lock_text.input_of lock_text.input_text lock_text.output_of lock_text.output_text (λ _. true)
@@ -22,15 +22,26 @@ lock_texts = texts_of lock_text.input_of lock_text.input_text lock_text.output_o
 abbrev pub kv_texts : Texts KvCmd KvOut
 kv_texts = texts_of kv_text.input_of kv_text.input_text kv_text.output_of kv_text.output_text (λ _. true)
 
-abbrev pub entry : StackId → (ℕ → AnyStack) → Found Entry
-entry i of = Here (record { row = row_of i; of = of })
+-- the lock server, and the key-value machine
+abbrev pub locks : OwnHandlers
+locks = own_handlers stack.Lock lock_server lock_texts
 
--- the stack of a network and a name, if there is one
+abbrev pub store : Application
+store = application stack.Kv kv kv_texts
+
+-- the kind of stack that a network and a name are, if there is one: one line a stack
+abbrev pub kind_at : Net → StackId → Found Kind
+kind_at net.Bag stack.Lock = Here (Plain locks)
+kind_at net.Dup stack.LockSeq = Here (Numbered locks)
+kind_at net.One stack.Kv = Here (Alone store)
+kind_at net.Bag stack.KvPb = Here (Backed store)
+kind_at net.Dup stack.KvPbSeq = Here (BackedNumbered store)
+kind_at net.Fail stack.KvRaft = Here (Clustered store)
+kind_at n i = Nowhere
+
+-- that stack, with its row
+abbrev pub entry : StackId → Kind → Entry
+entry i k = record { row = row_of i; of = of_kind k }
+
 abbrev pub stack_at : Net → StackId → Found Entry
-stack_at net.Bag stack.Lock = entry stack.Lock (plain stack.Lock lock_server lock_texts)
-stack_at net.Dup stack.LockSeq = entry stack.LockSeq (numbered stack.Lock lock_server lock_texts net.Dup)
-stack_at net.One stack.Kv = entry stack.Kv (λ n. by_itself stack.Kv kv kv_texts)
-stack_at net.Bag stack.KvPb = entry stack.KvPb (λ n. backed stack.Kv kv kv_texts)
-stack_at net.Dup stack.KvPbSeq = entry stack.KvPbSeq (λ n. backed_numbered stack.Kv kv kv_texts)
-stack_at net.Fail stack.KvRaft = entry stack.KvRaft (clustered kv kv_texts)
-stack_at n i = Nowhere
+stack_at n i = found_map (entry i) (kind_at n i)

@@ -1,4 +1,4 @@
-ghost use Rattle.std.specs.Prelude.{◌≡◌, ◌≤◌, ◌+◌, [], IfOk, length, option_map};
+ghost use Rattle.std.specs.Prelude.{◌≡◌, ◌≤◌, ◌+◌, ℕ, [], IfOk, length, option_map};
 ghost use Rattle.check_text.specs.Claims.{Claim as SpecClaim};
 ghost use Rattle.check_text.specs.ImageLines.{IsHeaded};
 ghost use Rattle.stacks.specs.Stack.{AnyStack, Stack, any, image_of, play_of, texts_of};
@@ -11,8 +11,8 @@ use schedule_text::{Header, Printed};
 use std::alloc::{AllocError, Global};
 use xform_stack::Runs;
 
-/// The code of a stack.
-pub trait StackCode: Drop {
+/// The code of a stack, which is known by its type and its number of nodes.
+pub trait StackCode {
     type Input: Drop;
 
     type Output: Drop;
@@ -29,40 +29,40 @@ pub trait StackCode: Drop {
     /// A schedule that is run.
     type Running: Runs<Input = Self::Input, Output = Self::Output, Line = Self::Line>;
 
-    /// The stack that this is the code of.
-    ghost stack: { Self → Stack Self.Input Self.Output Self.Line };
+    /// The stack of so many nodes that this is the code of.
+    ghost stack: { ℕ → Stack Self.Input Self.Output Self.Line };
 
     /// What it means that an image explains a trace.
-    ghost Explains: { Self → SpecClaim Self.Input Self.Output Self.Line → Type 0 };
+    ghost Explains: { SpecClaim Self.Input Self.Output Self.Line → Type 0 };
 
     /// Whether there may be so many nodes.
-    ghost ready: { Self → Type 0 };
+    ghost ready: { ℕ → Type 0 };
 
     /// The header of the image, where it has one.
-    fn below(&self) -> Option<Header>
-        ensures texts { (stack self.now).play.texts
+    fn below(nodes: u8) -> Option<Header>
+        ensures texts { (stack nodes).play.texts
             ≡ texts_of Self.Text.input_of Self.Text.input_text Self.Text.output_of Self.Text.output_text Self.Text.replies }
-        ensures below { (stack self.now).play.below ≡ image_of result Self.Line.text Self.Lines.says };
+        ensures below { (stack nodes).play.below ≡ image_of result Self.Line.text Self.Lines.says };
 
     /// No step yet.
-    fn start(self, alloc: Global) -> Result<Self::Running, AllocError>
-        requires ready { ready self }
+    fn start(alloc: Global, nodes: u8) -> Result<Self::Running, AllocError>
+        requires ready { ready nodes }
         ensures started { IfOk result (λ running.
             HasRun (Self.Running.system running) Self.Running.follows Self.Running.progress [] [] running) }
         ensures sound { IfOk result Self.Running.sound }
         ensures runs { IfOk result (λ running.
-            (stack self).play ≡ play_of (Self.Running.system running) (stack self).play.texts (stack self).play.below) };
+            (stack nodes).play ≡ play_of (Self.Running.system running) (stack nodes).play.texts (stack nodes).play.below) };
 
     /// The verdict on a claim that was read.
     fn verdict(
-        self,
         alloc: Global,
+        nodes: u8,
         claim: &Claim<Self::Input, Self::Output, Self::Line>,
     ) -> Result<Verdict, AllocError>
         requires few { length claim.now.trace + length claim.now.image ≤ 8000000 }
         requires counted { length claim.now.image ≤ 1000000 }
-        requires headed { IsHeaded (option_map (λ h. h.stack) (stack self).play.below.header) claim.now.header }
-        ensures { IfOk result (λ verdict. verdict ≡ (stack self).verdict claim.now) };
+        requires headed { IsHeaded (option_map (λ h. h.stack) (stack nodes).play.below.header) claim.now.header }
+        ensures { IfOk result (λ verdict. verdict ≡ (stack nodes).verdict claim.now) };
 }
 
 /// What a command does on the code of any stack, with what is lent to it.
@@ -75,8 +75,9 @@ pub trait OnStack<A, B, C> {
     /// What it makes of what is lent to it, and what it says.
     ghost Does: { Self → AnyStack → A → B → C → A → B → C → Self.Said → Type 0 };
 
-    fn on<S: StackCode>(self, stack: S, a: &mut A, b: &mut B, c: &mut C) -> Self::Said
+    /// Does it on the stack of so many nodes.
+    fn on<S: StackCode>(self, nodes: u8, a: &mut A, b: &mut B, c: &mut C) -> Self::Said
         requires ready { ready self a.old b.old c.old }
-        requires stack { S.ready stack }
-        ensures { Does self (any (S.stack stack) (S.Explains stack)) a.old b.old c.old a.new b.new c.new result };
+        requires stack { S.ready nodes }
+        ensures { Does self (any (S.stack nodes) S.Explains) a.old b.old c.old a.new b.new c.new result };
 }

@@ -2,16 +2,14 @@
 //! and the one place that goes from a header to the code of its stack.
 #![tactic(auto)]
 
-mod cluster;
 mod code;
 mod laws;
 mod machine;
 mod own;
 mod table;
 
-pub use cluster::Clustered;
 pub use code::{OnStack, StackCode};
-pub use laws::{machine_takes_images, stacks_explain};
-pub use machine::{Alone, Backed, BackedNumbered};
+pub use laws::{headers_have_stacks, machine_takes_images, stacks_explain, stacks_fit_their_rows};
+pub use machine::{Alone, Application, Backed, BackedNumbered, Clustered};
 pub use own::{Numbered, OwnStack, Plain};
-pub use table::{headers_have_stacks, on_stack};
+pub use table::on_stack;

@@ -1,195 +1,214 @@
 ghost use Rattle.std.specs.Prelude.{◌≡◌, ◌≤◌, ◌+◌, IfOk, length};
-ghost use Rattle.stacks.specs.Kinds.{IsMachineAlone, IsOneMachine, backed, backed_numbered, by_itself};
+ghost use Rattle.raft_types.specs.Ranges.{IsClusterSize};
+ghost use Rattle.linearizability.specs.Linearizable.{IsLinearizable};
+ghost use Rattle.stacks.specs.Kinds.{IsMachineAlone, IsOneMachine, backed, backed_numbered, by_itself, clustered, header_on};
 ghost use Rattle.stacks.specs.Stack.{texts_of};
+ghost use Rattle.vst_base.specs.declared.stack.StackId.{StackId as SpecId};
 
 use crate::StackCode;
 use crate::own::header_on;
-use app_text::{AppText, MachineText, PbText};
-use check_text::{Claim, Steps};
-use claim_verdicts::{Verdict, backup_verdict, schedule_verdict};
+use app_text::{MachineText, PbText};
+use check_text::{Claim, Orders, Steps};
+use claim_verdicts::{Verdict, backup_verdict, cluster_verdict, schedule_verdict};
 use primary_backup::PrimaryBackup;
+use raft_text::RaftText;
+use raft_types::{RaftInput, RaftOut};
 use schedule_text::Header;
 use single_node::SingleNode;
 use std::alloc::{AllocError, Global};
 use std::marker::PhantomData;
 use vst_base::{Machine, Net, PbOut, StackId, Step};
-use xform_stack::{Itself, RepliedTo, Running, SeqNum};
+use xform_stack::{Itself, RepliedTo, Running, RunningCluster, SeqNum};
 
-/// A machine at its one node, which is a stack of its own: the image of a schedule is the schedule itself.
-#[derive(Drop)]
-pub struct Alone<M, A> {
-    own: StackId,
-    machine: M,
-    texts: PhantomData<A>,
+/// A machine with its texts, which alone is a stack.
+pub trait Application: Machine {
+    /// How its commands and outputs are spelled.
+    type Text: MachineText<Input = Self::Cmd, Output = Self::Out>;
+
+    /// Which stack it is alone.
+    ghost own: { SpecId };
+
+    /// The machine.
+    ghost machine: { Self };
+
+    /// Which stack it is alone.
+    fn own() -> StackId
+        ensures { result ≡ own };
+
+    /// The machine.
+    fn machine() -> Self
+        ensures { result ≡ machine };
 }
 
-/// A machine under primary-backup: the image is a schedule of the machine alone, of which this is the stack.
-#[derive(Drop)]
-pub struct Backed<M, A> {
-    own: StackId,
-    machine: M,
-    texts: PhantomData<A>,
+// The header of an image that is a schedule of a machine alone.
+fn alone_header<M: Application>() -> Header
+    ensures { result ≡ header_on M.own 1 }
+{
+    header_on(M::own(), 1)
+}
+
+/// A machine at its one node: the image of a schedule is the schedule itself.
+pub struct Alone<M> {
+    machine: PhantomData<M>,
+}
+
+/// A machine under primary-backup: the image is a schedule of the machine alone.
+pub struct Backed<M> {
+    machine: PhantomData<M>,
 }
 
 /// The same with numbered packets, on a network that copies packets.
-#[derive(Drop)]
-pub struct BackedNumbered<M, A> {
-    own: StackId,
-    machine: M,
-    texts: PhantomData<A>,
+pub struct BackedNumbered<M> {
+    machine: PhantomData<M>,
 }
 
-impl<M, A> Alone<M, A> {
-    /// This machine, which alone is this stack.
-    pub fn new(own: StackId, machine: M) -> Self
-        ensures own { result.own ≡ own }
-        ensures machine { result.machine ≡ machine }
-    {
-        Alone {
-            own,
-            machine,
-            texts: PhantomData,
-        }
-    }
+/// A machine on a Raft cluster: the image is the order in which one machine takes the requests.
+pub struct Clustered<M> {
+    machine: PhantomData<M>,
 }
 
-impl<M, A> Backed<M, A> {
-    /// This machine, which alone is this stack.
-    pub fn new(own: StackId, machine: M) -> Self
-        ensures own { result.own ≡ own }
-        ensures machine { result.machine ≡ machine }
-    {
-        Backed {
-            own,
-            machine,
-            texts: PhantomData,
-        }
-    }
-}
-
-impl<M, A> BackedNumbered<M, A> {
-    /// This machine, which alone is this stack.
-    pub fn new(own: StackId, machine: M) -> Self
-        ensures own { result.own ≡ own }
-        ensures machine { result.machine ≡ machine }
-    {
-        BackedNumbered {
-            own,
-            machine,
-            texts: PhantomData,
-        }
-    }
-}
-
-impl<M: Machine, A: AppText<Input = M::Cmd, Output = M::Out>> StackCode for Alone<M, A> {
+impl<M: Application> StackCode for Alone<M> {
     type Input = M::Cmd;
 
     type Output = M::Out;
 
     type Line = Step<M::Cmd>;
 
-    type Text = A;
+    type Text = M::Text;
 
-    type Lines = Steps<A>;
+    type Lines = Steps<M::Text>;
 
     type Running = Running<SingleNode<M>, Itself<M::Cmd>>;
 
-    ghost stack = { λ s. (by_itself s.own (M.meaning s.machine) (texts_of A.input_of A.input_text A.output_of A.output_text A.replies)).stack };
+    ghost stack = { λ _. (by_itself M.own (M.meaning M.machine) (texts_of M.Text.input_of M.Text.input_text M.Text.output_of M.Text.output_text M.Text.replies)).stack };
 
-    ghost Explains = { λ s. IsMachineAlone (M.meaning s.machine) };
+    ghost Explains = { IsMachineAlone (M.meaning M.machine) };
 
-    ghost ready = { λ s. Unit {0} };
+    ghost ready = { λ _. Unit {0} };
 
-    fn below(&self) -> Option<Header> {
-        Some(header_on(self.own, 1))
+    fn below(_nodes: u8) -> Option<Header> {
+        Some(alone_header::<M>())
     }
 
-    fn start(self, alloc: Global) -> Result<Self::Running, AllocError> {
-        Running::new(alloc, SingleNode::new(self.machine), Net::One)
+    fn start(alloc: Global, _nodes: u8) -> Result<Self::Running, AllocError> {
+        Running::new(alloc, SingleNode::new(M::machine()), Net::One)
     }
 
     fn verdict(
-        self,
         alloc: Global,
+        _nodes: u8,
         claim: &Claim<M::Cmd, M::Out, Step<M::Cmd>>,
     ) -> Result<Verdict, AllocError> {
-        schedule_verdict::<SingleNode<M>, A>(alloc, SingleNode::new(self.machine), Net::One, claim)
+        let node = SingleNode::new(M::machine());
+        schedule_verdict::<SingleNode<M>, M::Text>(alloc, node, Net::One, claim)
     }
 }
 
-impl<M: Machine, A: MachineText<Input = M::Cmd, Output = M::Out>> StackCode for Backed<M, A> {
+impl<M: Application> StackCode for Backed<M> {
     type Input = M::Cmd;
 
     type Output = PbOut<M::Out>;
 
     type Line = Step<M::Cmd>;
 
-    type Text = PbText<A>;
+    type Text = PbText<M::Text>;
 
-    type Lines = Steps<PbText<A>>;
+    type Lines = Steps<PbText<M::Text>>;
 
     type Running = Running<PrimaryBackup<M>, RepliedTo<M::Cmd>>;
 
-    ghost stack = { λ s. (backed s.own (M.meaning s.machine) (texts_of A.input_of A.input_text A.output_of A.output_text A.replies)).stack };
+    ghost stack = { λ _. (backed M.own (M.meaning M.machine) (texts_of M.Text.input_of M.Text.input_text M.Text.output_of M.Text.output_text M.Text.replies)).stack };
 
-    ghost Explains = { λ s. IsOneMachine (M.meaning s.machine) };
+    ghost Explains = { IsOneMachine (M.meaning M.machine) };
 
-    ghost ready = { λ s. Unit {0} };
+    ghost ready = { λ _. Unit {0} };
 
-    fn below(&self) -> Option<Header> {
-        Some(header_on(self.own, 1))
+    fn below(_nodes: u8) -> Option<Header> {
+        Some(alone_header::<M>())
     }
 
-    fn start(self, alloc: Global) -> Result<Self::Running, AllocError> {
-        Running::new(alloc, PrimaryBackup::new(self.machine), Net::Bag)
+    fn start(alloc: Global, _nodes: u8) -> Result<Self::Running, AllocError> {
+        Running::new(alloc, PrimaryBackup::new(M::machine()), Net::Bag)
     }
 
     fn verdict(
-        self,
         alloc: Global,
+        _nodes: u8,
         claim: &Claim<M::Cmd, PbOut<M::Out>, Step<M::Cmd>>,
     ) -> Result<Verdict, AllocError> {
-        backup_verdict::<M, A>(alloc, self.machine, claim)
+        backup_verdict::<M, M::Text>(alloc, M::machine(), claim)
     }
 }
 
-impl<M: Machine, A: MachineText<Input = M::Cmd, Output = M::Out>> StackCode
-    for BackedNumbered<M, A> {
+impl<M: Application> StackCode for BackedNumbered<M> {
     type Input = M::Cmd;
 
     type Output = PbOut<M::Out>;
 
     type Line = Step<M::Cmd>;
 
-    type Text = PbText<A>;
+    type Text = PbText<M::Text>;
 
-    type Lines = Steps<PbText<A>>;
+    type Lines = Steps<PbText<M::Text>>;
 
     type Running = Running<SeqNum<PrimaryBackup<M>>, RepliedTo<M::Cmd>>;
 
-    ghost stack = { λ s. (backed_numbered s.own (M.meaning s.machine) (texts_of A.input_of A.input_text A.output_of A.output_text A.replies)).stack };
+    ghost stack = { λ _. (backed_numbered M.own (M.meaning M.machine) (texts_of M.Text.input_of M.Text.input_text M.Text.output_of M.Text.output_text M.Text.replies)).stack };
 
-    ghost Explains = { λ s. IsOneMachine (M.meaning s.machine) };
+    ghost Explains = { IsOneMachine (M.meaning M.machine) };
 
-    ghost ready = { λ s. Unit {0} };
+    ghost ready = { λ _. Unit {0} };
 
-    fn below(&self) -> Option<Header> {
-        Some(header_on(self.own, 1))
+    fn below(_nodes: u8) -> Option<Header> {
+        Some(alone_header::<M>())
     }
 
-    fn start(self, alloc: Global) -> Result<Self::Running, AllocError> {
-        Running::new(
-            alloc,
-            SeqNum::new(PrimaryBackup::new(self.machine)),
-            Net::Dup,
-        )
+    fn start(alloc: Global, _nodes: u8) -> Result<Self::Running, AllocError> {
+        let handlers = SeqNum::new(PrimaryBackup::new(M::machine()));
+        Running::new(alloc, handlers, Net::Dup)
     }
 
     fn verdict(
-        self,
         alloc: Global,
+        _nodes: u8,
         claim: &Claim<M::Cmd, PbOut<M::Out>, Step<M::Cmd>>,
     ) -> Result<Verdict, AllocError> {
-        backup_verdict::<M, A>(alloc, self.machine, claim)
+        backup_verdict::<M, M::Text>(alloc, M::machine(), claim)
+    }
+}
+
+impl<M: Application> StackCode for Clustered<M> {
+    type Input = RaftInput<M::Cmd>;
+
+    type Output = RaftOut<M::Out>;
+
+    type Line = RaftInput<M::Cmd>;
+
+    type Text = RaftText<M::Text>;
+
+    type Lines = Orders<RaftText<M::Text>>;
+
+    type Running = RunningCluster<M>;
+
+    ghost stack = { λ n. (clustered (M.meaning M.machine) (texts_of M.Text.input_of M.Text.input_text M.Text.output_of M.Text.output_text M.Text.replies) n).stack };
+
+    ghost Explains = { λ c. IsLinearizable (M.meaning M.machine) c.image c.trace };
+
+    ghost ready = { IsClusterSize };
+
+    fn below(_nodes: u8) -> Option<Header> {
+        None
+    }
+
+    fn start(alloc: Global, nodes: u8) -> Result<Self::Running, AllocError> {
+        RunningCluster::new(alloc, M::machine(), nodes)
+    }
+
+    fn verdict(
+        alloc: Global,
+        _nodes: u8,
+        claim: &Claim<RaftInput<M::Cmd>, RaftOut<M::Out>, RaftInput<M::Cmd>>,
+    ) -> Result<Verdict, AllocError> {
+        cluster_verdict::<M, M::Text>(alloc, &M::machine(), claim)
     }
 }

@@ -5,22 +5,23 @@ ghost use Rattle.stacks.specs.Stack.{texts_of};
 ghost use Rattle.vst_base.specs.Stacks.{row_of};
 ghost use Rattle.vst_base.specs.declared.net.Net.TheVariants as net;
 ghost use Rattle.vst_base.specs.declared.stack.StackId.{StackId as SpecId};
-ghost use Rattle.vst_base.specs.declared.stack.StackId.TheVariants as id;
 
 use crate::StackCode;
 use app_text::AppText;
 use check_text::{Claim, Steps};
 use claim_verdicts::{Verdict, schedule_verdict};
 use handler_trait::Handlers;
-use lock_server::LockServer;
 use schedule_text::{Header, headers_follow_the_rows};
 use std::alloc::{AllocError, Global};
 use std::marker::PhantomData;
 use vst_base::{Net, StackId, Step};
 use xform_stack::{Itself, Running, SeqNum, WithoutRepeats};
 
-/// Handlers that are a stack by themselves, without a transformer, on a network that stops no node.
+/// Handlers that are a stack by themselves, without a transformer, on a network that carries packets and stops no node.
 pub trait OwnStack: Handlers {
+    /// How their inputs and outputs are spelled.
+    type Text: AppText<Input = Self::Input, Output = Self::Output>;
+
     /// Which stack they are.
     ghost own: { SpecId };
 
@@ -30,27 +31,14 @@ pub trait OwnStack: Handlers {
     /// Which stack they are.
     fn own() -> StackId
         ensures own { result ≡ own }
-        ensures net { (row_of own).net ≢ net.Fail };
+        ensures stays_up { (row_of own).net ≢ net.Fail }
+        ensures sends { (row_of own).net ≢ net.One };
 
     /// The handlers of so many nodes.
     fn of_nodes(nodes: u8) -> Self
         requires least { (row_of own).least ≤ nodes }
         requires most { nodes ≤ (row_of own).most }
         ensures { result ≡ of_nodes nodes };
-}
-
-impl OwnStack for LockServer {
-    ghost own = { id.Lock };
-
-    ghost of_nodes = { λ n. n };
-
-    fn own() -> StackId {
-        StackId::Lock
-    }
-
-    fn of_nodes(nodes: u8) -> LockServer {
-        LockServer::new(nodes)
-    }
 }
 
 // The header of a schedule of a stack on its network.
@@ -65,50 +53,18 @@ pub(crate) fn header_on(stack: StackId, nodes: u8) -> Header
 }
 
 /// Such handlers alone: the image of a schedule is the schedule itself.
-#[derive(Drop)]
-pub struct Plain<H, A> {
-    nodes: u8,
+pub struct Plain<H> {
     handlers: PhantomData<H>,
-    texts: PhantomData<A>,
 }
 
 /// The same with numbered packets, on a network that copies packets: the image of a schedule is a schedule of the handlers
 /// themselves.
-#[derive(Drop)]
-pub struct Numbered<H, A> {
-    nodes: u8,
+pub struct Numbered<H> {
     handlers: PhantomData<H>,
-    texts: PhantomData<A>,
-}
-
-impl<H, A> Plain<H, A> {
-    /// On so many nodes.
-    pub fn new(nodes: u8) -> Self
-        ensures { result.nodes ≡ nodes }
-    {
-        Plain {
-            nodes,
-            handlers: PhantomData,
-            texts: PhantomData,
-        }
-    }
-}
-
-impl<H, A> Numbered<H, A> {
-    /// On so many nodes.
-    pub fn new(nodes: u8) -> Self
-        ensures { result.nodes ≡ nodes }
-    {
-        Numbered {
-            nodes,
-            handlers: PhantomData,
-            texts: PhantomData,
-        }
-    }
 }
 
 // The verdict on a claim whose image is a schedule of these handlers.
-fn own_verdict<H: OwnStack, A: AppText<Input = H::Input, Output = H::Output>>(
+fn own_verdict<H: OwnStack>(
     alloc: Global,
     claim: &Claim<H::Input, H::Output, Step<H::Input>>,
 ) -> Result<Verdict, AllocError>
@@ -116,86 +72,86 @@ fn own_verdict<H: OwnStack, A: AppText<Input = H::Input, Output = H::Output>>(
     requires counted { length claim.now.image ≤ 1000000 }
     requires headed { IsHeaded (Some H.own) claim.now.header }
     ensures { IfOk result (λ verdict. verdict ≡ own_verdict H.own (λ n. H.meaning (H.of_nodes n))
-        (texts_of A.input_of A.input_text A.output_of A.output_text A.replies) claim.now) }
+        (texts_of H.Text.input_of H.Text.input_text H.Text.output_of H.Text.output_text H.Text.replies) claim.now) }
 {
     headers_follow_the_rows();
     match claim.header() {
         Some(header) => {
             let handlers = H::of_nodes(header.nodes);
-            schedule_verdict::<H, A>(alloc, handlers, H::own().row().net, claim)
+            schedule_verdict::<H, H::Text>(alloc, handlers, H::own().row().net, claim)
         }
         None => unreachable!(),
     }
 }
 
-impl<H: OwnStack, A: AppText<Input = H::Input, Output = H::Output>> StackCode for Plain<H, A> {
+impl<H: OwnStack> StackCode for Plain<H> {
     type Input = H::Input;
 
     type Output = H::Output;
 
     type Line = Step<H::Input>;
 
-    type Text = A;
+    type Text = H::Text;
 
-    type Lines = Steps<A>;
+    type Lines = Steps<H::Text>;
 
     type Running = Running<H, Itself<H::Input>>;
 
-    ghost stack = { λ s. (plain H.own (λ n. H.meaning (H.of_nodes n)) (texts_of A.input_of A.input_text A.output_of A.output_text A.replies) s.nodes).stack };
+    ghost stack = { λ n. (plain H.own (λ k. H.meaning (H.of_nodes k)) (texts_of H.Text.input_of H.Text.input_text H.Text.output_of H.Text.output_text H.Text.replies) n).stack };
 
-    ghost Explains = { λ s. IsItsRun H.own (λ n. H.meaning (H.of_nodes n)) (texts_of A.input_of A.input_text A.output_of A.output_text A.replies) };
+    ghost Explains = { IsItsRun H.own (λ k. H.meaning (H.of_nodes k)) (texts_of H.Text.input_of H.Text.input_text H.Text.output_of H.Text.output_text H.Text.replies) };
 
-    ghost ready = { λ s. ((row_of H.own).least ≤ s.nodes) × (s.nodes ≤ (row_of H.own).most) };
+    ghost ready = { λ n. ((row_of H.own).least ≤ n) × (n ≤ (row_of H.own).most) };
 
-    fn below(&self) -> Option<Header> {
-        Some(header_on(H::own(), self.nodes))
+    fn below(nodes: u8) -> Option<Header> {
+        Some(header_on(H::own(), nodes))
     }
 
-    fn start(self, alloc: Global) -> Result<Self::Running, AllocError> {
-        Running::new(alloc, H::of_nodes(self.nodes), H::own().row().net)
+    fn start(alloc: Global, nodes: u8) -> Result<Self::Running, AllocError> {
+        Running::new(alloc, H::of_nodes(nodes), H::own().row().net)
     }
 
     fn verdict(
-        self,
         alloc: Global,
+        _nodes: u8,
         claim: &Claim<H::Input, H::Output, Step<H::Input>>,
     ) -> Result<Verdict, AllocError> {
-        own_verdict::<H, A>(alloc, claim)
+        own_verdict::<H>(alloc, claim)
     }
 }
 
-impl<H: OwnStack, A: AppText<Input = H::Input, Output = H::Output>> StackCode for Numbered<H, A> {
+impl<H: OwnStack> StackCode for Numbered<H> {
     type Input = H::Input;
 
     type Output = H::Output;
 
     type Line = Step<H::Input>;
 
-    type Text = A;
+    type Text = H::Text;
 
-    type Lines = Steps<A>;
+    type Lines = Steps<H::Text>;
 
     type Running = Running<SeqNum<H>, WithoutRepeats<H::Input>>;
 
-    ghost stack = { λ s. (numbered H.own (λ n. H.meaning (H.of_nodes n)) (texts_of A.input_of A.input_text A.output_of A.output_text A.replies) net.Dup s.nodes).stack };
+    ghost stack = { λ n. (numbered H.own (λ k. H.meaning (H.of_nodes k)) (texts_of H.Text.input_of H.Text.input_text H.Text.output_of H.Text.output_text H.Text.replies) n).stack };
 
-    ghost Explains = { λ s. IsItsRun H.own (λ n. H.meaning (H.of_nodes n)) (texts_of A.input_of A.input_text A.output_of A.output_text A.replies) };
+    ghost Explains = { IsItsRun H.own (λ k. H.meaning (H.of_nodes k)) (texts_of H.Text.input_of H.Text.input_text H.Text.output_of H.Text.output_text H.Text.replies) };
 
-    ghost ready = { λ s. ((row_of H.own).least ≤ s.nodes) × (s.nodes ≤ (row_of H.own).most) };
+    ghost ready = { λ n. ((row_of H.own).least ≤ n) × (n ≤ (row_of H.own).most) };
 
-    fn below(&self) -> Option<Header> {
-        Some(header_on(H::own(), self.nodes))
+    fn below(nodes: u8) -> Option<Header> {
+        Some(header_on(H::own(), nodes))
     }
 
-    fn start(self, alloc: Global) -> Result<Self::Running, AllocError> {
-        Running::new(alloc, SeqNum::new(H::of_nodes(self.nodes)), Net::Dup)
+    fn start(alloc: Global, nodes: u8) -> Result<Self::Running, AllocError> {
+        Running::new(alloc, SeqNum::new(H::of_nodes(nodes)), Net::Dup)
     }
 
     fn verdict(
-        self,
         alloc: Global,
+        _nodes: u8,
         claim: &Claim<H::Input, H::Output, Step<H::Input>>,
     ) -> Result<Verdict, AllocError> {
-        own_verdict::<H, A>(alloc, claim)
+        own_verdict::<H>(alloc, claim)
     }
 }

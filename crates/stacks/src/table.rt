@@ -1,22 +1,48 @@
 ghost use Rattle.std.specs.Prelude.{◌≡◌, ◌≤◌};
 ghost use Rattle.schedule_text.specs.Headers.{IsHeader};
-ghost use Rattle.schedule_text.specs.declared.header.Header.{Header as SpecHeader};
 ghost use Rattle.stacks.specs.Stack.{IfFound};
 ghost use Rattle.stacks.specs.Table.{stack_at};
-ghost use Rattle.vst_base.specs.Stacks.{row_of};
+ghost use Rattle.vst_base.specs.declared.stack.StackId.TheVariants as id;
 
-use crate::{Alone, Backed, BackedNumbered, Clustered, Numbered, OnStack, Plain};
+use crate::{
+    Alone, Application, Backed, BackedNumbered, Clustered, Numbered, OnStack, OwnStack, Plain,
+};
 use app_text::{KvText, LockText};
 use kv_machine::KvMachine;
 use lock_server::LockServer;
 use schedule_text::{Header, headers_follow_the_rows};
 use vst_base::StackId;
 
-/// Each header names a stack of the table.
-pub fn headers_have_stacks()
-    ensures { (h : SpecHeader) → IsHeader h → IfFound (stack_at h.net h.stack) (λ e. e.row ≡ row_of h.stack) }
-{
-    headers_follow_the_rows();
+impl OwnStack for LockServer {
+    type Text = LockText;
+
+    ghost own = { id.Lock };
+
+    ghost of_nodes = { λ n. n };
+
+    fn own() -> StackId {
+        StackId::Lock
+    }
+
+    fn of_nodes(nodes: u8) -> LockServer {
+        LockServer::new(nodes)
+    }
+}
+
+impl Application for KvMachine {
+    type Text = KvText;
+
+    ghost own = { id.Kv };
+
+    ghost machine = { record {} };
+
+    fn own() -> StackId {
+        StackId::Kv
+    }
+
+    fn machine() -> KvMachine {
+        KvMachine
+    }
 }
 
 /// Does a command on the code of a header's stack, with what is lent to it: the only match on stacks.
@@ -35,23 +61,11 @@ pub fn on_stack<A, B, C, V: OnStack<A, B, C>>(
     headers_follow_the_rows();
     let nodes = header.nodes;
     match header.stack {
-        StackId::Lock => command.on(Plain::<LockServer, LockText>::new(nodes), a, b, c),
-        StackId::LockSeq => command.on(Numbered::<LockServer, LockText>::new(nodes), a, b, c),
-        StackId::KvPb => {
-            let stack = Backed::<KvMachine, KvText>::new(StackId::Kv, KvMachine);
-            command.on(stack, a, b, c)
-        }
-        StackId::KvPbSeq => {
-            let stack = BackedNumbered::<KvMachine, KvText>::new(StackId::Kv, KvMachine);
-            command.on(stack, a, b, c)
-        }
-        StackId::KvRaft => {
-            let stack = Clustered::<KvMachine, KvText>::new(KvMachine, nodes);
-            command.on(stack, a, b, c)
-        }
-        StackId::Kv => {
-            let stack = Alone::<KvMachine, KvText>::new(StackId::Kv, KvMachine);
-            command.on(stack, a, b, c)
-        }
+        StackId::Lock => command.on::<Plain<LockServer>>(nodes, a, b, c),
+        StackId::LockSeq => command.on::<Numbered<LockServer>>(nodes, a, b, c),
+        StackId::KvPb => command.on::<Backed<KvMachine>>(nodes, a, b, c),
+        StackId::KvPbSeq => command.on::<BackedNumbered<KvMachine>>(nodes, a, b, c),
+        StackId::KvRaft => command.on::<Clustered<KvMachine>>(nodes, a, b, c),
+        StackId::Kv => command.on::<Alone<KvMachine>>(nodes, a, b, c),
     }
 }

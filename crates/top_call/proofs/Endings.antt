@@ -12,7 +12,7 @@ use Rattle.schedule_replay.specs.Outcomes.{ComesTo}
 use Rattle.schedule_replay.specs.Replays.{replayed, replayed_so_far}
 use Rattle.vst_base.specs.declared.stack.StackId.{StackId}
 use Rattle.claim_verdicts.specs.declared.verdict.Verdict.{Verdict}
-use Rattle.trace_check.specs.Checks.{checked}
+use Rattle.stacks.specs.Checks.{checked}
 use Rattle.trace_check.specs.Outcomes.{LooksAhead}
 use Rattle.trace_check.specs.declared.fault.CheckFault.TheVariants as claim
 use Rattle.command_line.specs.declared.command.Command.{Command}

@@ -8,7 +8,7 @@ use Rattle.command_line.specs.declared.command.Command.TheVariants as command
 use Rattle.command_line.specs.CommandSet.{command_of}
 use Rattle.schedule_replay.specs.Replaying.{Replayed}
 use Rattle.schedule_replay.specs.Replays.{replayed, replayed_so_far}
-use Rattle.trace_check.specs.Checks.{checked, refused_so_far}
+use Rattle.stacks.specs.Checks.{checked, refused_so_far}
 use Rattle.claim_verdicts.specs.declared.verdict.Verdict.{Verdict}
 use Rattle.claim_verdicts.specs.declared.verdict.Verdict.TheVariants as verdict
 

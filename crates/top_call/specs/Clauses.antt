@@ -10,7 +10,7 @@ use Rattle.vst_base.specs.declared.stack.StackId.{StackId}
 use Rattle.command_line.specs.declared.command.Command.{Command}
 use Rattle.command_line.specs.declared.command.Command.TheVariants as command
 use Rattle.schedule_replay.specs.Explained.{IsReplay}
-use Rattle.trace_check.specs.Checks.{IsNotPermitted, IsPermitted}
+use Rattle.stacks.specs.Checks.{IsNotPermitted, IsPermitted}
 use Rattle.top_call.specs.Answers.{Answer, answer_by, condition_line, memory_line, permitted_line, read_failed_line, so_far_by, usage_line}
 
 -- a status of the program

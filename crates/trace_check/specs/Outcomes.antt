@@ -8,12 +8,12 @@ use Rattle.check_text.specs.Outcomes.{IsDecidedBy}
 use Rattle.line_reader.specs.declared.fault.LineFault.TheVariants as line
 use Rattle.line_reader.specs.declared.why.Why.{Why}
 use Rattle.stacks.specs.Stack.{Stack}
-use Rattle.trace_check.specs.Checks.{checked_on, refused_on}
+use Rattle.stacks.specs.Checks.{checked_on, refused_on}
 use Rattle.trace_check.specs.declared.fault.CheckFault.{CheckFault}
 use Rattle.trace_check.specs.declared.fault.CheckFault.TheVariants as fault
 use Rattle.claim_verdicts.specs.declared.verdict.Verdict.{Verdict}
 
--- a fault of a line as a fault of a check. The end of a text and a failed write never come here
+-- a fault of a line that is read as a fault of a check. The end of a text is none, and nothing is written: these never come here
 abbrev pub check_fault : LineFault → CheckFault
 check_fault line.Read = fault.Read
 check_fault (line.Refused number why) = fault.Refused number why

@@ -1,8 +1,9 @@
 ghost use Rattle.std.specs.Prelude.{◌≡◌, ◌≢◌, ◌≤◌, Err, IfErr, IfSome};
-ghost use Rattle.trace_check.specs.Checks.{checked, refused_so_far};
+ghost use Rattle.stacks.specs.Checks.{checked, refused_so_far};
 ghost use Rattle.trace_check.specs.Outcomes.{ChecksText, ComesTo, HasFault, LooksAhead};
 
 use crate::CheckFault;
+use crate::faults::check_fault;
 use check_text::read_claim;
 use claim_verdicts::Verdict;
 use outside::Source;
@@ -27,15 +28,16 @@ impl<S: Source> OnStack<S, (), ()> for Checking {
 
     fn on<C: StackCode>(
         self,
-        stack: C,
+        nodes: u8,
         source: &mut S,
         _: &mut (),
         _: &mut (),
     ) -> Result<Verdict, CheckFault> {
-        let below = stack.below().map(|header| header.stack);
-        let claim = read_claim::<C::Text, C::Lines, S>(self.alloc, self.nodes, below, source)?;
-        let verdict = stack.verdict(self.alloc, &claim)?;
-        Ok(verdict)
+        let below = C::below(nodes).map(|header| header.stack);
+        match read_claim::<C::Text, C::Lines, S>(self.alloc, self.nodes, below, source) {
+            Ok(claim) => Ok(C::verdict(self.alloc, nodes, &claim)?),
+            Err(fault) => Err(check_fault(fault)),
+        }
     }
 }
 

@@ -1,4 +1,4 @@
-ghost use Rattle.std.specs.Prelude.{◌≡◌};
+ghost use Rattle.std.specs.Prelude.{◌≡◌, ◌≢◌};
 ghost use Rattle.trace_check.specs.Outcomes.{check_fault};
 ghost use Rattle.trace_check.specs.declared.fault.CheckFault.TheVariants.{Memory};
 
@@ -14,15 +14,16 @@ impl From<AllocError> for CheckFault {
     }
 }
 
-// The end of a text and a failed write never come here: no call whose fault a check hands on answers them.
-impl From<LineFault> for CheckFault {
-    ghost from_gives = { λ line fault. fault ≡ check_fault line };
-
-    fn from(fault: LineFault) -> Self {
-        match fault {
-            LineFault::Read => CheckFault::Read,
-            LineFault::Refused { line, why } => CheckFault::Refused { line, why },
-            LineFault::Memory | LineFault::End | LineFault::Write => CheckFault::Memory,
-        }
+// A fault of a line that is read as a fault of a check. The end of a text is none, and nothing is written.
+pub(crate) fn check_fault(fault: LineFault) -> CheckFault
+    requires end { fault ≢ LineFault.End }
+    requires write { fault ≢ LineFault.Write }
+    ensures { result ≡ check_fault fault }
+{
+    match fault {
+        LineFault::Read => CheckFault::Read,
+        LineFault::Refused { line, why } => CheckFault::Refused { line, why },
+        LineFault::Memory => CheckFault::Memory,
+        LineFault::End | LineFault::Write => unreachable!(),
     }
 }

@@ -1,6 +1,6 @@
 ghost use Rattle.std.specs.Prelude.{◌≡◌, Err, None, Ok, Some, codes};
 ghost use Rattle.line_reader.specs.Lines.{whole_lines};
-ghost use Rattle.trace_check.specs.Checks.{checked, refused_so_far};
+ghost use Rattle.stacks.specs.Checks.{checked, refused_so_far};
 
 use crate::Verdict;
 use line_reader::Why;

@@ -1,5 +1,5 @@
 ghost use Rattle.std.specs.Prelude.{◌≡◌, Err, Ok, codes};
-ghost use Rattle.trace_check.specs.Checks.{checked};
+ghost use Rattle.stacks.specs.Checks.{checked};
 
 use crate::Verdict;
 use vst_base::StackId;

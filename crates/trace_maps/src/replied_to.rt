@@ -1,9 +1,9 @@
-ghost use Rattle.std.specs.Prelude.{◌≡◌, ◌+◌, List, [], ◌∷◌, ◌++◌, take, IfOk, OnOk};
+ghost use Rattle.std.specs.Prelude.{◌≡◌, ℕ, List, [], ◌∷◌, ◌++◌, take, OnOk};
 ghost use Rattle.net_semantics.specs.BelowPb.{below_pb};
 ghost use Rattle.net_semantics.specs.Runs.{no_recovery, trace};
 ghost use Rattle.vst_base.specs.declared.pb_out.PbOut.{PbOut};
 ghost use Rattle.vst_base.specs.declared.step.Item.{Item};
-ghost use Rattle.trace_maps.specs.Replying.{alone, HasSeen};
+ghost use Rattle.trace_maps.specs.Replying.{alone, counted, HasSeen};
 
 use crate::{Image, TraceMap};
 use handler_trait::Handlers;
@@ -16,6 +16,7 @@ use vst_base::{Item, PbOut, Step};
 pub struct RepliedTo<I> {
     // each input at the primary, also where its reply is still to come
     inputs: Image<Step<I>>,
+    // it stops at the greatest number: there are never more inputs
     replies: usize,
 }
 
@@ -25,13 +26,6 @@ impl<I> Model for RepliedTo<I> {
     ghost Value = { Seen I };
 
     ghost view = { λ r. record { inputs = r.inputs; replies = r.replies } };
-}
-
-// The next count. One over the greatest `usize` is answered as want of memory.
-fn one_more(count: usize) -> Result<usize, AllocError>
-    ensures { IfOk result (λ sum. sum ≡ count + 1) }
-{
-    count.checked_add(1).ok_or(AllocError)
 }
 
 impl<I: Drop> RepliedTo<I> {
@@ -45,9 +39,9 @@ impl<I: Drop> RepliedTo<I> {
         }
     }
 
-    /// What the machine takes of what clients saw so far.
+    /// What the machine takes of what clients saw so far: where n replies were counted, the first n inputs.
     pub fn taken(&self) -> &[Step<I>]
-        ensures { result.now ≡ take self.now.replies self.now.inputs }
+        ensures { (n : ℕ) → self.now.replies ≡ counted n → result.now ≡ take n self.now.inputs }
     {
         let inputs = self.inputs.lines();
         &inputs[..self.replies.min(inputs.len())]
@@ -55,7 +49,7 @@ impl<I: Drop> RepliedTo<I> {
 
     /// Gives up the map for what the machine takes.
     pub fn into_taken(self) -> Image<Step<I>>
-        ensures { result ≡ take self.replies self.inputs }
+        ensures { (n : ℕ) → self.replies ≡ counted n → result ≡ take n self.inputs }
     {
         let mut inputs = self.inputs;
         inputs.truncate(self.replies);
@@ -82,7 +76,7 @@ impl<I: Drop> RepliedTo<I> {
             }
             Item::Output(node, PbOut::Reply(_)) => {
                 if node.index() == 0 {
-                    self.replies = one_more(self.replies)?;
+                    self.replies = self.replies.saturating_add(1);
                 }
             }
             Item::Output(_, PbOut::Redirect) => {}

@@ -5,6 +5,7 @@
 #![tactic(auto)]
 
 mod client;
+mod counter;
 mod entry;
 mod examples;
 mod lock;
@@ -23,6 +24,7 @@ mod token;
 mod what;
 
 pub use client::ClientId;
+pub use counter::Counter;
 pub use entry::{Entry, MAX_TERM};
 pub use examples::{worked, worked_stacks, worked_tokens};
 pub use lock::{LockInput, LockMsg, LockOutput};
@@ -38,7 +40,7 @@ pub use request::ReqId;
 pub use seq::SeqMsg;
 pub use stack::{StackId, StackRow};
 pub use stack_laws::stacks_have_one_word;
-pub use step::{Item, Step, StepKind, StepRefusal};
+pub use step::{Item, MAX_STEPS, Step, StepKind, StepRefusal};
 pub use token::{Key, MAX_KEY, MAX_VALUE, Token, Value};
 pub use what::What;
 

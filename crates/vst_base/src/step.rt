@@ -4,6 +4,9 @@ ghost use Rattle.vst_base.specs.Nets.{kind_of};
 use crate::Node;
 use thiserror::Error;
 
+/// The greatest number of steps of a schedule, and of a run of it.
+pub const MAX_STEPS: u32 = 1_000_000;
+
 /// One step of a network. Nodes are named by number, packets by their place in the order of sending,
 /// from 0; a number out of range names none.
 #[derive(Debug, Drop, PartialEq, Eq)]

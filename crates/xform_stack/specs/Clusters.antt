@@ -12,6 +12,8 @@ use Rattle.raft_xform.specs.Nodes.{RaftView}
 use Rattle.raft_xform.specs.Raft.{raft, raft_recovery}
 use Rattle.raft_safety.specs.Applied.{applied_by, executed_by}
 use Rattle.raft_safety.specs.Runs.{world_after}
+use Rattle.raft_xform.specs.Clusters.{Cluster}
+use Rattle.net_semantics.specs.Worlds.{World}
 use Rattle.net_semantics.specs.ShownFail.{FailView, ShowsFail}
 use Rattle.vst_base.specs.declared.step.Step.{Step}
 use Rattle.applied_order.specs.Orders.{HasFollowed, OrderView}
@@ -24,6 +26,10 @@ cluster_of m nodes = record { net = net.Fail; meaning = raft nodes m; recovery =
 pub record ClusterView (H S C O : Type 0) : Type 0 where
   pub world : FailView H (RaftView S C O) (KeptView C) (RaftInput C) (RaftOut O) (RaftMsg C)
   pub order : OrderView C
+
+-- what holds of each world that the view stands for
+abbrev pub ForShownCluster : {H S C O : Type 0} → ClusterView (Cluster H) S C O → (World (RaftView S C O) (KeptView C) (RaftMsg C) → Type 0) → Type 0
+ForShownCluster v P = (w : World _ _ _) → ShowsFail v.world.handlers.nodes v.world w → P w
 
 -- the cluster has a size that it may have, the world is that of the run of these steps, and the order that of what was applied
 -- in it

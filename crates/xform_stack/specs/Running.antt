@@ -1,10 +1,11 @@
 -- What a running schedule stands for.
-use Rattle.std.specs.Prelude.{◌≡◌, ℕ, List, ◌++◌, length, Option, Some, None, Result, Ok, Err}
+use Rattle.std.specs.Prelude.{◌≡◌, ◌≢◌, ℕ, List, ◌++◌, length, Option, Some, None, Result, Ok, Err}
 use Rattle.handler_trait.specs.Handling.{Meaning, Recovery}
 use Rattle.vst_base.specs.declared.net.Net.{Net}
 use Rattle.vst_base.specs.declared.step.Step.{Step}
 use Rattle.vst_base.specs.declared.step.Item.{Item}
 use Rattle.vst_base.specs.declared.step.StepRefusal.{StepRefusal}
+use Rattle.vst_base.specs.declared.step.StepRefusal.TheVariants as refusal
 use Rattle.net_semantics.specs.Runs.{run, trace, first_refused, no_recovery}
 use Rattle.net_semantics.specs.Shown.{WorldView, Shows}
 use Rattle.xform_stack.specs.declared.ran.RunFault.{RunFault}
@@ -21,12 +22,12 @@ pub record System (S K I O M G : Type 0) : Type 0 where
 abbrev pub system_of : {S I O M G : Type 0} → Net → Meaning S I O M → (List (Step I) → List G) → System S S I O M G
 system_of net m image = record { net = net; meaning = m; recovery = no_recovery; image = image }
 
--- what clients saw since it was last let go, and how many steps were taken
+-- what clients saw since it was last cleared, and how many steps were taken
 pub record Progress (I O : Type 0) : Type 0 where
   pub trace : List (Item I O)
   pub taken : ℕ
 
--- the steps were taken, none of them refused: what is kept has followed them; and what was let go of the trace and what
+-- the steps were taken, none of them refused: what is kept has followed them; and what was cleared of the trace and what
 -- has come since are together their trace
 pub record HasRun {R S K I O M G : Type 0} (sys : System S K I O M G) (follows : R → List (Step I) → Type 0) (progress : R → Progress I O)
     (ss : List (Step I)) (gone : List (Item I O)) (r : R) : Type 0 where
@@ -35,11 +36,16 @@ pub record HasRun {R S K I O M G : Type 0} (sys : System S K I O M G) (follows :
   pub allowed : first_refused sys.net sys.meaning sys.recovery ss ≡ None
   pub counted : (progress r).taken ≡ length ss
 
--- an answer to a step whose first refusal is this one, behind so many steps. Want of memory comes only where it is not refused
+-- an answer to a step whose first refusal is this one, after so many steps. Want of memory comes only where it is not refused
 abbrev pub IsRunAnswer : {A : Type 0} → Result A RunFault → Option StepRefusal → ℕ → Type 0
 IsRunAnswer (Ok x) first taken = first ≡ None
 IsRunAnswer (Err (fault.Step why place)) first taken = (first ≡ Some why) × (place ≡ taken)
 IsRunAnswer (Err fault.Memory) first taken = first ≡ None
+
+-- a step is refused for no want of memory: that is a fault of its own
+abbrev pub IsRefusal : RunFault → Type 0
+IsRefusal (fault.Step why place) = why ≢ refusal.Memory
+IsRefusal fault.Memory = Unit {0}
 
 -- a fault names the first refused step of a schedule, or is want of memory
 abbrev pub IsRunRefusal : RunFault → Option (ℕ × StepRefusal) → Type 0

@@ -1,4 +1,4 @@
--- Laws of a running schedule: letting go of the trace only moves it to what was let go.
+-- Laws of a running schedule: clearing the trace only moves it to what was cleared.
 use Rattle.std.specs.Prelude.{◌≡◌, List, [], ◌++◌}
 use Rattle.std.proofs.Common.{ap, ◌∙◌}
 use Rattle.std.proofs.lemmas.List.{append-nil}

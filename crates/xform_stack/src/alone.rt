@@ -3,6 +3,7 @@ ghost use Rattle.net_semantics.specs.Runs.{first_refused, machine_trace, no_reco
 ghost use Rattle.single_node.specs.Commands.{commands};
 ghost use Rattle.single_node.specs.SingleNode.{single_node};
 ghost use Rattle.xform_stack.specs.Running.{IsRunRefusal};
+ghost use Rattle.vst_base.specs.declared.step.TheConstants.{MAX_STEPS};
 
 use crate::run::run_mapped;
 use crate::{Ran, RunFault};
@@ -18,7 +19,7 @@ pub fn run_one<M: Machine>(
     machine: M,
     steps: &[Step<M::Cmd>],
 ) -> Result<Ran<M::Cmd, M::Out, Step<M::Cmd>>, RunFault>
-    requires { length steps.now ≤ 1000000 }
+    requires { length steps.now ≤ MAX_STEPS }
     ensures allowed { OnOk result (first_refused Net.One (single_node (M.meaning machine)) no_recovery steps.now ≡ None) }
     ensures trace { IfOk result (λ ran. ran.trace ≡ machine_trace (M.meaning machine) (commands steps.now)) }
     ensures image { IfOk result (λ ran. ran.image ≡ steps.now) }

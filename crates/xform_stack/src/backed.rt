@@ -5,6 +5,7 @@ ghost use Rattle.primary_backup.specs.Backup.{primary_backup};
 ghost use Rattle.seqnum_xform.specs.Numbering.{sequence_numbered};
 ghost use Rattle.trace_maps.specs.Replying.{alone};
 ghost use Rattle.xform_stack.specs.Running.{IsRunRefusal};
+ghost use Rattle.vst_base.specs.declared.step.TheConstants.{MAX_STEPS};
 
 use crate::run::run_mapped;
 use crate::{Ran, RunFault};
@@ -22,7 +23,7 @@ pub fn run_backed<M: Machine>(
     machine: M,
     steps: &[Step<M::Cmd>],
 ) -> Result<Ran<M::Cmd, PbOut<M::Out>, Step<M::Cmd>>, RunFault>
-    requires { length steps.now ≤ 1000000 }
+    requires { length steps.now ≤ MAX_STEPS }
     ensures allowed { OnOk result (first_refused Net.Bag (primary_backup (M.meaning machine)) no_recovery steps.now ≡ None) }
     ensures trace { IfOk result (λ ran. ran.trace ≡ trace (primary_backup (M.meaning machine)) no_recovery steps.now) }
     ensures image { IfOk result (λ ran. ran.image ≡ alone (below_pb ran.trace)) }
@@ -45,7 +46,7 @@ pub fn run_backed_dup<M: Machine>(
     machine: M,
     steps: &[Step<M::Cmd>],
 ) -> Result<Ran<M::Cmd, PbOut<M::Out>, Step<M::Cmd>>, RunFault>
-    requires { length steps.now ≤ 1000000 }
+    requires { length steps.now ≤ MAX_STEPS }
     ensures allowed { OnOk result (first_refused Net.Dup (sequence_numbered (primary_backup (M.meaning machine))) no_recovery steps.now ≡ None) }
     ensures trace { IfOk result (λ ran. ran.trace ≡ trace (sequence_numbered (primary_backup (M.meaning machine))) no_recovery steps.now) }
     ensures image { IfOk result (λ ran. ran.image ≡ alone (below_pb ran.trace)) }

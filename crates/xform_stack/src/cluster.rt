@@ -1,9 +1,8 @@
 ghost use Rattle.std.specs.Prelude.{◌≡◌, [], IfOk, length};
 ghost use Rattle.applied_order.specs.Orders.{IsSoundCluster};
-ghost use Rattle.net_semantics.specs.ShownFail.{ShowsFail};
 ghost use Rattle.net_semantics.specs.Worlds.{copies, ends};
 ghost use Rattle.raft_types.specs.Ranges.{IsClusterSize};
-ghost use Rattle.xform_stack.specs.Clusters.{HasFollowedCluster, cluster_of};
+ghost use Rattle.xform_stack.specs.Clusters.{ForShownCluster, HasFollowedCluster, cluster_of};
 
 use crate::refusing::fault_at;
 use crate::{Ran, RunFault, Runs};
@@ -58,14 +57,14 @@ impl<M: Machine> RunningCluster<M> {
 
     /// How many copies of packet `k` are in flight, none of one that was never sent.
     pub fn copies(&self, k: u32) -> u32
-        ensures { (w : _) → ShowsFail self.now.world.handlers.nodes self.now.world w → result ≡ copies w k }
+        ensures { ForShownCluster self.now (λ w. result ≡ copies w k) }
     {
         self.world.copies(k)
     }
 
     /// The source and the destination of packet `k`, and `None` exactly where it was never sent.
     pub fn ends(&self, k: u32) -> Option<(Node, Node)>
-        ensures { (w : _) → ShowsFail self.now.world.handlers.nodes self.now.world w → result ≡ ends w k }
+        ensures { ForShownCluster self.now (λ w. result ≡ ends w k) }
     {
         self.world.ends(k)
     }
@@ -73,14 +72,14 @@ impl<M: Machine> RunningCluster<M> {
     /// How many packets were sent.
     pub fn sent(&self) -> u32
         requires sound { IsSoundCluster (M.meaning self.now.world.handlers.machine) self.now.world.handlers.nodes self.now.world }
-        ensures { (w : _) → ShowsFail self.now.world.handlers.nodes self.now.world w → result ≡ length w.packets }
+        ensures { ForShownCluster self.now (λ w. result ≡ length w.packets) }
     {
         self.world.sent()
     }
 
     /// Whether node `n` is up.
     pub fn is_up(&self, n: Node) -> bool
-        ensures { (w : _) → ShowsFail self.now.world.handlers.nodes self.now.world w → result ≡ w.is_up n }
+        ensures { ForShownCluster self.now (λ w. result ≡ w.is_up n) }
     {
         self.world.is_up(n)
     }

@@ -6,6 +6,7 @@ ghost use Rattle.raft_safety.specs.Runs.{seen};
 ghost use Rattle.raft_types.specs.Ranges.{IsClusterSize};
 ghost use Rattle.raft_xform.specs.Raft.{raft, raft_recovery};
 ghost use Rattle.xform_stack.specs.Running.{IsRunRefusal};
+ghost use Rattle.vst_base.specs.declared.step.TheConstants.{MAX_STEPS};
 
 use crate::run::run_on;
 use crate::{Ran, RunFault, RunningCluster};
@@ -24,7 +25,7 @@ pub fn run_fail<M: Machine>(
     steps: &[Step<RaftInput<M::Cmd>>],
 ) -> Result<Ran<RaftInput<M::Cmd>, RaftOut<M::Out>, RaftInput<M::Cmd>>, RunFault>
     requires size { IsClusterSize nodes }
-    requires few { length steps.now ≤ 1000000 }
+    requires few { length steps.now ≤ MAX_STEPS }
     ensures allowed { OnOk result (IsAllowed Net.Fail (raft nodes (M.meaning machine)) (raft_recovery (M.meaning machine)) steps.now) }
     ensures trace { IfOk result (λ ran. ran.trace ≡ seen (M.meaning machine) nodes steps.now) }
     ensures image { IfOk result (λ ran. ran.image ≡ executed_by (M.meaning machine) nodes steps.now) }

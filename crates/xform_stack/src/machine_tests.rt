@@ -1,43 +1,9 @@
-ghost use Rattle.std.specs.Prelude.{max};
-
 use super::*;
 use net_semantics::Trace;
 use raft_types::{RaftInput, RaftOut};
-use std::alloc::{AllocError, Global};
+use std::alloc::Global;
 use std::test::Fail;
-use vst_base::{ClientId, Item, Machine, Node, PbOut, ReqId, Step};
-
-// A machine that keeps the greatest command, and answers with the greatest before.
-#[derive(Drop)]
-struct Greatest;
-
-impl Machine for Greatest {
-    type State = u8;
-
-    type Cmd = u8;
-
-    type Out = u8;
-
-    ghost meaning = { λ _. record { init = 0; apply = λ s c. (max s c, s) } };
-
-    fn init(&self, _alloc: Global) -> Result<u8, AllocError> {
-        Ok(0)
-    }
-
-    fn apply(&self, _alloc: Global, state: &mut u8, cmd: &u8) -> Result<u8, AllocError> {
-        let before = *state;
-        *state = before.max(*cmd);
-        Ok(before)
-    }
-
-    fn copy_cmd(&self, _alloc: Global, cmd: &u8) -> Result<u8, AllocError> {
-        Ok(*cmd)
-    }
-
-    fn copy_out(&self, _alloc: Global, out: &u8) -> Result<u8, AllocError> {
-        Ok(*out)
-    }
-}
+use vst_base::{ClientId, Counter, Item, Node, PbOut, ReqId, Step};
 
 // Two commands at the primary, of which the first is answered, and one at the backup.
 fn is_seen(trace: &Trace<u8, PbOut<u8>>) -> bool {
@@ -67,7 +33,7 @@ fn is_answered(trace: &Trace<u8, u8>) -> bool {
 
 #[test]
 fn a_machine_alone_answers_at_once(rt: HostRuntime) -> Result<(), Fail> {
-    let ran = run_one(rt.alloc(), Greatest, &[Step::In(0, 5), Step::In(0, 7)])?;
+    let ran = run_one(rt.alloc(), Counter, &[Step::In(0, 5), Step::In(0, 7)])?;
     assert!(rt; is_answered(&ran.trace));
     assert!(rt; ran.image.lines().len() == 2);
     Ok(())
@@ -88,7 +54,7 @@ fn the_image_has_the_commands_that_were_answered(rt: HostRuntime) -> Result<(), 
         Step::Deliver(1),
         Step::In(0, 7),
     ];
-    let ran = run_backed(rt.alloc(), Greatest, &steps)?;
+    let ran = run_backed(rt.alloc(), Counter, &steps)?;
     assert!(rt; is_seen(&ran.trace));
     assert!(rt; is_the_first(ran.image.lines()));
     Ok(())
@@ -107,7 +73,7 @@ fn copies_of_numbered_packets_change_nothing_below(rt: HostRuntime) -> Result<()
         Step::Deliver(1),
         Step::In(0, 7),
     ];
-    let ran = run_backed_dup(rt.alloc(), Greatest, &steps)?;
+    let ran = run_backed_dup(rt.alloc(), Counter, &steps)?;
     assert!(rt; is_seen(&ran.trace));
     assert!(rt; is_the_first(ran.image.lines()));
     Ok(())
@@ -131,7 +97,7 @@ fn replies(request: u64, output: u8) -> RaftOut<u8> {
     }
 }
 
-// Number 2 was answered twice alike, and number 1 behind it not at all.
+// Number 2 was answered twice alike, and number 1 after it not at all.
 fn is_told_once(trace: &Trace<RaftInput<u8>, RaftOut<u8>>) -> bool {
     let node = Node::new(0, 1).unwrap();
     let seen = [
@@ -160,8 +126,25 @@ fn the_order_has_what_was_executed(rt: HostRuntime) -> Result<(), Fail> {
         Step::Crash(0),
         Step::Reboot(0),
     ];
-    let ran = run_fail(rt.alloc(), Greatest, 1, &steps)?;
+    let ran = run_fail(rt.alloc(), Counter, 1, &steps)?;
     assert!(rt; is_told_once(&ran.trace));
     assert!(rt; is_the_order(ran.image.lines()));
+    Ok(())
+}
+
+// Node 0 of three stood for election. Its second packet is lost, the first is there twice, and node 1 is down.
+#[test]
+fn what_a_failing_network_holds_is_counted(rt: HostRuntime) -> Result<(), Fail> {
+    let mut running = RunningCluster::new(rt.alloc(), Counter, 3)?;
+    let node = Node::new(1, 3).ok_or("a node")?;
+    assert!(rt; running.sent() == 0 && running.is_up(node) && running.ends(0).is_none());
+    running.step(&Step::Tick(0))?;
+    running.step(&Step::Dup(0))?;
+    running.step(&Step::Lose(1))?;
+    running.step(&Step::Crash(1))?;
+    let ends = running.ends(1).map(|(from, to)| (from.index(), to.index()));
+    assert!(rt; running.sent() == 2 && ends == Some((0, 2)));
+    assert!(rt; running.copies(0) == 2 && running.copies(1) == 0 && running.copies(2) == 0);
+    assert!(rt; !running.is_up(node));
     Ok(())
 }

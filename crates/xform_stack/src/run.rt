@@ -3,6 +3,7 @@ ghost use Rattle.net_semantics.specs.Once.{once};
 ghost use Rattle.net_semantics.specs.Runs.{IsAllowed, first_refused, trace, no_recovery};
 ghost use Rattle.seqnum_xform.specs.Numbering.{sequence_numbered};
 ghost use Rattle.xform_stack.specs.Running.{HasRun, IsRunRefusal};
+ghost use Rattle.vst_base.specs.declared.step.TheConstants.{MAX_STEPS};
 
 use crate::{Ran, RunFault, Running, Runs};
 use handler_trait::Handlers;
@@ -18,7 +19,7 @@ pub(crate) fn run_on<R: Runs>(
 ) -> Result<Ran<R::Input, R::Output, R::Line>, RunFault>
     requires started { HasRun (R.system running) R.follows R.progress [] [] running }
     requires sound { R.sound running }
-    requires few { length steps.now ≤ 1000000 }
+    requires few { length steps.now ≤ MAX_STEPS }
     ensures allowed { OnOk result (first_refused (R.system running).net (R.system running).meaning (R.system running).recovery steps.now ≡ None) }
     ensures trace { IfOk result (λ ran. ran.trace ≡ trace (R.system running).meaning (R.system running).recovery steps.now) }
     ensures image { IfOk result (λ ran. ran.image ≡ (R.system running).image steps.now) }
@@ -30,8 +31,8 @@ pub(crate) fn run_on<R: Runs>(
     Ok(running.finish())
 }
 
-/// Runs a schedule of handlers on a network that stops no node: the trace, and its image by a map. The first step that the
-/// network refuses is answered with its place, the number of steps before it.
+/// Runs a schedule of handlers on a network that stops no node: the trace, and its image by a map. Where a network has inputs
+/// alone there is one node. The first step that the network refuses is answered with its place, the number of steps before it.
 pub fn run_mapped<H: Handlers, T: TraceMap<H>>(
     alloc: Global,
     handlers: H,
@@ -39,7 +40,8 @@ pub fn run_mapped<H: Handlers, T: TraceMap<H>>(
     steps: &[Step<H::Input>],
 ) -> Result<Ran<H::Input, H::Output, Step<H::Input>>, RunFault>
     requires net { net ≢ Net.Fail }
-    requires few { length steps.now ≤ 1000000 }
+    requires alone { net ≡ Net.One → (H.meaning handlers).nodes ≡ 1 }
+    requires few { length steps.now ≤ MAX_STEPS }
     ensures allowed { OnOk result (first_refused net (H.meaning handlers) no_recovery steps.now ≡ None) }
     ensures trace { IfOk result (λ ran. ran.trace ≡ trace (H.meaning handlers) no_recovery steps.now) }
     ensures image { IfOk result (λ ran. ran.image ≡ T.image_of (H.meaning handlers) steps.now) }
@@ -58,7 +60,7 @@ pub fn run_bag<H: Handlers>(
     handlers: H,
     steps: &[Step<H::Input>],
 ) -> Result<Ran<H::Input, H::Output, Step<H::Input>>, RunFault>
-    requires { length steps.now ≤ 1000000 }
+    requires { length steps.now ≤ MAX_STEPS }
     ensures allowed { OnOk result (first_refused Net.Bag (H.meaning handlers) no_recovery steps.now ≡ None) }
     ensures trace { IfOk result (λ ran. ran.trace ≡ trace (H.meaning handlers) no_recovery steps.now) }
     ensures image { IfOk result (λ ran. ran.image ≡ steps.now) }
@@ -75,7 +77,7 @@ pub fn run_dup<H: Handlers>(
     handlers: H,
     steps: &[Step<H::Input>],
 ) -> Result<Ran<H::Input, H::Output, Step<H::Input>>, RunFault>
-    requires { length steps.now ≤ 1000000 }
+    requires { length steps.now ≤ MAX_STEPS }
     ensures allowed { OnOk result (first_refused Net.Dup (sequence_numbered (H.meaning handlers)) no_recovery steps.now ≡ None) }
     ensures trace { IfOk result (λ ran. ran.trace ≡ trace (sequence_numbered (H.meaning handlers)) no_recovery steps.now) }
     ensures image { IfOk result (λ ran. ran.image ≡ once steps.now) }

@@ -2,7 +2,7 @@ ghost use Rattle.std.specs.Prelude.{◌≡◌, ◌≢◌, ℕ, ◌≤◌, drop, 
 ghost use Rattle.handler_trait.specs.Handling.{Meaning};
 ghost use Rattle.net_semantics.specs.Steps.{items_of};
 ghost use Rattle.net_semantics.specs.Runs.{run, no_recovery};
-ghost use Rattle.net_semantics.specs.Shown.{IsSoundBy, ShowsBy};
+ghost use Rattle.net_semantics.specs.Shown.{ForShown, IsSoundBy};
 ghost use Rattle.net_semantics.specs.Worlds.{copies, ends};
 ghost use Rattle.vst_base.specs.declared.step.Step.{Step};
 ghost use Rattle.xform_stack.specs.Running.{HasFollowed, system_of};
@@ -33,7 +33,7 @@ impl<H: Handlers, T: TraceMap<H>> Model for Running<H, T> {
     ghost view = { λ r. record { world = r.world; map = r.map } };
 }
 
-// Follows a step that was taken, of which clients saw what stands behind the first `before` items.
+// Follows a step that was taken, of which clients saw what stands after the first `before` items.
 fn follow<H: Handlers, T: TraceMap<H>>(
     alloc: Global,
     handlers: &H,
@@ -51,9 +51,10 @@ fn follow<H: Handlers, T: TraceMap<H>>(
 }
 
 impl<H: Handlers, T: TraceMap<H>> Running<H, T> {
-    /// No step yet of these handlers, on a network that stops no node.
+    /// No step yet of these handlers, on a network that stops no node. Where a network has inputs alone there is one node.
     pub fn new(alloc: Global, handlers: H, net: Net) -> Result<Self, AllocError>
-        requires { net ≢ Net.Fail }
+        requires net { net ≢ Net.Fail }
+        requires alone { net ≡ Net.One → (H.meaning handlers).nodes ≡ 1 }
         ensures handlers { IfOk result (λ running. running.world.handlers ≡ handlers) }
         ensures net { IfOk result (λ running. running.world.net ≡ net) }
         ensures started { IfOk result (λ running. HasFollowed (H.meaning handlers) T.has_followed running []) }
@@ -71,14 +72,14 @@ impl<H: Handlers, T: TraceMap<H>> Running<H, T> {
 
     /// How many copies of packet `k` are in flight, none of one that was never sent.
     pub fn copies(&self, k: u32) -> u32
-        ensures { (w : _) → ShowsBy H.Handlers self.now.world w → result ≡ copies w k }
+        ensures { ForShown H.Handlers self.now.world (λ w. result ≡ copies w k) }
     {
         self.world.copies(k)
     }
 
     /// The source and the destination of packet `k`, and `None` exactly where it was never sent.
     pub fn ends(&self, k: u32) -> Option<(Node, Node)>
-        ensures { (w : _) → ShowsBy H.Handlers self.now.world w → result ≡ ends w k }
+        ensures { ForShown H.Handlers self.now.world (λ w. result ≡ ends w k) }
     {
         self.world.ends(k)
     }
@@ -86,14 +87,14 @@ impl<H: Handlers, T: TraceMap<H>> Running<H, T> {
     /// How many packets were sent.
     pub fn sent(&self) -> u32
         requires sound { IsSoundBy H.Handlers self.now.world }
-        ensures { (w : _) → ShowsBy H.Handlers self.now.world w → result ≡ length w.packets }
+        ensures { ForShown H.Handlers self.now.world (λ w. result ≡ length w.packets) }
     {
         self.world.sent()
     }
 
     /// Whether node `n` is up.
     pub fn is_up(&self, n: Node) -> bool
-        ensures { (w : _) → ShowsBy H.Handlers self.now.world w → result ≡ w.is_up n }
+        ensures { ForShown H.Handlers self.now.world (λ w. result ≡ w.is_up n) }
     {
         self.world.is_up(n)
     }

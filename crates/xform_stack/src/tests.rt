@@ -79,3 +79,27 @@ fn a_refused_step_is_named_with_its_place(rt: HostRuntime) {
     let on_bag = run_bag(rt.alloc(), LockServer::new(2), &steps).err();
     assert!(rt; on_bag == Some(RunFault::Step(StepRefusal::NotThisNet, 1)));
 }
+
+// What the world of a running schedule says of a packet: how many copies are in flight, and its ends.
+fn says_of<T: TraceMap<LockServer>>(
+    running: &Running<LockServer, T>,
+    k: u32,
+) -> (u32, Option<(u8, u8)>) {
+    let ends = running.ends(k).map(|(from, to)| (from.index(), to.index()));
+    (running.copies(k), ends)
+}
+
+#[test]
+fn the_packets_in_flight_are_counted(rt: HostRuntime) -> Result<(), Fail> {
+    let server = LockServer::new(2);
+    let mut running = Running::<LockServer, Itself<LockInput>>::new(rt.alloc(), server, Net::Dup)?;
+    assert!(rt; says_of(&running, 0) == (0, None) && running.sent() == 0);
+    running.step(&Step::In(1, LockInput::Lock))?;
+    running.step(&Step::Dup(0))?;
+    assert!(rt; says_of(&running, 0) == (2, Some((1, 0))) && running.sent() == 1);
+    running.step(&Step::Deliver(0))?;
+    assert!(rt; says_of(&running, 0) == (1, Some((1, 0))) && running.sent() == 2);
+    assert!(rt; says_of(&running, 1) == (1, Some((0, 1))));
+    assert!(rt; running.is_up(Node::new(1, 2).ok_or("a node")?));
+    Ok(())
+}

@@ -14,7 +14,7 @@ catch_up-requires g c =
     let number : c.unwrap-node.result ≡ c.loop-n.n = rw (c.unwrap-node.ensures) at c.new.ensures.number in
     let below : c.unwrap-node.result < c.args.world.now.handlers.nodes = omega arith in
     let any = Vote (record { term = 0; granted = false }) in
-    let sound = state_is_sound _ _ _ _ c.args.world.now c.requires any c.unwrap-node.result c.state.result.now below c.state.ensures in
+    let sound = state_is_sound _ c.args.world.now c.requires any c.unwrap-node.result c.state.result.now below c.state.ensures in
     omega (arith, sound.applied, sound.committed)
 
 pub loop-n-preserved : goal.loop-n-preserved

@@ -19,7 +19,7 @@ use Rattle.claim_verdicts.specs.Schedules.{ScheduleClaim}
 use Rattle.claim_verdicts.specs.declared.verdict.Verdict.{Verdict}
 use Rattle.claim_verdicts.specs.declared.verdict.Verdict.TheVariants.{No, Yes}
 use Rattle.stacks.specs.Kinds.{IsWhatClientsSee, nodes_of}
-use Rattle.trace_check.specs.Checks.{checked}
+use Rattle.stacks.specs.Checks.{checked}
 use Rattle.vst_base.specs.declared.lock.LockInput.{LockInput}
 use Rattle.vst_base.specs.declared.lock.LockInput.TheVariants as ask
 use Rattle.vst_base.specs.declared.lock.LockOutput.{LockOutput}

@@ -18,7 +18,6 @@ use Rattle.vst_base.specs.declared.lock.LockInput.{LockInput}
 use Rattle.vst_base.specs.declared.lock.LockInput.TheVariants as ask
 use Rattle.vst_base.specs.declared.lock.LockOutput.{LockOutput}
 use Rattle.vst_base.specs.declared.lock.LockOutput.TheVariants as told
-use Rattle.vst_base.specs.declared.net.Net.TheVariants as net
 use Rattle.vst_base.specs.declared.stack.StackId.TheVariants as stack
 use Rattle.vst_base.specs.declared.step.Item.TheVariants as item
 use Rattle.vst_base.specs.declared.step.Step.TheVariants as step
@@ -73,7 +72,7 @@ copied_script = record {
 }
 
 abbrev copied_stack : Play LockInput LockOutput (Step LockInput)
-copied_stack = (numbered stack.Lock lock_server lock_texts net.Dup 2).stack.play
+copied_stack = (numbered stack.Lock lock_server lock_texts 2).stack.play
 
 copied-allowed : copied_stack.refused (steps_of copied_script) ≡ None
 copied-allowed = refl

@@ -5,6 +5,8 @@ use Rattle.vst_base.specs.declared.step.Item.{Item}
 use Rattle.xform_stack.specs.Running.{HasRun, Progress, System}
 use Rattle.stacks.specs.Stack.{texts_of}
 use Rattle.schedule_replay.specs.Playing.{TookStep}
+use Rattle.schedule_replay.specs.Tallying.{IsOfSteps}
+use Rattle.schedule_replay.proofs.Counting.{has-room, little, of-more}
 use Rattle.schedule_replay.proofs.Plays.{played-start, played-written, played-more, played-halts, played-front, playing-front}
 use Rattle.schedule_replay.proofs.play.play.Given as given
 use Rattle.schedule_replay.proofs.play.play.Goals as goal
@@ -30,6 +32,7 @@ loop-halt-init g c =
       counted = omega (arith, c.requires.started.counted);
       empty = c.requires.started.traced;
       played = played-start sys r.follows r.progress t v c.args.tally.now c.args.reader.now (g.S.Source.left c.args.source.now) (g.K.Sink.written c.args.sink.now) c.requires.started c.requires.tally;
+      few = rw c.requires.tally (record { inputs = omega arith; outputs = omega arith; replies = omega arith });
       stays = λ is. is;
       reads = refl;
       writes = refl;
@@ -63,6 +66,11 @@ returns-in-Some-clause-halted g c =
     (g.S.Source.left c.args.source.now) (g.S.Source.left c.loop-halt.source) (g.S.Source.left c.take_step.new.source) (g.K.Sink.written c.args.sink.now) (g.K.Sink.written c.loop-halt.sink)
     inv.played c.in-Some.halt (ap (λ (x : g.row.R.Denot). (r.progress x).trace) same ∙ inv.empty)
     (rw c.in-Some.is at took (map (λ q. q.1) inv.played.steps) inv.played.gone inv.played.ran)
+
+pub write_trace-requires : goal.write_trace-requires
+write_trace-requires g c =
+    let none = c.in_ok-halt.was ∙ ap Ok c.in_default.is in
+    has-room _ _ _ c.loop-halt.tally c.loop-halt.invariant.few (c.take_step.ensures.taken none) (c.take_step.ensures.few none) (little _ _ c.loop-halt.invariant.empty (c.take_step.ensures.grows none))
 
 pub returns-in_err-write_trace-clause-front : goal.returns-in_err-write_trace-clause-front
 returns-in_err-write_trace-clause-front g c =
@@ -117,6 +125,8 @@ loop-halt-preserved g c =
       played = played-written sys r.follows r.progress t w u c.loop-halt.tally c.write_trace.new.tally c.args.reader.now c.take_step.new.reader
           (g.S.Source.left c.args.source.now) (g.S.Source.left c.take_step.new.source) out mid (g.K.Sink.written c.write_trace.new.sink)
           played wrote.ok wrote.forgets wrote.follows wrote.tally;
+      few = subst (λ n. IsOfSteps n c.write_trace.new.tally) (sym (ap (λ (x : ProgressOf g). x.taken) wrote.forgets))
+          (of-more a.replies _ _ (r.progress w).trace c.loop-halt.tally c.write_trace.new.tally inv.few (c.take_step.ensures.taken none) (little _ _ inv.empty (c.take_step.ensures.grows none)) wrote.tally);
       stays = λ is. c.take_step.ensures.stays (inv.stays is);
       reads = c.take_step.ensures.quiet (λ e. let both = sym none ∙ e in cc) ∙ inv.reads;
       writes = wrote.quiet.0 ∙ inv.writes;

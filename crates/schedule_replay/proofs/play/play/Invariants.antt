@@ -1,5 +1,6 @@
 use Rattle.std.proofs.Common.{◌≡◌, ◌-◌, ◌≤◌, [], true}
 use Rattle.stacks.specs.Stack.{texts_of}
+use Rattle.schedule_replay.specs.Tallying.{IsOfSteps}
 use Rattle.schedule_replay.proofs.Plays.{Played}
 use Rattle.schedule_replay.proofs.play.play.Given as goal
 
@@ -15,6 +16,7 @@ invariant-loop-halt g l =
       counted : (r.progress l.running).taken ≤ l.reader.events;
       empty : (r.progress l.running).trace ≡ [];
       played : Played (r.system l.fn.running) r.follows r.progress (texts_of a.input_of a.input_text a.output_of a.output_text a.replies) l.running l.tally l.fn.reader l.reader (g.S.Source.left l.fn.source) (g.S.Source.left l.source) (g.K.Sink.written l.fn.sink) (g.K.Sink.written l.sink);
+      few : IsOfSteps (r.progress l.running).taken l.tally;
       stays : l.fn.reader.ended ≡ true → l.reader.ended ≡ true;
       reads : g.S.Source.faults l.source ≡ g.S.Source.faults l.fn.source;
       writes : g.K.Sink.faults l.sink ≡ g.K.Sink.faults l.fn.sink;

@@ -1,5 +1,4 @@
 use Rattle.std.proofs.Common.{◌≡◌, ℕ, List, Option, subst, arith}
-use Rattle.std.proofs.lemmas.Result.{err_from_is_err_and}
 use Rattle.vst_base.specs.declared.step.Step.{Step}
 use Rattle.schedule_text.specs.declared.header.Header.{Header}
 use Rattle.xform_stack.specs.Running.{System}
@@ -17,29 +16,8 @@ image g below says = image_of below g.L.Printed.text says
 abbrev SystemOf : given.Over → Type 0
 SystemOf g = System g.row.R-State.Denot g.row.R-Kept.Denot g.row.R-Input.Denot g.row.R-Output.Denot g.row.R-Msg.Denot g.row.L.Denot
 
-pub returns-in_err-halt-clause-told : goal.returns-in_err-halt-clause-told
-returns-in_err-halt-clause-told g c = λ says rest has.
-    let r = g.R.Runs in
-    let a = g.A.AppText in
-    let t = texts_of a.input_of a.input_text a.output_of a.output_text a.replies in
-    let sys = r.system c.args.running in
-    let i = image g c.args.below says in
-    let old = c.args.reader.now in
-    let p = err_from_is_err_and c.from_residual.result c.from_residual.ensures.1 in
-    let y = c.in_err-halt.field-0.0 in
-    let st = play_of sys t i in
-    let out = g.K.Sink.written c.args.sink.now in
-    let out' = g.K.Sink.written c.play.new.sink in
-    rw (p.1, p.2) (rest-fails (stack_whole st old) (stack_so_far st old) old.number rest (g.S.Source.left c.play.new.source) out out' _ _ y c.in_err-halt.ensures.fault (c.in_err-halt.ensures.front i rest has))
-
-pub returns-in_err-halt-clause-fault : goal.returns-in_err-halt-clause-fault
-returns-in_err-halt-clause-fault g c =
-    let p = err_from_is_err_and c.from_residual.result c.from_residual.ensures.1 in
-    let f = g.K.Sink.faults c.args.sink.now in
-    rw (p.1, p.2) (fails-cause c.args.reader.now.ended _ _ f f _ c.in_err-halt.field-0.0 (omega arith) c.in_err-halt.ensures.fault)
-
-pub returns-in-Read-clause-told : goal.returns-in-Read-clause-told
-returns-in-Read-clause-told g c = λ says rest has.
+pub returns-in-Ok-Read-clause-told : goal.returns-in-Ok-Read-clause-told
+returns-in-Ok-Read-clause-told g c = λ says rest has.
     let r = g.R.Runs in
     let a = g.A.AppText in
     let t = texts_of a.input_of a.input_text a.output_of a.output_text a.replies in
@@ -50,11 +28,11 @@ returns-in-Read-clause-told g c = λ says rest has.
     let mid = g.K.Sink.written c.play.new.sink in
     let left = g.S.Source.left c.args.source.now in
     let left' = g.S.Source.left c.play.new.source in
-    let halted = c.in_ok-halt.ensures.halted i in
-    rest-read sys r.follows r.progress t i c.play.new.running c.play.new.tally old c.play.new.reader left left' out mid rest has (rw c.in-Read.is at halted)
+    let halted = c.in-Ok-Read.ensures.halted i in
+    rest-read sys r.follows r.progress t i c.play.new.running c.play.new.tally old c.play.new.reader left left' out mid rest has (rw c.in-Ok-Read.field-0-is at halted)
 
-pub returns-in-Refused-clause-told : goal.returns-in-Refused-clause-told
-returns-in-Refused-clause-told g c = λ says rest has.
+pub returns-in-Ok-Refused-clause-told : goal.returns-in-Ok-Refused-clause-told
+returns-in-Ok-Refused-clause-told g c = λ says rest has.
     let r = g.R.Runs in
     let a = g.A.AppText in
     let t = texts_of a.input_of a.input_text a.output_of a.output_text a.replies in
@@ -65,36 +43,8 @@ returns-in-Refused-clause-told g c = λ says rest has.
     let mid = g.K.Sink.written c.play.new.sink in
     let left = g.S.Source.left c.args.source.now in
     let left' = g.S.Source.left c.play.new.source in
-    let halted = c.in_ok-halt.ensures.halted i in
-    rest-refused sys r.follows r.progress t i c.play.new.running c.play.new.tally old c.play.new.reader left left' out mid rest has c.in-Refused.line c.in-Refused.why (rw c.in-Refused.is at halted)
-
-pub returns-in_err-done-in-End-clause-told : goal.returns-in_err-done-in-End-clause-told
-returns-in_err-done-in-End-clause-told g c = λ says rest has.
-    let r = g.R.Runs in
-    let a = g.A.AppText in
-    let t = texts_of a.input_of a.input_text a.output_of a.output_text a.replies in
-    let sys = r.system c.args.running in
-    let i = image g c.args.below says in
-    let old = c.args.reader.now in
-    let p = err_from_is_err_and c.from_residual-in_err-done-in-End.result c.from_residual-in_err-done-in-End.ensures.1 in
-    let y = c.in_err-done-in-End.field-0.0 in
-    let st = play_of sys t i in
-    let out = g.K.Sink.written c.args.sink.now in
-    let mid = g.K.Sink.written c.play.new.sink in
-    let left = g.S.Source.left c.args.source.now in
-    let left' = g.S.Source.left c.play.new.source in
-    let halted = c.in_ok-halt.ensures.halted i in
-    let out' = g.K.Sink.written c.finish.new.sink in
-    let shows = subst (λ (x : SystemOf g). (ss : List (Step g.row.R-Input.Denot)) → r.follows c.play.new.running ss → c.image.result.now ≡ x.image ss) c.in_ok-halt.ensures.system c.image.ensures in
-    let more = c.in_err-done-in-End.ensures.err in
-    rw (p.1, p.2) (rest-fails (stack_whole st old) (stack_so_far st old) old.number rest left' out out' _ _ y c.in_err-done-in-End.ensures.fault
-    (rest-finishing sys r.follows r.progress t i c.play.new.running c.play.new.tally old c.play.new.reader left left' out mid rest has c.image.result.now shows out' (rw c.in-End.is at halted) more))
-
-pub returns-in_err-done-in-End-clause-fault : goal.returns-in_err-done-in-End-clause-fault
-returns-in_err-done-in-End-clause-fault g c =
-    let p = err_from_is_err_and c.from_residual-in_err-done-in-End.result c.from_residual-in_err-done-in-End.ensures.1 in
-    rw (p.1, p.2) (fails-cause c.args.reader.now.ended _ _ (g.K.Sink.faults c.args.sink.now) (g.K.Sink.faults c.play.new.sink) _ c.in_err-done-in-End.field-0.0
-    c.play.ensures.writes c.in_err-done-in-End.ensures.fault)
+    let halted = c.in-Ok-Refused.ensures.halted i in
+    rest-refused sys r.follows r.progress t i c.play.new.running c.play.new.tally old c.play.new.reader left left' out mid rest has c.in-Ok-Refused.line c.in-Ok-Refused.why (rw c.in-Ok-Refused.field-0-is at halted)
 
 pub returns-clause-told : goal.returns-clause-told
 returns-clause-told g c = λ says rest has.
@@ -104,10 +54,31 @@ returns-clause-told g c = λ says rest has.
     let sys = r.system c.args.running in
     let i = image g c.args.below says in
     let old = c.args.reader.now in
+    let y = c.in-Err-finish.fault in
+    let st = play_of sys t i in
     let out = g.K.Sink.written c.args.sink.now in
     let mid = g.K.Sink.written c.play.new.sink in
     let left = g.S.Source.left c.args.source.now in
     let left' = g.S.Source.left c.play.new.source in
-    let halted = c.in_ok-halt.ensures.halted i in
-    let shows = subst (λ (x : SystemOf g). (ss : List (Step g.row.R-Input.Denot)) → r.follows c.play.new.running ss → c.image.result.now ≡ x.image ss) c.in_ok-halt.ensures.system c.image.ensures in
-    rest-done sys r.follows r.progress t i c.play.new.running c.play.new.tally old c.play.new.reader left left' out mid rest has c.image.result.now shows (g.K.Sink.written c.finish.new.sink) c.in_ok-done-in-End.done c.taken-events.result (rw c.in-End.is at halted) c.in_ok-done-in-End.ensures.ok c.in_ok-done-in-End.ensures.done c.taken-events.ensures
+    let halted = c.in-Ok-End.ensures.halted i in
+    let out' = g.K.Sink.written c.finish.new.sink in
+    let shows = subst (λ (x : SystemOf g). (ss : List (Step g.row.R-Input.Denot)) → r.follows c.play.new.running ss → c.image.result.now ≡ x.image ss) c.in-Ok-End.ensures.system c.image.ensures in
+    let more = c.in-Err-finish.ensures.err in
+    rw c.replay_fault-in-Err-finish.ensures (rest-fails (stack_whole st old) (stack_so_far st old) old.number rest left' out out' _ _ y c.in-Err-finish.ensures.fault
+    (rest-finishing sys r.follows r.progress t i c.play.new.running c.play.new.tally old c.play.new.reader left left' out mid rest has c.image.result.now shows out' (rw c.in-Ok-End.field-0-is at halted) more))
+
+pub returns-in-Ok-clause-told : goal.returns-in-Ok-clause-told
+returns-in-Ok-clause-told g c = λ says rest has.
+    let r = g.R.Runs in
+    let a = g.A.AppText in
+    let t = texts_of a.input_of a.input_text a.output_of a.output_text a.replies in
+    let sys = r.system c.args.running in
+    let i = image g c.args.below says in
+    let old = c.args.reader.now in
+    let out = g.K.Sink.written c.args.sink.now in
+    let mid = g.K.Sink.written c.play.new.sink in
+    let left = g.S.Source.left c.args.source.now in
+    let left' = g.S.Source.left c.play.new.source in
+    let halted = c.in-Ok-End.ensures.halted i in
+    let shows = subst (λ (x : SystemOf g). (ss : List (Step g.row.R-Input.Denot)) → r.follows c.play.new.running ss → c.image.result.now ≡ x.image ss) c.in-Ok-End.ensures.system c.image.ensures in
+    rest-done sys r.follows r.progress t i c.play.new.running c.play.new.tally old c.play.new.reader left left' out mid rest has c.image.result.now shows (g.K.Sink.written c.finish.new.sink) c.in-Ok.done c.taken-events.result (rw c.in-Ok-End.field-0-is at halted) c.in-Ok.ensures.ok c.in-Ok.ensures.done c.taken-events.ensures

@@ -1,4 +1,5 @@
 use Rattle.std.specs.Prelude.{refl}
+use Rattle.net_semantics.specs.RunLaws.{outputs_in-machine_trace_from}
 use Rattle.net_semantics.specs.Runs.{no_recovery}
 use Rattle.net_semantics.specs.Worlds.{first_world}
 use Rattle.single_node.specs.SingleNode.{single_node}
@@ -7,6 +8,9 @@ use Rattle.single_node.proofs.laws.is_the_machine.Goals as goal
 
 pub returns-clause-trace : goal.returns-clause-trace
 returns-clause-trace g c = λ m ss allowed. from-any-state m no_recovery (first_world (single_node m)) ss allowed
+
+pub returns-clause-outputs : goal.returns-clause-outputs
+returns-clause-outputs g c = λ m cs. outputs_in-machine_trace_from m m.init cs
 
 pub returns-clause-allowed : goal.returns-clause-allowed
 returns-clause-allowed g c = λ m cs. any-commands m no_recovery (first_world (single_node m)) cs refl

@@ -1,8 +1,11 @@
-use Rattle.std.proofs.Common.{ap, ◌∙◌}
-use Rattle.kv_machine.specs.Kv.{kv}
-use Rattle.net_semantics.specs.Runs.{machine_trace}
-use Rattle.trace_maps.specs.Replying.{alone}
+use Rattle.vst_base.specs.Stacks.{row_of}
+use Rattle.stacks.specs.Explained.{TakesImages}
+use Rattle.stacks.specs.Fits.{IsFit}
+use Rattle.stacks.specs.Table.{kind_at}
+use Rattle.stacks.proofs.Explaining.{takes-images}
+use Rattle.stacks.proofs.Fitting.{fits}
+use Rattle.stacks.proofs.Found.{weaker-found}
 use Rattle.stacks.proofs.laws.machine_takes_images.Goals as goal
 
-pub returns-clause-trace : goal.returns-clause-trace
-returns-clause-trace c = λ cs. c.is_the_machine.ensures.trace kv (alone cs) (c.is_the_machine.ensures.allowed kv cs) ∙ ap (machine_trace kv) (c.is_the_machine.ensures.all_of_them cs)
+pub returns : goal.returns
+returns c = λ i. weaker-found (kind_at (row_of i).net i) (IsFit (row_of i)) TakesImages (λ k fit. takes-images k) (fits i)

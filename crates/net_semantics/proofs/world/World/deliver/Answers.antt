@@ -1,7 +1,8 @@
 use Rattle.std.proofs.Common.{◌≡◌, ◌+◌, ◌<◌, Some, ap, subst}
 use Rattle.std.specs.Prelude.{slice_get}
+use Rattle.handler_trait.specs.Facts.{promises_of}
 use Rattle.net_semantics.specs.Shown.{IsSoundPacket}
-use Rattle.net_semantics.specs.Kept.{kept_copies}
+use Rattle.net_semantics.specs.Held.{held_copies}
 use Rattle.net_semantics.specs.Taking.{Happens}
 use Rattle.net_semantics.proofs.Eventful.{if_some_given}
 use Rattle.net_semantics.proofs.Taken.{takes_deliver, some_there}
@@ -15,10 +16,10 @@ returns-clause-takes g c =
     let trace : c.self.inside.trace ≡ c.args.self.now.trace = ap (λ v. v.trace) c.self.view_is in
     let node : c.packet.inside.destination ≡ c.at-packet.result.now.destination = ap (λ q. q.destination) c.packet.view_is in
     let sent : slice_get c.args.self.now.packets c.args.k ≡ Some c.at-packet.result.now = rw packets at c.at-packet.ensures in
-    let copy : 0 < c.at-packet.result.now.copies = subst (λ o. 0 < kept_copies o) sent c.requires.copy in
+    let copy : 0 < c.at-packet.result.now.copies = subst (λ o. 0 < held_copies o) sent c.requires.copy in
     let sound : IsSoundPacket (g.H.Handlers.meaning c.args.self.now.handlers).nodes c.args.self.now.taken c.at-packet.result.now = if_some_given (IsSoundPacket (g.H.Handlers.meaning c.args.self.now.handlers).nodes c.args.self.now.taken) (slice_get c.args.self.now.packets c.args.k) c.at-packet.result.now sent (c.requires.sound.packets c.args.k) in
     let content = some_there c.at-packet.result.now.content (sound.content copy) in
-    takes_deliver (g.H.Handlers.meaning c.args.self.now.handlers) (g.H.Handlers.sound c.args.self.now.handlers) (g.H.Handlers.spent c.args.self.now.handlers) c.args.self.now _ c.args.k c.at-packet.result.now content.0 c.message_event.new.effects sent copy content.1
+    takes_deliver (promises_of g.H.Handlers c.args.self.now.handlers) c.args.self.now _ c.args.k c.at-packet.result.now content.0 c.message_event.new.effects sent copy content.1
     (record {
       was = c.requires.sound;
       few = c.requires.steps;
@@ -26,7 +27,7 @@ returns-clause-takes g c =
       happens = rw (handlers, states) at (if_some_given (λ x. Happens (λ s. (g.H.Handlers.meaning c.self.inside.handlers).message c.at-packet.result.now.destination s c.at-packet.result.now.source x) c.at-packet.result.now.destination c.self.inside.states.items c.message_event.new.states.items c.message_event.new.effects) c.at-packet.result.now.content content.0 content.1 c.in_ok-message_event.ensures.happens);
       kept = rw handlers at c.in_ok-message_event.ensures.sound;
       modest = λ s ok. g.met.H.Handlers.modest_message c.args.self.now.handlers c.at-packet.result.now.destination s c.at-packet.result.now.source content.0 sound.destination sound.source ok;
-      packets = rw (node, c.take_copy.ensures, packets) at c.in_ok-publish.ensures.packets;
-      trace = rw (node, trace) at c.in_ok-publish.ensures.trace;
+      packets = rw (node, c.take_copy.ensures, c.replace-effects.ensures.value, packets) at c.in_ok-emptied.ensures.packets;
+      trace = rw (node, c.replace-effects.ensures.value, trace) at c.in_ok-emptied.ensures.trace;
       taken = ap (λ v. v.taken + 1) c.self.view_is;
     })

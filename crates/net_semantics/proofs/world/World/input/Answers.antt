@@ -1,4 +1,5 @@
 use Rattle.std.proofs.Common.{◌≡◌, ◌+◌, ap, map}
+use Rattle.handler_trait.specs.Facts.{promises_of}
 use Rattle.vst_base.specs.declared.step.Item.TheVariants as item
 use Rattle.net_semantics.proofs.Taken.{takes_in, trace_in}
 use Rattle.net_semantics.proofs.world.World.input.Goals as goal
@@ -9,7 +10,7 @@ returns-clause-takes g c =
     let states : c.self.inside.states.items ≡ c.args.self.now.states = ap (λ v. v.states) c.self.view_is in
     let packets : c.self.inside.packets ≡ c.args.self.now.packets = ap (λ v. v.packets) c.self.view_is in
     let trace : c.self.inside.trace ≡ c.args.self.now.trace = ap (λ v. v.trace) c.self.view_is in
-    takes_in (g.H.Handlers.meaning c.args.self.now.handlers) (g.H.Handlers.sound c.args.self.now.handlers) (g.H.Handlers.spent c.args.self.now.handlers) c.args.self.now _ c.args.node c.args.input.now c.input_event.new.effects
+    takes_in (promises_of g.H.Handlers c.args.self.now.handlers) c.args.self.now _ c.args.node c.args.input.now c.input_event.new.effects
     (record {
       was = c.requires.sound;
       few = c.requires.steps;
@@ -17,7 +18,7 @@ returns-clause-takes g c =
       happens = rw (handlers, states) at c.in_ok-input_event.ensures.happens;
       kept = rw handlers at c.in_ok-input_event.ensures.sound;
       modest = λ s ok. g.met.H.Handlers.modest_input c.args.self.now.handlers c.args.node s c.args.input.now c.requires.node c.requires.takes ok;
-      packets = rw packets at c.in_ok-publish.ensures.packets;
-      trace = trace_in c.args.node c.args.input.now c.in_ok-copy.copy c.args.self.now.trace c.self.inside.trace c.push.new.self c.publish.new.trace (map (λ o. item.Output c.args.node o) c.input_event.new.effects.outputs) c.in_ok-publish.ensures.trace c.in_ok-push.ensures.added c.in_ok-copy.ensures trace;
+      packets = rw (c.replace-effects.ensures.value, packets) at c.in_ok-emptied.ensures.packets;
+      trace = trace_in c.args.node c.args.input.now c.in_ok-copy.copy c.args.self.now.trace c.self.inside.trace c.push.new.self c.publish.new.trace (map (λ o. item.Output c.args.node o) c.input_event.new.effects.outputs) (rw c.replace-effects.ensures.value at c.in_ok-emptied.ensures.trace) c.in_ok-push.ensures.added c.in_ok-copy.ensures trace;
       taken = ap (λ v. v.taken + 1) c.self.view_is;
     })

@@ -1,4 +1,5 @@
 use Rattle.std.proofs.Common.{◌≡◌, ◌+◌, ap}
+use Rattle.handler_trait.specs.Facts.{promises_of}
 use Rattle.net_semantics.proofs.Taken.{takes_tick}
 use Rattle.net_semantics.proofs.world.World.tick.Goals as goal
 
@@ -8,7 +9,7 @@ returns-clause-takes g c =
     let states : c.self.inside.states.items ≡ c.args.self.now.states = ap (λ v. v.states) c.self.view_is in
     let packets : c.self.inside.packets ≡ c.args.self.now.packets = ap (λ v. v.packets) c.self.view_is in
     let trace : c.self.inside.trace ≡ c.args.self.now.trace = ap (λ v. v.trace) c.self.view_is in
-    takes_tick (g.H.Handlers.meaning c.args.self.now.handlers) (g.H.Handlers.sound c.args.self.now.handlers) (g.H.Handlers.spent c.args.self.now.handlers) c.args.self.now _ c.args.node c.timeout_event.new.effects
+    takes_tick (promises_of g.H.Handlers c.args.self.now.handlers) c.args.self.now _ c.args.node c.timeout_event.new.effects
     (record {
       was = c.requires.sound;
       few = c.requires.steps;
@@ -16,7 +17,7 @@ returns-clause-takes g c =
       happens = rw (handlers, states) at c.in_ok-timeout_event.ensures.happens;
       kept = rw handlers at c.in_ok-timeout_event.ensures.sound;
       modest = λ s ok. g.met.H.Handlers.modest_timeout c.args.self.now.handlers c.args.node s c.requires.node ok;
-      packets = rw packets at c.in_ok-publish.ensures.packets;
-      trace = rw trace at c.in_ok-publish.ensures.trace;
+      packets = rw (c.replace-effects.ensures.value, packets) at c.in_ok-emptied.ensures.packets;
+      trace = rw (c.replace-effects.ensures.value, trace) at c.in_ok-emptied.ensures.trace;
       taken = ap (λ v. v.taken + 1) c.self.view_is;
     })

@@ -9,7 +9,7 @@ pub returns : goal.returns
 returns g c =
     let a = g.C.Text.AppText in
     let says = g.C.Lines.ImageText.says in
-    let p = (g.C.StackCode.stack c.args.stack).play in
+    let p = (g.C.StackCode.stack c.args.nodes).play in
     let r = c.args.reader.now in
     let t = texts_of a.input_of a.input_text a.output_of a.output_text a.replies in
     let i = image_of c.below-below.result g.C.Line.Printed.text says in

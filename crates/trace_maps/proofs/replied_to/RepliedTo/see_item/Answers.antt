@@ -12,12 +12,11 @@ pub returns-else-index-eq0 : goal.returns-else-index-eq0
 returns-else-index-eq0 g c = λ items had. rw c.in-Input.is
     (sees-input_elsewhere _ _ items had c.in-Input.node c.in-Input.input (λ e. c.if-index-eq0.false (c.index.ensures ∙ e)) refl)
 
-pub returns-in_ok-self-inside-in-Output-default-Reply :
-    goal.returns-in_ok-self-inside-in-Output-default-Reply
-returns-in_ok-self-inside-in-Output-default-Reply g c = λ items had. rw c.in-Output-default-Reply.is
+pub returns-then-index-eq0-2 : goal.returns-then-index-eq0-2
+returns-then-index-eq0-2 g c = λ items had. rw c.in-Output-default-Reply.is
     (sees-reply _ _ items (rw (← c.self.view_is) at had) c.in-Output-default-Reply.node c.in-Output-default-Reply.field-1 c.in-Output-default-Reply.field-1-0 (rw c.in-Output-default-Reply.is at c.in-Output-default-Reply.field-1-is)
     (sym c.index-in-Output-default-Reply.ensures ∙ c.if-index-eq0-2.true) refl
-    c.in_ok-self-inside-in-Output-default-Reply.ensures)
+    c.saturating_add-self-inside.ensures)
 
 pub returns-else-index-eq0-2 : goal.returns-else-index-eq0-2
 returns-else-index-eq0-2 g c = λ items had. rw c.in-Output-default-Reply.is

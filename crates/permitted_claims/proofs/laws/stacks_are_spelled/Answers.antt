@@ -1,0 +1,18 @@
+-- Each stack of the table is spelled, since these handlers and machines are: the last line stands for each stack but the first, and
+-- is checked for each.
+use Rattle.vst_base.specs.Stacks.{row_of}
+use Rattle.vst_base.specs.declared.stack.StackId.{StackId}
+use Rattle.vst_base.specs.declared.stack.StackId.TheVariants as stack
+use Rattle.stacks.specs.Stack.{IfFound}
+use Rattle.stacks.specs.Table.{kind_at}
+use Rattle.permitted_claims.specs.Spelled.{IsSpelledKind}
+use Rattle.permitted_claims.proofs.Locks.{locks-spelled}
+use Rattle.permitted_claims.proofs.Store.{store-spelled}
+use Rattle.permitted_claims.proofs.laws.stacks_are_spelled.Goals as goal
+
+spelled : (i : StackId) → IfFound (kind_at (row_of i).net i) IsSpelledKind
+spelled stack.Lock = locks-spelled
+spelled _ = search (locks-spelled, store-spelled)
+
+pub returns : goal.returns
+returns c = spelled
