@@ -1,7 +1,8 @@
 -- The table of named locks, as functions on finite maps.
 use Rattle.std.specs.Prelude.{ℕ, Bool, true, false, List, Option, None, Some, is_some, if◌then◌else◌}
 use Rattle.std.specs.FinMap.{empty, get, insert, remove}
-use Rattle.key_map.specs.ByKey.{ByKey, holds}
+use Rattle.key_map.specs.ByKey.{ByKey}
+pub use Rattle.key_map.specs.ByKey.{holds}
 use Rattle.vst_base.specs.Machines.{MachineMeaning}
 use Rattle.lock_table.specs.declared.cmd.TableCmd.{TableCmd}
 use Rattle.lock_table.specs.declared.cmd.TableCmd.TheVariants.{Acquire, Release, Holder}

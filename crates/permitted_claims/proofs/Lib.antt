@@ -9,6 +9,7 @@ pub mod Maps
 pub mod Words
 pub mod Locks
 pub mod Store
+pub mod LockTable
 pub mod PbRuns
 pub mod ReadClaims
 pub mod ImageSteps

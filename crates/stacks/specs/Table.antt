@@ -9,10 +9,14 @@ use Rattle.vst_base.specs.declared.stack.StackId.{StackId}
 use Rattle.vst_base.specs.declared.stack.StackId.TheVariants as stack
 use Rattle.app_text.specs.KvTexts as kv_text
 use Rattle.app_text.specs.LockTexts as lock_text
+use Rattle.app_text.specs.TableTexts as table_text
 use Rattle.kv_machine.specs.Kv.{kv}
 use Rattle.kv_machine.specs.declared.cmd.KvCmd.{KvCmd}
 use Rattle.kv_machine.specs.declared.out.KvOut.{KvOut}
 use Rattle.lock_server.specs.Locks.{lock_server}
+use Rattle.lock_table.specs.Table.{table}
+use Rattle.lock_table.specs.declared.cmd.TableCmd.{TableCmd}
+use Rattle.lock_table.specs.declared.out.TableOut.{TableOut}
 use Rattle.stacks.specs.Kinds.{Application, Kind, OwnHandlers, Plain, Numbered, Alone, Backed, BackedNumbered, Clustered, application, of_kind, own_handlers}
 use Rattle.stacks.specs.Stack.{Entry, Found, Here, Nowhere, Texts, found_map, texts_of}
 
@@ -22,12 +26,18 @@ lock_texts = texts_of lock_text.input_of lock_text.input_text lock_text.output_o
 abbrev pub kv_texts : Texts KvCmd KvOut
 kv_texts = texts_of kv_text.input_of kv_text.input_text kv_text.output_of kv_text.output_text (λ _. true)
 
--- the lock server, and the key-value machine
+abbrev pub table_texts : Texts TableCmd TableOut
+table_texts = texts_of table_text.input_of table_text.input_text table_text.output_of table_text.output_text (λ _. true)
+
+-- the lock server, the key-value machine and the table of named locks
 abbrev pub locks : OwnHandlers
 locks = own_handlers stack.Lock lock_server lock_texts
 
 abbrev pub store : Application
 store = application stack.Kv kv kv_texts
+
+abbrev pub lock_table : Application
+lock_table = application stack.Table table table_texts
 
 -- the kind of stack that a network and a name are, if there is one: one line a stack
 abbrev pub kind_at : Net → StackId → Found Kind
@@ -37,6 +47,9 @@ kind_at net.One stack.Kv = Here (Alone store)
 kind_at net.Bag stack.KvPb = Here (Backed store)
 kind_at net.Dup stack.KvPbSeq = Here (BackedNumbered store)
 kind_at net.Fail stack.KvRaft = Here (Clustered store)
+kind_at net.One stack.Table = Here (Alone lock_table)
+kind_at net.Dup stack.TablePbSeq = Here (BackedNumbered lock_table)
+kind_at net.Fail stack.TableRaft = Here (Clustered lock_table)
 kind_at n i = Nowhere
 
 -- that stack, with its row

@@ -7,9 +7,10 @@ ghost use Rattle.vst_base.specs.declared.stack.StackId.TheVariants as id;
 use crate::{
     Alone, Application, Backed, BackedNumbered, Clustered, Numbered, OnStack, OwnStack, Plain,
 };
-use app_text::{KvText, LockText};
+use app_text::{KvText, LockText, TableText};
 use kv_machine::KvMachine;
 use lock_server::LockServer;
+use lock_table::TableMachine;
 use schedule_text::{Header, headers_follow_the_rows};
 use vst_base::StackId;
 
@@ -45,6 +46,22 @@ impl Application for KvMachine {
     }
 }
 
+impl Application for TableMachine {
+    type Text = TableText;
+
+    ghost own = { id.Table };
+
+    ghost machine = { record {} };
+
+    fn own() -> StackId {
+        StackId::Table
+    }
+
+    fn machine() -> TableMachine {
+        TableMachine
+    }
+}
+
 /// Does a command on the code of a header's stack, with what is lent to it: the only match on stacks.
 pub fn on_stack<A, B, C, V: OnStack<A, B, C>>(
     header: &Header,
@@ -66,6 +83,9 @@ pub fn on_stack<A, B, C, V: OnStack<A, B, C>>(
         StackId::KvPb => command.on::<Backed<KvMachine>>(nodes, a, b, c),
         StackId::KvPbSeq => command.on::<BackedNumbered<KvMachine>>(nodes, a, b, c),
         StackId::KvRaft => command.on::<Clustered<KvMachine>>(nodes, a, b, c),
+        StackId::TablePbSeq => command.on::<BackedNumbered<TableMachine>>(nodes, a, b, c),
+        StackId::TableRaft => command.on::<Clustered<TableMachine>>(nodes, a, b, c),
         StackId::Kv => command.on::<Alone<KvMachine>>(nodes, a, b, c),
+        StackId::Table => command.on::<Alone<TableMachine>>(nodes, a, b, c),
     }
 }

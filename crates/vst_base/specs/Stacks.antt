@@ -13,7 +13,10 @@ stack_word stack.LockSeq = codes "lock/seq"
 stack_word stack.KvPb = codes "kv/pb"
 stack_word stack.KvPbSeq = codes "kv/pb/seq"
 stack_word stack.KvRaft = codes "kv/raft"
+stack_word stack.TablePbSeq = codes "table/pb/seq"
+stack_word stack.TableRaft = codes "table/raft"
 stack_word stack.Kv = codes "kv"
+stack_word stack.Table = codes "table"
 
 abbrev pub row_of : StackId → StackRow
 row_of stack.Lock = record { stack = stack.Lock; net = net.Bag; least = 2; most = 9 }
@@ -21,10 +24,13 @@ row_of stack.LockSeq = record { stack = stack.LockSeq; net = net.Dup; least = 2;
 row_of stack.KvPb = record { stack = stack.KvPb; net = net.Bag; least = 2; most = 2 }
 row_of stack.KvPbSeq = record { stack = stack.KvPbSeq; net = net.Dup; least = 2; most = 2 }
 row_of stack.KvRaft = record { stack = stack.KvRaft; net = net.Fail; least = 1; most = MAX_NODES }
+row_of stack.TablePbSeq = record { stack = stack.TablePbSeq; net = net.Dup; least = 2; most = 2 }
+row_of stack.TableRaft = record { stack = stack.TableRaft; net = net.Fail; least = 1; most = MAX_NODES }
 row_of stack.Kv = record { stack = stack.Kv; net = net.One; least = 1; most = 1 }
+row_of stack.Table = record { stack = stack.Table; net = net.One; least = 1; most = 1 }
 
 abbrev pub stacks : List StackId
-stacks = stack.Lock ∷ stack.LockSeq ∷ stack.KvPb ∷ stack.KvPbSeq ∷ stack.KvRaft ∷ stack.Kv ∷ []
+stacks = stack.Lock ∷ stack.LockSeq ∷ stack.KvPb ∷ stack.KvPbSeq ∷ stack.KvRaft ∷ stack.TablePbSeq ∷ stack.TableRaft ∷ stack.Kv ∷ stack.Table ∷ []
 
 abbrev pub rows : List StackRow
 rows = map row_of stacks

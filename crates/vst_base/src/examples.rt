@@ -28,12 +28,15 @@ pub fn worked()
 
 /// Stacks: their words, their networks and their numbers of nodes.
 pub fn worked_stacks()
-    ensures as_many { length rows ≡ 6 }
+    ensures as_many { length rows ≡ 9 }
     ensures word { stack_word StackId.KvPbSeq ≡ codes "kv/pb/seq" }
-    ensures own_row { map (λ r. r.stack) rows ≡ StackId.Lock ∷ StackId.LockSeq ∷ StackId.KvPb ∷ StackId.KvPbSeq ∷ StackId.KvRaft ∷ StackId.Kv ∷ [] }
+    ensures own_row { map (λ r. r.stack) rows ≡ StackId.Lock ∷ StackId.LockSeq ∷ StackId.KvPb ∷ StackId.KvPbSeq ∷ StackId.KvRaft ∷ StackId.TablePbSeq ∷ StackId.TableRaft ∷ StackId.Kv ∷ StackId.Table ∷ [] }
     ensures lock_nodes { row_of StackId.Lock ≡ record { stack = StackId.Lock; net = Net.Bag; least = 2; most = 9 } }
     ensures backup_nodes { row_of StackId.KvPbSeq ≡ record { stack = StackId.KvPbSeq; net = Net.Dup; least = 2; most = 2 } }
     ensures cluster_nodes { row_of StackId.KvRaft ≡ record { stack = StackId.KvRaft; net = Net.Fail; least = 1; most = 9 } }
+    ensures table_cluster { row_of StackId.TableRaft ≡ record { stack = StackId.TableRaft; net = Net.Fail; least = 1; most = 9 } }
+    ensures table_backup { row_of StackId.TablePbSeq ≡ record { stack = StackId.TablePbSeq; net = Net.Dup; least = 2; most = 2 } }
+    ensures table_alone { (stack_word StackId.Table ≡ codes "table") × (row_of StackId.Table ≡ record { stack = StackId.Table; net = Net.One; least = 1; most = 1 }) }
 {}
 
 /// Which bytes are tokens, at the borders of their number and of each byte.

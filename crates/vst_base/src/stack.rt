@@ -16,8 +16,14 @@ pub enum StackId {
     KvPbSeq,
     /// The key-value store under Raft.
     KvRaft,
+    /// The table of named locks under primary-backup and sequence numbering.
+    TablePbSeq,
+    /// The table of named locks under Raft.
+    TableRaft,
     /// The key-value store alone.
     Kv,
+    /// The table of named locks alone.
+    Table,
 }
 
 /// A stack on its network, with the least and the greatest number of nodes that it runs on.
@@ -66,6 +72,20 @@ const KV_RAFT: StackRow = StackRow {
     most: MAX_NODES,
 };
 
+const TABLE_PB_SEQ: StackRow = StackRow {
+    stack: StackId::TablePbSeq,
+    net: Net::Dup,
+    least: 2,
+    most: 2,
+};
+
+const TABLE_RAFT: StackRow = StackRow {
+    stack: StackId::TableRaft,
+    net: Net::Fail,
+    least: 1,
+    most: MAX_NODES,
+};
+
 const KV: StackRow = StackRow {
     stack: StackId::Kv,
     net: Net::One,
@@ -73,7 +93,24 @@ const KV: StackRow = StackRow {
     most: 1,
 };
 
-const ROWS: &[StackRow] = &[LOCK, LOCK_SEQ, KV_PB, KV_PB_SEQ, KV_RAFT, KV];
+const TABLE: StackRow = StackRow {
+    stack: StackId::Table,
+    net: Net::One,
+    least: 1,
+    most: 1,
+};
+
+const ROWS: &[StackRow] = &[
+    LOCK,
+    LOCK_SEQ,
+    KV_PB,
+    KV_PB_SEQ,
+    KV_RAFT,
+    TABLE_PB_SEQ,
+    TABLE_RAFT,
+    KV,
+    TABLE,
+];
 
 impl StackRow {
     /// The stacks that there are.
@@ -114,7 +151,10 @@ impl StackId {
             StackId::KvPb => "kv/pb",
             StackId::KvPbSeq => "kv/pb/seq",
             StackId::KvRaft => "kv/raft",
+            StackId::TablePbSeq => "table/pb/seq",
+            StackId::TableRaft => "table/raft",
             StackId::Kv => "kv",
+            StackId::Table => "table",
         }
     }
 
@@ -128,7 +168,10 @@ impl StackId {
             StackId::KvPb => KV_PB,
             StackId::KvPbSeq => KV_PB_SEQ,
             StackId::KvRaft => KV_RAFT,
+            StackId::TablePbSeq => TABLE_PB_SEQ,
+            StackId::TableRaft => TABLE_RAFT,
             StackId::Kv => KV,
+            StackId::Table => TABLE,
         }
     }
 }

@@ -7,12 +7,13 @@ use Rattle.stacks.specs.Stack.{IfFound}
 use Rattle.stacks.specs.Table.{kind_at}
 use Rattle.permitted_claims.specs.Spelled.{IsSpelledKind}
 use Rattle.permitted_claims.proofs.Locks.{locks-spelled}
+use Rattle.permitted_claims.proofs.LockTable.{table-spelled}
 use Rattle.permitted_claims.proofs.Store.{store-spelled}
 use Rattle.permitted_claims.proofs.laws.stacks_are_spelled.Goals as goal
 
 spelled : (i : StackId) → IfFound (kind_at (row_of i).net i) IsSpelledKind
 spelled stack.Lock = locks-spelled
-spelled _ = search (locks-spelled, store-spelled)
+spelled _ = search (locks-spelled, store-spelled, table-spelled)
 
 pub returns : goal.returns
 returns c = spelled
