@@ -1,4 +1,4 @@
--- The last word of a text may be read whole: what stands behind a space in it is no word's.
+-- The last word of a text may be read whole: what stands after a space in it is no word's.
 use Rattle.std.proofs.Common.{◌≡◌, ℕ, Bool, true, false, ◌&&◌, List, [], ◌∷◌, Option, None, Some, refl, sym, ap, ◌∙◌, if◌then◌else◌}
 use Rattle.std.specs.Option.{option_and_then, option_map}
 use Rattle.std.proofs.lemmas.Bool.{and_right, false_from_ne_true, both_ways}

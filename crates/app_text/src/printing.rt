@@ -34,7 +34,7 @@ fn push_word(out: &mut Vec<u8>, word: &Word<'_>) -> Result<(), AllocError>
     }
 }
 
-// Adds each word behind a space.
+// Adds each word after a space.
 fn push_args(out: &mut Vec<u8>, args: &[Word<'_>]) -> Result<(), AllocError>
     ensures ok { OnOk result (out.new.items ≡ out.old.items ++ flat_map (λ w. 32 ∷ word_text w) args.now) }
     ensures err { OnErr result (StandsBefore out.old.items out.new.items) }

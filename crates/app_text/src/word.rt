@@ -1,4 +1,4 @@
-/// A word that is printed: bytes, or bytes behind the mark `=`.
+/// A word that is printed: bytes, or bytes after the mark `=`.
 #[derive(Clone, Copy)]
 pub enum Word<'a> {
     Plain(&'a [u8]),

@@ -10,7 +10,7 @@ fn first_space(text: &[u8]) -> Option<usize>
     text.iter().position(|b| *b == SPACE)
 }
 
-/// The first word of a text, and what stands behind its space. `None` comes exactly where the whole
+/// The first word of a text, and what stands after its space. `None` comes exactly where the whole
 /// text is one word.
 pub fn cut_word(text: &[u8]) -> Option<(&[u8], &[u8])>
     ensures { MatchOption result (words_of text.now ≡ text.now ∷ []) (λ cut. words_of text.now ≡ cut.0.now ∷ words_of cut.1.now) }

@@ -26,7 +26,7 @@ module _ {I O X : Type 0} where
   items-more t x (RefusedAt n w) = refl
   items-more t x (EndedAt n) = refl
 
-  -- an image without a header behind a trace
+  -- an image without a header after a trace
   image-follows : (d : Draft I O X) (h : Option Header) (image : List X) → h ≡ None → image ≡ [] → (r : Reading (List X))
       → read_map (behind_items d.trace) (read_map (only_image None) r) ≡ read_map (λ xs. record { trace = d.trace; header = h; image = image ++ xs }) r
   image-follows d h image none empty (Whole xs) =

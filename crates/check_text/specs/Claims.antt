@@ -14,7 +14,7 @@ lines_in None = 0
 lines_in (Some h) = 1
 
 -- no line of a claim is skipped, so the number of a line is known by its place, from 0: that of an item of the trace, that
--- of `below`, and that of a line of the image behind its header, or of the line after the last where the place is behind them
+-- of `below`, and that of a line of the image after its header, or of the line after the last where the place is after them
 abbrev pub item_line : ℕ → ℕ
 item_line place = place + 1
 

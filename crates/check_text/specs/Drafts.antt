@@ -36,7 +36,7 @@ pub record IsStaged {I O X : Type 0} (d : Draft I O X) : Type 0 where
   pub header : d.stage ≡ stage.Trace → d.header ≡ None
 
 module _ {I O X : Type 0} where
-  -- a claim behind further items of a trace
+  -- a claim after further items of a trace
   abbrev pub behind_items : List (Item I O) → Claim I O X → Claim I O X
   behind_items items c = record { trace = items ++ c.trace; header = c.header; image = c.image }
 
@@ -60,7 +60,7 @@ module _ {I O X : Type 0} where
   TakesLine form d d' line (Some w) =
       (number : ℕ) (ls : List (List ℕ)) → first_of (line_refusals most_lines number line) ≡ None → comes_to form d number (line ∷ ls) ≡ RefusedAt number w
 
-  -- a draft behind which no line follows is a claim, or ends too early
+  -- a draft after which no line follows is a claim, or ends too early
   abbrev pub Finishes : Form I O X → Draft I O X → Option (Claim I O X) → Type 0
   Finishes form d None = (number : ℕ) → comes_to form d number [] ≡ EndedAt number
   Finishes form d (Some c) = (number : ℕ) → comes_to form d number [] ≡ Whole c

@@ -32,13 +32,13 @@ module _ {X : Type 0} where
   onto (line.Says x) number rest = read_map (λ xs. x ∷ xs) rest
   onto (line.Refused w) number rest = RefusedAt number w
 
-  -- the lines of an image from this number on, behind so many of them
+  -- the lines of an image from this number on, after so many of them
   abbrev pub image_from : (List ℕ → ImageLine X) → ℕ → ℕ → List (List ℕ) → Reading (List X)
   image_from says number count [] = Whole []
   image_from says number count (l ∷ ls) = onto (line_of_image says number count l) number (image_from says (number + 1) (count + 1) ls)
 
 module _ {I O X : Type 0} (form : Form I O X) where
-  -- an image behind a header that was found, or not, on this line
+  -- an image after a header that was found, or not, on this line
   abbrev pub headed : Option Header → ℕ → Reading (List X) → Reading (Claim I O X)
   headed None number rest = RefusedAt number why.Header
   headed (Some h) number rest = read_map (only_image (Some h)) rest
@@ -53,19 +53,19 @@ module _ {I O X : Type 0} (form : Form I O X) where
   with_header below number (l ∷ ls) =
       headed_unless (first_of (line_refusals most_lines number l)) number (headed (image_header below l) number (image_from form.says (number + 1) 0 ls))
 
-  -- the lines behind `below`
+  -- the lines after `below`
   abbrev pub behind_below : Option StackId → ℕ → List (List ℕ) → Reading (Claim I O X)
   behind_below None number ls = read_map (only_image None) (image_from form.says number 0 ls)
   behind_below (Some s) number ls = with_header (Some s) number ls
 
-  -- a line of the trace at this number, behind so many inputs, with what the lines behind it are by the inputs before
+  -- a line of the trace at this number, after so many inputs, with what the lines after it are by the inputs before
   -- them, and what they are if it is `below`
   abbrev pub claim_line : TraceLine I O → ℕ → ℕ → (ℕ → Reading (Claim I O X)) → Reading (Claim I O X) → Reading (Claim I O X)
   claim_line Below number inputs rest image = image
   claim_line (IsItem x) number inputs rest image = read_map (with_item x) (rest (count_item inputs x))
   claim_line (Refused w) number inputs rest image = RefusedAt number w
 
-  -- the lines of a claim from this number on, behind so many inputs
+  -- the lines of a claim from this number on, after so many inputs
   abbrev pub claim_from : ℕ → ℕ → List (List ℕ) → Reading (Claim I O X)
   claim_from number inputs [] = EndedAt number
   claim_from number inputs (l ∷ ls) =

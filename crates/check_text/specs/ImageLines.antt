@@ -68,7 +68,7 @@ module _ {X : Type 0} where
   image_unless (Some w) l = Refused w
   image_unless None l = l
 
-  -- what a line of an image is behind so many others, where a line says this
+  -- what a line of an image is after so many others, where a line says this
   abbrev pub counted_line : (List ℕ → ImageLine X) → ℕ → List ℕ → ImageLine X
   counted_line says count line = image_unless (first_of ((why.TooManyEvents, nat_le MAX_STEPS count) ∷ [])) (says line)
 

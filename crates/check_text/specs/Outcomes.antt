@@ -10,7 +10,7 @@ use Rattle.check_text.specs.Claims.{Claim}
 use Rattle.check_text.specs.Forms.{Form, claim_of}
 use Rattle.check_text.specs.Reading.{Whole, refusal_of, refusal_so_far}
 
--- the text was read to its end and is this claim; or this line is the first that is refused; or a read failed behind a part
+-- the text was read to its end and is this claim; or this line is the first that is refused; or a read failed after a part
 -- of the text, of which no whole line is refused
 abbrev pub ReadsClaim : {I O X : Type 0} → Form I O X → Option (List ℕ) → List ℕ → Result (Claim I O X) LineFault → Type 0
 ReadsClaim form left' bytes (Ok c) = (left' ≡ Some []) × (claim_of form (lines_of bytes) ≡ Whole c)

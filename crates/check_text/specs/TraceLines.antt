@@ -86,7 +86,7 @@ module _ {I O : Type 0} (input_of : List ℕ → Option I) (output_of : List ℕ
       if is_text line (codes "below") then Below
       else item_or_refusal (first_of (item_refusals nodes line)) (item_of line)
 
-  -- and behind so many inputs
+  -- and after so many inputs
   abbrev pub counted_says : ℕ → ℕ → List ℕ → TraceLine I O
   counted_says nodes inputs line =
       trace_unless (first_of ((why.TooManyEvents, begins_as_input line && nat_le MAX_STEPS inputs) ∷ [])) (trace_says nodes line)

@@ -34,7 +34,7 @@ impl<A: AppText> ImageText for Steps<A> {
     }
 }
 
-// What stands behind the word `order`.
+// What stands after the word `order`.
 fn behind_order(line: &[u8]) -> Option<&[u8]>
     ensures { one result ≡ behind_order line.now }
 {
@@ -91,7 +91,7 @@ pub(crate) fn image_header(below: Option<StackId>, line: &[u8]) -> Option<Header
     }
 }
 
-/// What a line of an image is behind so many others.
+/// What a line of an image is after so many others.
 pub(crate) fn counted_line<G: ImageText>(
     alloc: Global,
     count: usize,

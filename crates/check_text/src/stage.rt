@@ -5,6 +5,6 @@ pub(crate) enum Stage {
     Trace,
     /// The header of the image.
     Header,
-    /// The image behind its header, if it has one.
+    /// The image after its header, if it has one.
     Image,
 }

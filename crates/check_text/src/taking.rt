@@ -117,7 +117,7 @@ pub(crate) fn take_line<A: AppText, G: ImageText>(
     }
 }
 
-// The claim that a draft is behind which no line follows, unless it ends too early.
+// The claim that a draft is after which no line follows, unless it ends too early.
 fn finish<A: AppText, G: ImageText>(
     draft: Draft<A::Input, A::Output, G::Line>,
 ) -> Option<Claim<A::Input, A::Output, G::Line>>

@@ -41,7 +41,7 @@ fn side_named(word: &[u8]) -> Option<bool>
     }
 }
 
-// The parts behind the word of an input or an output.
+// The parts after the word of an input or an output.
 fn parts_behind(rest: &[u8], is_input: bool) -> Option<ItemParts<'_>>
     ensures { parts_view result ≡ parts_behind rest.now is_input }
 {
@@ -136,7 +136,7 @@ fn trace_says<A: AppText>(
     item_line::<A>(alloc, nodes, line)
 }
 
-// And behind so many inputs.
+// And after so many inputs.
 pub(crate) fn counted_says<A: AppText>(
     alloc: Global,
     nodes: u8,

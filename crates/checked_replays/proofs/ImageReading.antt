@@ -47,7 +47,7 @@ module _ {X : Type 0} (says : List ℕ → ImageLine X) (text : X → List ℕ) 
       ap (λ l. onto l number (image_from says (number + 1) (count + 1) (map text xs))) (line-read number count (text x) x said.0 short.0 (omega (arith, within)) (omega (arith, few)))
       ∙ ap (λ r. read_map (λ ys. x ∷ ys) r) (image-read (number + 1) (count + 1) xs said.1 short.1 (omega (arith, within)) (omega (arith, few)))
 
--- a header that is there, and lines behind it
+-- a header that is there, and lines after it
 module _ {I O X : Type 0} (form : Form I O X) where
   header-none : (o : Option Why) (number : ℕ) (r : Reading (Claim I O X)) → o ≡ None → headed_unless form o number r ≡ r
   header-none o number r e = rw e refl
@@ -70,7 +70,7 @@ lines-of-parts ls below head rest plain plain_below plain_head =
     (ap lines_of (append_assoc below (10 ∷ []) (flat_map as_line head ++ rest))
     ∙ (lines-line below (flat_map as_line head ++ rest) plain_below ∙ ap (λ ms. below ∷ ms) (lines-behind head rest plain_head)))
 
--- the header is read, if there is one, and what stands behind it is the image
+-- the header is read, if there is one, and what stands after it is the image
 abbrev pub IsHeadedBy : {I O X : Type 0} → Form I O X → Option Header → Type 0
 IsHeadedBy {X = X} form head =
     (number : ℕ) (ls : List (List ℕ)) (xs : List X) → Each IsShort (header_lines head) → number + length (header_lines head) ≤ most_lines + 1

@@ -78,7 +78,7 @@ module _ {I O X : Type 0} (form : Form I O X) (input_text : I → List ℕ) (out
       let counts : count_by is_input (item.Output n o ∷ rest) ≡ 0 + count_by is_input rest = sum_by-cons (λ x. cond (is_input x) 1 0) (item.Output n o) rest in
       (tt, omega (arith, few, counts))
 
-  -- the lines of a trace, and what those behind it are
+  -- the lines of a trace, and what those after it are
   pub trace-read : (line_number inputs : ℕ) (items : List (Item I O)) (below : List (List ℕ)) (c : Claim I O X)
       → Each (IsTextItem form.nodes HasIn HasOut) items → Each IsShort (map (item_text input_text output_text) items)
       → line_number + length items ≤ most_lines → inputs + count_by is_input items ≤ 1000000

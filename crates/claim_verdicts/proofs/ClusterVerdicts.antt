@@ -24,7 +24,7 @@ use Rattle.claim_verdicts.proofs.FirstInputs.{length-marks}
 use Rattle.claim_verdicts.proofs.Naming.{same-name}
 use Rattle.claim_verdicts.proofs.WrongPlaces.{wrong-here, wrong-none, wrong-same}
 
--- a place behind so many others, or what comes where there is none
+-- a place after so many others, or what comes where there is none
 abbrev or_behind : ℕ → Option ℕ → Option ℕ → Option ℕ
 or_behind n (Some p) rest = Some (n + p)
 or_behind n None rest = rest

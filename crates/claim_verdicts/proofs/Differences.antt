@@ -17,7 +17,7 @@ longer : (n : ℕ) (ms : List (List ℕ)) → 0 < length ms → first_difference
 longer n [] some = absurd (omega arith)
 longer n (m ∷ ms) some = refl
 
--- where one text goes on behind the other's end
+-- where one text goes on after the other's end
 pub difference-longer : {A : Type 0} (text : A → List ℕ) (left right : List A) (n : ℕ) → length left ≤ n → n ≤ length left → length left < length right
     → first_difference n (map text (drop n left)) (map text (drop n right)) ≡ Some (length left)
 difference-longer text left right n over within more =

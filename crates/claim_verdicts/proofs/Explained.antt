@@ -25,7 +25,7 @@ not-false : (a : Bool) → not a ≡ false → a ≡ true
 not-false true e = refl
 not-false false e = cc
 
--- an element of which those before it and behind it are known
+-- an element of which those before it and after it are known
 at-place : {A : Type 0} (w : List A → A → List A → Bool) (b before : List A) (x : A) (after : List A) → NoneWrong w b (before ++ x ∷ after) → w (b ++ before) x after ≡ false
 at-place w b [] x after none = ap (λ xs. w xs x after) (append-nil b) ∙ none.0
 at-place w b (y ∷ ys) x after none = ap (λ xs. w xs x after) (sym (append_assoc b (y ∷ []) ys)) ∙ at-place w (b ++ y ∷ []) ys x after none.1
@@ -154,7 +154,7 @@ taken-at (suc k) [] j q e = cc
 taken-at (suc k) (x ∷ xs) zero q e = e
 taken-at (suc k) (x ∷ xs) (suc j) q e = taken-at k xs j q e
 
--- an output that is the one at its place, behind its input
+-- an output that is the one at its place, after its input
 right-answer : {O : Type 0} (C : Type 0) (u : O → List ℕ) (F : List O) (asked answered : ℕ) (o : PbOut O) (q : O) → nat_le asked answered ≡ false → slice_get F answered ≡ Some q → o ≡ told.Reply q
     → is_wrong_behind {C = C} u F asked answered (item.Output 0 o) ≡ false
 right-answer C u F asked answered o q more there is = rw (more, there, is, (bytes_eq-Decides (u q) (u q)).1 refl) refl

@@ -36,7 +36,7 @@ module _ {C O : Type 0} where
   answers (item.Input n c) = false
   answers (item.Output n o) = n == 0
 
-  -- behind so many inputs and outputs of the primary, an output there is not the machine's, or not behind the input that it is
+  -- after so many inputs and outputs of the primary, an output there is not the machine's, or not after the input that it is
   -- to answer. The outputs there answer the inputs there in order
   abbrev pub is_wrong_behind : (O → List ℕ) → List O → ℕ → ℕ → Item C (PbOut O) → Bool
   is_wrong_behind output_text outputs asked answered (item.Input n c) = false

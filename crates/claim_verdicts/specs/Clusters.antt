@@ -45,7 +45,7 @@ module _ {C O : Type 0} (command_text : C → List ℕ) where
   abbrev pub is_unrequested : Seen C O → List (RaftInput C) → RaftInput C → List (RaftInput C) → Bool
   is_unrequested seen before r after = is_among before r.client r.request || not (list_any (puts_in r) seen)
 
-  -- before a request was first put in a client was told the output of it, or of one behind it
+  -- before a request was first put in a client was told the output of it, or of one after it
   abbrev pub is_late : Seen C O → List (RaftInput C) → RaftInput C → List (RaftInput C) → Bool
   is_late seen before r after = list_any (answers_one (r ∷ after)) (before_input r seen)
 

@@ -4,12 +4,12 @@ use Rattle.schedule_text.specs.Words.{is_text}
 use Rattle.claim_verdicts.specs.declared.verdict.Verdict.{Verdict}
 use Rattle.claim_verdicts.specs.declared.verdict.Verdict.TheVariants.{Yes, No}
 
--- the first element that is wrong by those before it and those behind it; some already stand before these
+-- the first element that is wrong by those before it and those after it; some already stand before these
 abbrev pub first_wrong : {A : Type 0} → (List A → A → List A → Bool) → List A → List A → Option ℕ
 first_wrong wrong before [] = None
 first_wrong wrong before (x ∷ after) = if wrong before x after then Some (length before) else first_wrong wrong (before ++ x ∷ []) after
 
--- the first line, from this place on, in which two texts differ; where one is longer, its first line behind the other's last
+-- the first line, from this place on, in which two texts differ; where one is longer, its first line after the other's last
 abbrev pub first_difference : ℕ → List (List ℕ) → List (List ℕ) → Option ℕ
 first_difference place [] [] = None
 first_difference place [] (m ∷ ms) = Some place

@@ -66,7 +66,7 @@ fn answers<C, O>(item: &Item<C, PbOut<O>>) -> bool
     }
 }
 
-// Whether an output of the primary is not the one at its place, or not behind the input that it is to answer, where so many
+// Whether an output of the primary is not the one at its place, or not after the input that it is to answer, where so many
 // inputs and outputs there stand before it.
 fn is_wrong_behind<A: AppText>(
     alloc: Global,
@@ -85,7 +85,7 @@ fn is_wrong_behind<A: AppText>(
     }
 }
 
-// The first place of a trace with an output of the primary that is not the one at its place, or not behind the input that it
+// The first place of a trace with an output of the primary that is not the one at its place, or not after the input that it
 // is to answer.
 pub(crate) fn wrong_answer<A: AppText>(
     alloc: Global,

@@ -6,7 +6,7 @@ use app_text::AppText;
 use schedule_text::Printed;
 use std::alloc::{AllocError, Global};
 
-// The first place in which two lists of lines differ. Where one is longer, that of its first line behind the other's last.
+// The first place in which two lists of lines differ. Where one is longer, that of its first line after the other's last.
 pub(crate) fn first_difference<A: AppText, P: Printed<A>>(
     alloc: Global,
     left: &[P],

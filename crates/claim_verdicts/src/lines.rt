@@ -4,7 +4,7 @@ ghost use Rattle.check_text.specs.declared.reading.TheConstants.{MAX_LINES};
 
 use check_text::Claim;
 
-// The number of the line of an item of a trace, or of `below` behind the last.
+// The number of the line of an item of a trace, or of `below` after the last.
 pub(crate) fn item_line(place: usize) -> u32
     requires { place ≤ MAX_LINES }
     ensures { result ≡ item_line place }

@@ -3,7 +3,7 @@
 pub(crate) enum Mark {
     /// Never.
     Unseen,
-    /// Before a client was told the output of it, or of one behind it.
+    /// Before a client was told the output of it, or of one after it.
     InTime,
     /// After that.
     Late,

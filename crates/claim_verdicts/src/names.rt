@@ -54,7 +54,7 @@ impl Names {
         self.names.get_index_of(&name)
     }
 
-    /// Adds a name behind the others, and answers false where it is there already.
+    /// Adds a name after the others, and answers false where it is there already.
     pub fn add(&mut self, client: ClientId, request: ReqId) -> Result<bool, AllocError>
         ensures new { IfOk result (λ new. new ≡ not (list_any (is_name client request) self.old)) }
         ensures added { IfOk result (λ new. self.new ≡ (if new then self.old ++ named client request ∷ [] else self.old)) }

@@ -4,7 +4,7 @@ use Rattle.std.proofs.Common.{zero, suc, ap, ◌∙◌, sym, arith}
 use Rattle.memchr.specs.Find.{Passes, Nowhere, is_byte}
 use Rattle.line_reader.specs.Cuts.{cut_at, onto_cut}
 
--- a cut behind a front
+-- a cut after a front
 abbrev pub behind_front : List ℕ → Option (List ℕ × List ℕ) → Option (List ℕ × List ℕ)
 behind_front front None = None
 behind_front front (Some p) = Some (front ++ p.0, p.1)
@@ -32,7 +32,7 @@ none-parts at b bs e = none-step (b == at) b bs (cut_at at bs) e
 pub none-from : (at b : ℕ) (bs : List ℕ) → (b == at) ≡ false → cut_at at bs ≡ None → cut_at at (b ∷ bs) ≡ None
 none-from at b bs other e = rw (other, e) refl
 
--- behind bytes without it
+-- after bytes without it
 pub cut-behind : (at : ℕ) (xs ys : List ℕ) → cut_at at xs ≡ None → cut_at at (xs ++ ys) ≡ behind_front xs (cut_at at ys)
 cut-behind at [] ys e = sym (behind_nothing (cut_at at ys))
 cut-behind at (x ∷ xs) ys e =

@@ -62,7 +62,7 @@ pub split-append : (given rest : List ℕ) → split_lines (given ++ rest) ≡ j
 split-append [] rest = refl
 split-append (b ∷ bs) rest = joined-step (b == 10) b rest (split_lines bs) (split_lines (bs ++ rest)) refl (split-append bs rest)
 
--- behind whole lines a text goes on
+-- after whole lines a text goes on
 pub whole-append : (xs ys : List ℕ) → (split_lines xs).1 ≡ [] → whole_lines (xs ++ ys) ≡ lines_of xs ++ whole_lines ys
 whole-append xs ys e =
     let s = split_lines xs in
@@ -84,7 +84,7 @@ pub closed-append : (xs ys : List ℕ) → (split_lines xs).1 ≡ [] → (split_
 closed-append xs ys e f =
     last-append xs ys e ∙ f
 
--- what stands behind lines, and behind more of them
+-- what stands after lines, and after more of them
 pub behind_lines-add : (n m : ℕ) (bs : List ℕ) → behind_lines (n + m) bs ≡ behind_lines m (behind_lines n bs)
 behind_lines-add zero m bs = rw zero-add refl
 behind_lines-add (suc n) m bs = rw suc-add (behind_lines-add n m (drop (first_size bs) bs))

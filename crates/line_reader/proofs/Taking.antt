@@ -1,4 +1,4 @@
--- How a line that was taken ends, and what is left behind it.
+-- How a line that was taken ends, and what is left after it.
 use Rattle.std.specs.Prelude.{◌≡◌, ℕ, Bool, true, false, ◌+◌, ◌-◌, ◌<◌, ◌≤◌, nat_lt, List, [], ◌∷◌, ◌++◌, length, take, drop, Option, Some, None, Result, Ok, Err, cond, refl}
 use Rattle.std.proofs.Common.{ap, ◌∙◌, sym, subst, append_assoc, arith, length-append, length-take, take-append-drop}
 use Rattle.std.proofs.lemmas.Bool.Decides.{nat_tests}
@@ -199,7 +199,7 @@ by-read A old r' left' rest begun plain short none =
       whole-plain r'.line plain,
     )
 
--- the first line goes on behind a front without a newline
+-- the first line goes on after a front without a newline
 record FirstLine (front rest : List ℕ) : Type 0 where
   line : List ℕ
   others : List (List ℕ)
@@ -295,7 +295,7 @@ plain-front line ahead part behind whole plain short long =
     let n = 4097 - length line in
     ap (λ xs. cut_at 10 (take n xs)) whole ∙ (ap (cut_at 10) (take-append-le n part (10 ∷ behind) (omega (arith, short, long))) ∙ none-take 10 n part plain)
 
--- what stands behind a newline that was used
+-- what stands after a newline that was used
 pub behind-newline : (ahead part behind left : List ℕ) → ahead ≡ part ++ 10 ∷ behind → left ≡ drop (length part + 1) ahead → ahead ≡ part ++ 10 ∷ left
 behind-newline ahead part behind left whole is =
     let again : ahead ≡ (part ++ 10 ∷ []) ++ behind = whole ∙ sym (append_assoc part (10 ∷ []) behind) in

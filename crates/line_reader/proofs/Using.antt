@@ -24,7 +24,7 @@ no-front : (xs ys : List ℕ) → xs ++ ys ≡ [] → xs ≡ []
 no-front [] ys e = refl
 no-front (x ∷ xs) ys e = cc
 
--- the lines of what was used, and then of what was used behind it
+-- the lines of what was used, and then of what was used after it
 lines-both : (t : Bool) (used used' rest' : List ℕ) → (t ≡ false → (split_lines used).1 ≡ []) → (t ≡ true → used' ++ rest' ≡ []) → lines_of (used ++ used') ≡ lines_of used ++ lines_of used'
 lines-both false used used' rest' closed over = lines-append used used' (closed refl)
 lines-both true used used' rest' closed over =
@@ -60,7 +60,7 @@ uses-more a b c left left' rest used used' u v =
       stays = λ is. v.stays (u.stays is);
     }
 
--- what stands behind lines is no longer than the text
+-- what stands after lines is no longer than the text
 first_size-within : (bs : List ℕ) → first_size bs ≤ length bs
 first_size-within [] = omega arith
 first_size-within (b ∷ bs) = by (b == 10) (first_size-within bs) where
@@ -119,7 +119,7 @@ stands-at-end a b c left left' rest used u number none has is =
       few = nothing-ahead c left' has;
     }
 
--- a read that failed behind whole lines
+-- a read that failed after whole lines
 pub breaks-behind : (a b : ReaderView) (left left' : Option (List ℕ)) (rest used part : List ℕ) (u : Uses a b left rest used) → (split_lines used).1 ≡ []
     → BreaksOff left' u.rest' part → BreaksOff left' rest (used ++ part)
 breaks-behind a b left left' rest used part u closed v = record {

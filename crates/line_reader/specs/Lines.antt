@@ -5,7 +5,7 @@ abbrev pub onto_first : ℕ → List (List ℕ) × List ℕ → List (List ℕ) 
 onto_first b ([], rest) = ([], b ∷ rest)
 onto_first b (l ∷ ls, rest) = ((b ∷ l) ∷ ls, rest)
 
--- the whole lines, without their newlines, and what stands behind the last newline
+-- the whole lines, without their newlines, and what stands after the last newline
 abbrev pub split_lines : List ℕ → List (List ℕ) × List ℕ
 split_lines [] = ([], [])
 split_lines (b ∷ bs) = if b == 10 then ([] ∷ (split_lines bs).0, (split_lines bs).1) else onto_first b (split_lines bs)
@@ -28,7 +28,7 @@ abbrev pub first_size : List ℕ → ℕ
 first_size [] = 0
 first_size (b ∷ bs) = if b == 10 then 1 else 1 + first_size bs
 
--- what stands behind so many lines
+-- what stands after so many lines
 abbrev pub behind_lines : ℕ → List ℕ → List ℕ
 behind_lines zero bs = bs
 behind_lines (suc n) bs = behind_lines n (drop (first_size bs) bs)

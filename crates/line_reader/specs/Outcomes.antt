@@ -39,7 +39,7 @@ pub record StandsAt (old new : ReaderView) (left' : Option (List ℕ)) (rest : L
   pub decides : length used ≡ decided (number - old.number) rest
   pub few : length new.ahead ≤ 4096
 
--- a read failed behind this part of the rest, and what is left of it is with the source. What stands behind the last newline
+-- a read failed after this part of the rest, and what is left of it is with the source. What stands after the last newline
 -- of the part is not too long yet
 pub record BreaksOff (left' : Option (List ℕ)) (rest part : List ℕ) : Type 0 where
   pub rest' : List ℕ

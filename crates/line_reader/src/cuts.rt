@@ -7,7 +7,7 @@ use memchr::memchr;
 /// The byte that ends a line.
 pub const NEWLINE: u8 = b'\n';
 
-/// What stands before the first of these bytes and behind it. `None` comes exactly where there is none.
+/// What stands before the first of these bytes and after it. `None` comes exactly where there is none.
 pub fn cut_at(bytes: &[u8], at: u8) -> Option<(&[u8], &[u8])>
     ensures { both result ≡ cut_at at bytes.now }
 {

@@ -196,7 +196,7 @@ impl Reader {
         }
     }
 
-    /// The refusal of the line behind it.
+    /// The refusal of the line after it.
     pub fn refuse_next(&self, why: Why) -> LineFault
         ensures is { result ≡ LineFault.Refused (self.now.number + 1) why }
         ensures few { length self.now.ahead ≤ 4096 }

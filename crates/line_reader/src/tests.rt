@@ -14,14 +14,14 @@ fn source(
     Ok(MemorySource::new(bytes, most_per_read.max(1), failing))
 }
 
-// Adds a line to a text, with a bar behind it.
+// Adds a line to a text, with a bar after it.
 fn add_line(lines: &mut Vec<u8>, line: &[u8]) -> Result<(), AllocError> {
     lines.extend_from_slice(line)?;
     lines.push(b'|')?;
     Ok(())
 }
 
-// Adds the lines of a source to a text, a bar behind each, as far as they are read, and answers why no more were.
+// Adds the lines of a source to a text, a bar after each, as far as they are read, and answers why no more were.
 fn read_lines(
     reader: &mut Reader,
     source: &mut MemorySource,

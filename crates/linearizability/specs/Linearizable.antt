@@ -56,7 +56,7 @@ module _ {C O : Type 0} where
   told_by before (item.Output node (told.Reply client request output)) =
       record { client = client; request = request; output = output; before = before } ∷ []
 
-  -- each output that a client is told behind the items before
+  -- each output that a client is told after the items before
   abbrev pub told_behind : Seen C O → Seen C O → List (Told C O)
   told_behind before [] = []
   told_behind before (x ∷ rest) = told_by before x ++ told_behind (before ++ x ∷ []) rest
@@ -80,7 +80,7 @@ module _ {C O : Type 0} where
   AreOutputs m order seen = Each (λ t. beside t.client t.request (with_outputs m order) ≡ Some t.output) (told_behind [] seen)
 
   -- no client is told an output before the request, and each that stands before it in the order, was put in: so a
-  -- request that is first put in after another was answered stands behind it (the real-time order of Herlihy and Wing)
+  -- request that is first put in after another was answered stands after it (the real-time order of Herlihy and Wing)
   abbrev pub AreInTime : List (RaftInput C) → Seen C O → Type 0
   AreInTime order seen = Each (λ t. Each (HasInput t.before) (up_to t.client t.request order)) (told_behind [] seen)
 

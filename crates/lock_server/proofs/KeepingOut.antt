@@ -27,7 +27,7 @@ KeepsOutAll (item.Output a told.Locked ∷ later) = KeepsOut a later × KeepsOut
 contains_behind : (x y : Item LockInput LockOutput) (xs : LockTrace) → Contains xs y → Contains (x ∷ xs) y
 contains_behind x y xs h = Contains-append_right (x ∷ []) xs y h
 
--- where others are kept out, a `locked` of another stands behind an `unlock`
+-- where others are kept out, a `locked` of another stands after an `unlock`
 pub unlock_between : (a b : ℕ) (items between after : LockTrace) → a ≢ b → KeepsOut a items
     → items ≡ between ++ item.Output b told.Locked ∷ after → Contains between (item.Input a ask.Unlock)
 unlock_between a b [] [] after ne keeps e = cc

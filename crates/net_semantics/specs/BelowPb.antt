@@ -28,7 +28,7 @@ module _ {C O : Type 0} where
   abbrev pub below_pb : List (Item C (PbOut O)) → List C
   below_pb items = take (replies_in (outputs_at 0 items)) (inputs_at 0 items)
 
-  -- each output of the primary stands behind the input that it answers
+  -- each output of the primary stands after the input that it answers
   abbrev pub AnswersInputs : List (Item C (PbOut O)) → Type 0
   AnswersInputs items = (before after : List (Item C (PbOut O))) (o : PbOut O) → items ≡ before ++ item.Output 0 o ∷ after → length (outputs_at 0 before) < length (inputs_at 0 before)
 

@@ -4,7 +4,7 @@ use Rattle.vst_base.specs.declared.step.Step.{Step}
 use Rattle.vst_base.specs.declared.step.Step.TheVariants as step
 use Rattle.net_semantics.specs.Worlds.{put}
 
--- whether a step is left out behind deliveries of these packets: every copy, and each further delivery of one of them
+-- whether a step is left out after deliveries of these packets: every copy, and each further delivery of one of them
 abbrev pub is_repeat : {I : Type 0} → (ℕ → Bool) → Step I → Bool
 is_repeat delivered (step.Dup k) = true
 is_repeat delivered (step.Deliver k) = delivered k
@@ -29,7 +29,7 @@ abbrev pub delivered_from : {I : Type 0} → (ℕ → Bool) → List (Step I) �
 delivered_from delivered [] = delivered
 delivered_from delivered (s ∷ ss) = delivered_from (delivered_after delivered s) ss
 
--- what is left of a schedule behind these deliveries
+-- what is left of a schedule after these deliveries
 abbrev pub once_from : {I : Type 0} → (ℕ → Bool) → List (Step I) → List (Step I)
 once_from delivered [] = []
 once_from delivered (s ∷ ss) =

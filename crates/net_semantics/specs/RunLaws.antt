@@ -15,7 +15,7 @@ abbrev pub later : ℕ → Option (ℕ × StepRefusal) → Option (ℕ × StepRe
 later zero o = o
 later (suc n) o = option_map (λ p. (suc p.0, p.1)) (later n o)
 
--- none is first only where neither the step nor one behind it is refused
+-- none is first only where neither the step nor one after it is refused
 pub place_and_why-none : (f : Option StepRefusal) (o : Option (ℕ × StepRefusal)) → place_and_why f o ≡ None → (f ≡ None) × (o ≡ None)
 place_and_why-none (Some why) o e = cc
 place_and_why-none None None e = (refl, refl)
@@ -38,7 +38,7 @@ module _ {S K I O M : Type 0} (m : Meaning S I O M) (r : Recovery S K) where
   trace_from-append w [] ts = refl
   trace_from-append w (s ∷ ss) ts = ap (λ xs. items_of m w s ++ xs) (trace_from-append (next m r w s) ss ts) ∙ sym (append_assoc (items_of m w s) (trace_from m r (next m r w s) ss) (trace_from m r (run_from m r (next m r w s) ss) ts))
 
-  -- behind steps of which none is refused, the first refusal is that of the steps that follow
+  -- after steps of which none is refused, the first refusal is that of the steps that follow
   pub first_refused_from-append : (net : Net) (w : World S K M) (ss ts : List (Step I)) → first_refused_from net m r w ss ≡ None
       → first_refused_from net m r w (ss ++ ts) ≡ later (length ss) (first_refused_from net m r (run_from m r w ss) ts)
   first_refused_from-append net w [] ts e = refl

@@ -1,7 +1,7 @@
 -- What several reads or writes come to. Told contents are optional; what is said of them holds where they are told.
 use Rattle.std.specs.Prelude.{◌≡◌, ℕ, List, ◌++◌, take, Option, Some, IfSome}
 
--- a sink has gained this text behind what it held, or a front of it
+-- a sink has gained this text after what it held, or a front of it
 abbrev pub Gained : Option (List ℕ) → Option (List ℕ) → List ℕ → Type 0
 Gained old new text = IfSome old (λ held. new ≡ Some (held ++ text))
 

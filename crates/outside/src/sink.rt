@@ -23,7 +23,7 @@ pub trait Sink {
     /// How often a write has answered want of memory. This is no count of faults.
     ghost wants: { Self → ℕ };
 
-    /// Writes a front of the piece behind what was written.
+    /// Writes a front of the piece after what was written.
     fn write(&mut self, piece: &[u8]) -> WriteOutcome
         ensures written { IsWritten (written self.old) (written self.new) piece.now result }
         ensures causes { HasCause (faults self.old) (faults self.new) (wants self.old) (wants self.new) result }

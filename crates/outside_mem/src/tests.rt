@@ -2,7 +2,7 @@ use super::*;
 use outside::{Address, Begun, Device, ReadOutcome, Sink, Source, WriteOutcome};
 use std::test::Fail;
 
-// What a read with room for four bytes comes to, and the room behind it, which was filled with bars.
+// What a read with room for four bytes comes to, and the room after it, which was filled with bars.
 fn read_four<S: Source>(source: &mut S) -> (ReadOutcome, [u8; 4]) {
     let mut room = [b'|'; 4];
     let outcome = source.read(&mut room);

@@ -23,7 +23,7 @@ module _ {M : Type 0} where
   in_flight-send ps n sends fs e =
       in_flight-append ps (sent_by n sends) ∙ (ap (λ xs. in_flight ps ++ xs) (in_flight-sent_by n sends) ∙ ap (λ xs. xs ++ sends) e)
 
-  -- a copy in flight, between those before it and behind it, which alone are left once it is taken away
+  -- a copy in flight, between those before it and after it, which alone are left once it is taken away
   pub record IsTaken (all rest : List (ℕ × M)) (x : ℕ × M) : Type 0 where
     pub before : List (ℕ × M)
     pub behind : List (ℕ × M)

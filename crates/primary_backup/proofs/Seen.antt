@@ -17,7 +17,7 @@ not_one : (n : ℕ) → n ≡ 0 → n ≡ 1 → ⊥
 not_one n e f = omega arith
 
 module _ {C O : Type 0} where
-  -- each output of the primary stands behind the input that it answers, where so many inputs stand before all of these
+  -- each output of the primary stands after the input that it answers, where so many inputs stand before all of these
   abbrev StandsBehind : ℕ → List (Item C (PbOut O)) → Type 0
   StandsBehind n items = (before after : List (Item C (PbOut O))) (o : PbOut O) → items ≡ before ++ item.Output 0 o ∷ after → length (outputs_at 0 before) < n + length (inputs_at 0 before)
 
@@ -52,7 +52,7 @@ module _ {C O : Type 0} where
       let f : later ≡ zs ++ item.Output 1 o ∷ after = cc in
       redirects_past y (z ∷ zs) o (redirects_past z zs o (h zs after o f))
 
-  -- outputs of the primary behind an input there, an output there and an input at the backup
+  -- outputs of the primary after an input there, an output there and an input at the backup
   behind_input : (n k : ℕ) (c : C) (later : List (Item C (PbOut O))) → k ≡ suc n → StandsBehind k later → StandsBehind n (item.Input 0 c ∷ later)
   behind_input n k c later e h [] after o e2 = cc
   behind_input n k c later e h (y ∷ ys) after o e2 =

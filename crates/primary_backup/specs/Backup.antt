@@ -21,7 +21,7 @@ module _ {S C O : Type 0} where
   abbrev pub stays : Backed S C → BackupEffect S C O
   stays s = record { state = s; outputs = []; sends = [] }
 
-  -- the primary is asked: the request goes out at once, or waits behind the one that is out
+  -- the primary is asked: the request goes out at once, or waits after the one that is out
   abbrev pub asked : Backed S C → C → Option C → BackupEffect S C O
   asked s c None = record {
     state = record { machine = s.machine; out = Some c; waiting = s.waiting };

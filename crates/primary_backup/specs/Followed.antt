@@ -1,4 +1,4 @@
--- The machines of the two nodes behind a trace.
+-- The machines of the two nodes after a trace.
 use Rattle.std.specs.Prelude.{◌≡◌, ◌⊎◌, ℕ, suc, List, take}
 use Rattle.vst_base.specs.Machines.{MachineMeaning, state_after}
 use Rattle.vst_base.specs.declared.pb_out.PbOut.{PbOut}

@@ -21,7 +21,7 @@ fn backup() -> Node
     Node::new(1, 2).unwrap()
 }
 
-/// The primary is asked: the request goes out at once, or waits behind the one that is out.
+/// The primary is asked: the request goes out at once, or waits after the one that is out.
 pub(crate) fn ask<M: Machine>(
     alloc: Global,
     machine: &M,

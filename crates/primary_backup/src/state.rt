@@ -1,7 +1,7 @@
 use std::collections::VecDeque;
 use std::marker::Model;
 
-/// What a node remembers: the machine's state, the request that is out, and those that wait behind it.
+/// What a node remembers: the machine's state, the request that is out, and those that wait after it.
 #[derive(Drop)]
 pub struct PbState<S, C> {
     pub(crate) machine: S,

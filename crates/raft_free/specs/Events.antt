@@ -17,7 +17,7 @@ pub data Event (C : Type 0) : Type 0 where
   Count : (i voter : ℕ) → Event C  -- counts a vote
   Lead : (i : ℕ) → Event C  -- becomes the leader
   Propose : (i : ℕ) → (e : Entry C) → Event C  -- adds an entry to its log
-  Replicate : (i j prev many commit : ℕ) → Event C  -- sends j so many entries behind prev, and a commit
+  Replicate : (i j prev many commit : ℕ) → Event C  -- sends j so many entries after prev, and a commit
   StepDown : (i leader prev prev_term : ℕ) → (entries : List (Entry C)) → (commit : ℕ) → Event C  -- sees that another leads
   Accept : (i leader prev prev_term : ℕ) → (entries : List (Entry C)) → (commit : ℕ) → Event C  -- takes entries
   Match : (i j index : ℕ) → Event C  -- notes how much of its log j has

@@ -250,7 +250,7 @@ LeadersBeginAnew C =
     × (((after (greater_term c)).node 0).matched 1 ≡ 1)
     × Happens C (leads_again c) × (((after (leads_again c)).node 0).role ≡ Leader) × (((after (leads_again c)).node 0).matched 1 ≡ 0)
 
--- as in `replaced`, but node 1 sends what stands behind its entry
+-- as in `replaced`, but node 1 sends what stands after its entry
 abbrev pub behind_another : {C : Type 0} → C → C → List (Event C)
 behind_another c d =
     elected

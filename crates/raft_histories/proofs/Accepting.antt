@@ -1,4 +1,4 @@
--- What a log becomes that takes entries of another, which stand behind an index up to which the two agree.
+-- What a log becomes that takes entries of another, which stand after an index up to which the two agree.
 use Rattle.std.proofs.Common.{◌≡◌, ℕ, zero, suc, ◌+◌, ◌<◌, ◌≤◌, Bool, true, false, List, [], ◌∷◌, ◌++◌, length, take, drop, refl, sym, ap, ◌∙◌, arith, ◌⊎◌, inl, inr, eqb, cond, leb, eqb-true, eq-eqb, length-append, append_assoc}
 use Rattle.std.proofs.lemmas.List.{take_at}
 use Rattle.std.proofs.lemmas.Bool.{and_parts, false≢true, leb-true}

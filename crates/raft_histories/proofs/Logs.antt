@@ -101,6 +101,6 @@ front_trans f g = record { same = same_trans f.same (front_same _ (front_length 
 pub front_term : {C : Type 0} {l m : List (Entry C)} (n : ℕ) → n ≤ length l → Front l m → term_at l n ≡ term_at m n
 front_term n h f = same_term n h f.same
 
--- what stands behind a front
+-- what stands after a front
 pub front_rest : {A : Type 0} {l m : List A} → Front l m → l ++ drop (length l) m ≡ m
 front_rest {l = l} {m = m} f = ap (λ r. r ++ drop (length l) m) (sym (take-length l) ∙ f.same.eq) ∙ take-append-drop (length l) m

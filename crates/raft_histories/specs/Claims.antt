@@ -5,7 +5,7 @@ use Rattle.vst_base.specs.Logs.{accepted, matches}
 use Rattle.raft_histories.specs.Prefixes.{Agree, Follows, Same, Took}
 use Rattle.raft_histories.specs.Histories.{History, IsCommitted, IsSoundHistory, OnMajority}
 
--- a log that agrees with a leader's, and takes entries of it for behind an index where both match
+-- a log that agrees with a leader's, and takes entries of it for the places after an index where both match
 abbrev pub AcceptedIsTaken : Type 0 → Type 0
 AcceptedIsTaken C =
     (old theirs : List (Entry C)) (prev prev_t : ℕ) (es : List (Entry C)) → Follows theirs prev prev_t es → Agree old theirs →

@@ -17,7 +17,7 @@ pub record History (C : Type 0) : Type 0 where
 abbrev pub empty_history : (C : Type 0) → History C
 empty_history C = record { leader_log = λ u. []; candidacy = λ u c. None; leader = λ u. None; vote = λ u v. None; acked = λ u v. 0 }
 
--- each entry of the log stands where the leader of its term had it, behind the same entries
+-- each entry of the log stands where the leader of its term had it, after the same entries
 pub record Descends {C : Type 0} (g : History C) (log : List (Entry C)) : Type 0 where
   pub at : (n : ℕ) → n ≤ length log → Same n log (g.leader_log (term_at log n))
 

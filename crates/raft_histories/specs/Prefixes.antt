@@ -15,7 +15,7 @@ pub record Front {A : Type 0} (l m : List A) : Type 0 where
 pub record Agree {C : Type 0} (l m : List (Entry C)) : Type 0 where
   pub at : (n : ℕ) → n ≤ length l → n ≤ length m → term_at l n ≡ term_at m n → Same n l m
 
--- these entries stand behind the index prev of a log, whose term there is prev_t
+-- these entries stand after the index prev of a log, whose term there is prev_t
 pub record Follows {C : Type 0} (log : List (Entry C)) (prev prev_t : ℕ) (es : List (Entry C)) : Type 0 where
   pub front : List (Entry C)
   pub rest : List (Entry C)

@@ -23,11 +23,11 @@ agreed_with_none old [] h = refl
 agreed_with_none [] (e ∷ es) h = refl
 agreed_with_none (o ∷ os) (e ∷ es) h = absurd (omega arith)
 
--- what stands behind an index
+-- what stands after an index
 end_behind : {C : Type 0} (log : List (Entry C)) (prev : ℕ) → drop prev log ≡ [] → length log ≤ prev
 end_behind log prev d = omega (arith, ap length d, length-drop prev log)
 
--- the entries behind an index, as a slice of the log gives them
+-- the entries after an index, as a slice of the log gives them
 slice_behind : {C : Type 0} (l : List (Entry C)) (n : ℕ) → take (length l - n) (drop n l) ≡ drop n l
 slice_behind l n = rw (← length-drop n l) (take-length (drop n l))
 
@@ -53,7 +53,7 @@ no_conflict_past : {C : Type 0} (log : List (Entry C)) (commit prev : ℕ) (es :
 no_conflict_past log commit prev [] h = refl
 no_conflict_past log commit prev (e ∷ es) h = rw (lt-leb (suc prev) commit (omega arith)) (no_conflict_past log commit (suc prev) es (omega arith))
 
--- the first that differs stands behind commit
+-- the first that differs stands after commit
 no_conflict_below : {C : Type 0} (log : List (Entry C)) (commit prev : ℕ) (rest es : List (Entry C)) → commit ≤ length log → drop prev log ≡ rest →
     commit ≤ prev + agreed rest es → has_conflict log commit prev es ≡ false
 no_conflict_below log commit prev rest [] l d k = refl
@@ -125,7 +125,7 @@ accepted_by {C = C} log prev es h =
 accepted_none : {C : Type 0} (log : List (Entry C)) (prev : ℕ) (es : List (Entry C)) → length es ≤ agreed (drop prev log) es → accepted log prev es ≡ log
 accepted_none {C = C} log prev es h = ap (λ (r : List (Entry C)). take prev log ++ r) (merged_none (drop prev log) es h) ∙ take-append-drop prev log
 
--- what the call answers, and the log behind it, by what it found
+-- what the call answers, and the log after it, by what it found
 pub record Answers {C : Type 0} (log : List (Entry C)) (commit prev : ℕ) (es : List (Entry C)) (a : Accept) (after : List (Entry C)) : Type 0 where
   pub answers : a ≡ answer log commit prev es
   pub becomes : after ≡ log_behind log commit prev es

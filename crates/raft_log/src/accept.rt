@@ -29,7 +29,7 @@ fn agreed<C>(old: &[Entry<C>], new: &[Entry<C>]) -> usize
 }
 
 impl<C: Drop> Log<C> {
-    /// Takes a leader's entries for the places behind the index prev (section 5.3 of the Raft paper): the
+    /// Takes a leader's entries for the places after the index prev (section 5.3 of the Raft paper): the
     /// log is cut at the first that differs in term from the leader's, and the missing ones are added. Where
     /// none differs nothing is cut, since the message may be an old one. None is taken where one differs
     /// from an entry up to commit.

@@ -28,7 +28,7 @@ impl<C> Model for Log<C> {
 }
 
 impl<C: Drop> Log<C> {
-    // Keeps so many of the first entries, and puts copies of these behind them.
+    // Keeps so many of the first entries, and puts copies of these after them.
     pub(crate) fn replace_from<M: Machine<Cmd = C>>(
         &mut self,
         alloc: Global,
@@ -56,7 +56,7 @@ impl<C: Drop> Log<C> {
         Log { entries }
     }
 
-    /// Adds an entry behind its last, as a leader does with one of its own. An `Err` changes nothing.
+    /// Adds an entry after its last, as a leader does with one of its own. An `Err` changes nothing.
     pub fn push(&mut self, entry: Entry<C>) -> Result<(), AllocError>
         requires { length self.old < MAX_INDEX }
         ensures ok { OnOk result (self.new ≡ self.old ++ entry ∷ []) }

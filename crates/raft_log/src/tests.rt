@@ -93,7 +93,7 @@ fn a_leaders_own_entry_is_taken_with_the_others(rt: HostRuntime) -> Result<(), F
     Ok(())
 }
 
-// What the log answers to entries of these terms behind the index `prev`.
+// What the log answers to entries of these terms after the index `prev`.
 fn answer(
     alloc: Global,
     log: &mut Log<u8>,
@@ -105,7 +105,7 @@ fn answer(
     accept(alloc, &Counter, log, prev, &sent, commit)
 }
 
-// What a follower of these terms answers to all of the leader's entries behind the index `prev`, and its
+// What a follower of these terms answers to all of the leader's entries after the index `prev`, and its
 // log afterwards.
 fn follow(alloc: Global, terms: &[u64], prev: u32, commit: u32) -> Result<(Accept, Log<u8>), Fail> {
     let sent = LEADER.get(prev as usize..).ok_or("an index")?;

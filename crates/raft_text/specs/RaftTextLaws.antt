@@ -166,7 +166,7 @@ module _ {C : Type 0} {IsCommand : C → Type 0} {command_of : List ℕ → Opti
   }
 
 module _ {O : Type 0} {IsOutput : O → Type 0} {output_of : List ℕ → Option O} {output_text : O → List ℕ} (s : IsSpelling IsOutput output_of output_text) where
-  -- behind a word
+  -- after a word
   record IsReadAnswer (word rest : List ℕ) (v : RaftOut O) : Type 0 where
     text : raft_output_text output_text v ≡ word ++ 32 ∷ rest
     has_text : IsRaftOutput IsOutput v

@@ -20,7 +20,7 @@ names_text client request = decimal client ++ 32 ∷ decimal request
 abbrev pub named_text : ℕ → ℕ → List ℕ → List ℕ
 named_text client request text = decimal client ++ 32 ∷ (decimal request ++ 32 ∷ text)
 
--- the number before the first space, and what stands behind it
+-- the number before the first space, and what stands after it
 abbrev pub front_number : List ℕ → Option (ℕ × List ℕ)
 front_number bs = option_and_then (λ p. option_map (λ n. (n, p.1)) (number_of p.0)) (cut bs)
 

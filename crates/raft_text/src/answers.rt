@@ -8,7 +8,7 @@ use raft_types::RaftOut;
 use std::alloc::Global;
 use vst_base::{ClientId, ReqId};
 
-// A client and a request of its own, and nothing behind them.
+// A client and a request of its own, and nothing after them.
 fn read_names(text: &[u8]) -> Result<(ClientId, ReqId), TextFault>
     ensures { Reads result (names_of text.now) }
 {
@@ -18,7 +18,7 @@ fn read_names(text: &[u8]) -> Result<(ClientId, ReqId), TextFault>
     }
 }
 
-// The reply whose two numbers and output stand behind its word.
+// The reply whose two numbers and output stand after its word.
 fn read_reply<A: AppText>(alloc: Global, text: &[u8]) -> Result<RaftOut<A::Output>, TextFault>
     ensures { Reads result (reply_of A.output_of text.now) }
 {
@@ -33,7 +33,7 @@ fn read_reply<A: AppText>(alloc: Global, text: &[u8]) -> Result<RaftOut<A::Outpu
     })
 }
 
-// The answer of a word and what stands behind it.
+// The answer of a word and what stands after it.
 pub(crate) fn read_answer<A: AppText>(
     alloc: Global,
     word: &[u8],

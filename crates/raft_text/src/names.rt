@@ -7,7 +7,7 @@ use schedule_text::{SPACE, number_up_to};
 use std::alloc::{AllocError, Global};
 use vst_base::{ClientId, ReqId};
 
-// The number before the first space, and what stands behind it.
+// The number before the first space, and what stands after it.
 fn front_number(text: &[u8]) -> Option<(u64, &[u8])>
     ensures { front_view result ≡ front_number text.now }
 {
@@ -16,7 +16,7 @@ fn front_number(text: &[u8]) -> Option<(u64, &[u8])>
     Some((number, rest))
 }
 
-// A client and a request of its own, and nothing behind them.
+// A client and a request of its own, and nothing after them.
 pub(crate) fn names_of(text: &[u8]) -> Option<(ClientId, ReqId)>
     ensures { result ≡ names_of text.now }
 {
@@ -25,7 +25,7 @@ pub(crate) fn names_of(text: &[u8]) -> Option<(ClientId, ReqId)>
     Some((ClientId::new(client), ReqId::new(request)))
 }
 
-// A client, a request of its own, and what stands behind the space after them.
+// A client, a request of its own, and what stands after the space after them.
 pub(crate) fn named_of(text: &[u8]) -> Option<(ClientId, ReqId, &[u8])>
     ensures { named_view result ≡ named_of text.now }
 {
@@ -34,7 +34,7 @@ pub(crate) fn named_of(text: &[u8]) -> Option<(ClientId, ReqId, &[u8])>
     Some((ClientId::new(client), ReqId::new(request), rest))
 }
 
-// A client's and a request's number behind a word.
+// A client's and a request's number after a word.
 pub(crate) fn names_text(
     alloc: Global,
     word: &str,
@@ -47,7 +47,7 @@ pub(crate) fn names_text(
     Ok(text.into_bytes())
 }
 
-// The same, with a text behind them.
+// The same, with a text after them.
 pub(crate) fn named_text(
     alloc: Global,
     word: &str,

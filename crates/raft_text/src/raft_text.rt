@@ -10,7 +10,7 @@ use schedule_text::SPACE;
 use std::alloc::{AllocError, Global};
 use std::marker::PhantomData;
 
-/// The texts of a machine in a Raft cluster. Its inputs are the machine's, behind the client's and the
+/// The texts of a machine in a Raft cluster. Its inputs are the machine's, after the client's and the
 /// request's number. Its outputs are `reply`, these two numbers and the machine's output, or `notleader` or
 /// `full` and the two numbers.
 pub struct RaftText<A> {

@@ -13,7 +13,7 @@ pub record VoteView : Type 0 where
   pub term : ℕ
   pub granted : Bool
 
--- the leader of the term sends the entries behind an index, with the term there, and how far it has committed
+-- the leader of the term sends the entries after an index, with the term there, and how far it has committed
 pub record AppendView (C : Type 0) : Type 0 where
   pub term : ℕ
   pub prev_index : ℕ
@@ -21,7 +21,7 @@ pub record AppendView (C : Type 0) : Type 0 where
   pub commit : ℕ
   pub entries : List (Entry C)
 
--- the answer of a node in the term: it has the leader's entries up to the index, or took none behind it
+-- the answer of a node in the term: it has the leader's entries up to the index, or took none after it
 pub record AppendedView : Type 0 where
   pub term : ℕ
   pub ok : Bool

@@ -6,7 +6,7 @@ use crate::{Entries, MAX_BATCH};
 use std::marker::Model;
 use vst_base::Entry;
 
-/// A leader of a term, from 1 to `MAX_TERM`, sends the entries behind an index of its log, and says how far it
+/// A leader of a term, from 1 to `MAX_TERM`, sends the entries after an index of its log, and says how far it
 /// has committed. They are at most `MAX_BATCH`, and the last stands at `MAX_INDEX` at most. Contracts see the
 /// record of its parts.
 #[derive(Debug, Drop)]
@@ -39,7 +39,7 @@ impl<C> Model for Append<C> {
 }
 
 impl<C> Append<C> {
-    /// The entries of a leader of this term that stand behind an index of its log, with the term there,
+    /// The entries of a leader of this term that stand after an index of its log, with the term there,
     /// and how far it has committed.
     pub fn new(term: u64, prev_index: u32, prev_term: u64, commit: u32, entries: Entries<C>) -> Self
         requires term { IsElectionTerm term }
@@ -67,7 +67,7 @@ impl<C> Append<C> {
         self.term
     }
 
-    /// The index behind which the entries stand, 0 where they begin the log.
+    /// The index after which the entries stand, 0 where they begin the log.
     pub fn prev_index(&self) -> u32
         ensures value { result ≡ self.now.prev_index }
         ensures in_range { IsIndex (result + length self.now.entries) }
@@ -91,7 +91,7 @@ impl<C> Append<C> {
         self.commit
     }
 
-    /// The entries behind that index, in order.
+    /// The entries after that index, in order.
     pub fn entries(&self) -> &[Entry<C>]
         ensures value { result.now ≡ self.now.entries }
         ensures in_range { length result.now ≤ MAX_BATCH }

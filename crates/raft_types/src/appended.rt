@@ -29,7 +29,7 @@ impl Model for Appended {
 
 impl Appended {
     /// The answer of a node in this term. Where it is yes, the node has the leader's entries up to the
-    /// index, and else it took none behind it.
+    /// index, and else it took none after it.
     pub fn new(term: u64, ok: bool, index: u32) -> Self
         requires term { IsElectionTerm term }
         requires index { IsIndex index }
@@ -53,7 +53,7 @@ impl Appended {
         self.ok
     }
 
-    /// The index that it answers for, at most `MAX_INDEX`: up to which it has the leader's entries, or behind
+    /// The index that it answers for, at most `MAX_INDEX`: up to which it has the leader's entries, or after
     /// which it took none.
     pub fn index(&self) -> u32
         ensures value { result ≡ self.now.index }

@@ -39,7 +39,7 @@ pub record Reads {I : Type 0} (f : List ℕ → Option I) (old now : ReaderView)
   pub uses : Uses old now left' rest used
   pub says : script old.most f (old.number + 1) old.events (lines_of used) ≡ record { steps = steps; fault = None }
 
--- steps were taken, what was let go of their trace was written, and the lines so far say them
+-- steps were taken, the part of their trace that was cleared was written, and the lines so far say them
 pub record Played {R S K I O M G : Type 0} (sys : System S K I O M G) (follows : R → List (Step I) → Type 0) (progress : R → Progress I O) (t : Texts I O) (v : R) (tally : Tally) (old now : ReaderView) (left left' out out' : Option (List ℕ)) : Type 0 where
   pub steps : List (ℕ × Step I)
   pub gone : List (Item I O)
@@ -110,7 +110,7 @@ module _ {R S K I O M G : Type 0} (sys : System S K I O M G) (follows : R → Li
     reads = p.reads;
   }
 
--- what lines say behind those that were used
+-- what lines say after those that were used
 module _ {I : Type 0} (f : List ℕ → Option I) (old now : ReaderView) (left' : Option (List ℕ)) (rest : List ℕ) (steps : List (ℕ × Step I))
     (events : now.events ≡ old.events + length steps) (most : now.most ≡ old.most) (r : Reads f old now left' rest steps) where
   script-moved : (done : List (ℕ × Step I)) (n e : ℕ) (ls : List (List ℕ)) → done ≡ steps → n ≡ now.number + 1 → e ≡ now.events

@@ -27,7 +27,7 @@ later-some (suc n) p =
     ap (λ o. option_map (λ (q : ℕ × StepRefusal). (suc q.0, q.1)) o) (later-some n p) ∙ ap (λ k. Some (k, p.1)) (omega arith)
 
 module _ {I : Type 0} where
-  -- the line of a step behind others
+  -- the line of a step after others
   line_at-here : (done more : List (ℕ × Step I)) (x : ℕ × Step I) → line_at (length done) (done ++ x ∷ more) ≡ x.0
   line_at-here [] more x = refl
   line_at-here (d ∷ done) more x = line_at-here done more x
@@ -47,7 +47,7 @@ module _ {S K I O M : Type 0} (net : Net) (m : Meaning S I O M) (r : Recovery S 
       ∙ (first_refused_from-append m r net w (map (λ p. p.1) done) (steps_of rest) none
       ∙ ap (λ n. later n (first_refused_from net m r (run_from m r w (map (λ p. p.1) done)) (steps_of rest))) (length-map done (λ (p : ℕ × Step I). p.1)))
 
-  -- a step behind them that is refused is where it stops
+  -- a step after them that is refused is where it stops
   pub refused-behind : (number : ℕ) (s : Step I) (rest sc : Script I) (p : StepRefusal) → sc ≡ prefixed done (with_step number s rest)
       → refusal_of net m (run_from m r w (map (λ p. p.1) done)) s ≡ Some p
       → (stop_from net m r w sc ≡ Some (number, why_of p)) × (taken_from net m r w sc ≡ map (λ p. p.1) done)

@@ -26,7 +26,7 @@ pub record IsDone (whole : List ℕ → Replayed) (rest : List ℕ) (left' out o
   pub counts : done ≡ (whole rest).counts
   pub written : Gained out out' (whole rest).out
 
--- a read failed behind these bytes: none of their whole lines is refused, what stands behind their last newline is not too
+-- a read failed after these bytes: none of their whole lines is refused, what stands after their last newline is not too
 -- long yet, and the sink gained exactly their trace
 pub record BrokeOff (whole so_far : List ℕ → Replayed) (rest : List ℕ) (left' out out' : Option (List ℕ)) : Type 0 where
   pub given : List ℕ

@@ -30,7 +30,7 @@ module _ {R S K I O M G : Type 0} (sys : System S K I O M G) (follows : R → Li
       ⊎ ((s : Step I) × (p : StepRefusal) × ReadsStep f old new left' rest (Ok s) × (number ≡ new.number)
       × (refusal_of sys.net sys.meaning (run sys.meaning sys.recovery ss) s ≡ Some p) × (why ≡ why_of p))
 
-  -- behind these steps one more was read and taken, or there is none, or it is refused and changed nothing
+  -- after these steps one more was read and taken, or there is none, or it is refused and changed nothing
   abbrev pub TookStep : R → List (Step I) → List (Item I O) → ReaderView → ReaderView → Option (List ℕ) → Option (List ℕ) → Option Halt → Type 0
   TookStep r ss gone old new left left' None =
       (s : Step I) × HasRun sys follows progress (ss ++ s ∷ []) gone r × ((rest : List ℕ) → HasRest old left rest → ReadsStep f old new left' rest (Ok s))
@@ -41,7 +41,7 @@ module _ {R S K I O M G : Type 0} (sys : System S K I O M G) (follows : R → Li
   TookStep r ss gone old new left left' (Some (halt.Refused number why)) =
       HasRun sys follows progress ss gone r × ((rest : List ℕ) → HasRest old left rest → IsRefusedStep ss old new left' rest number why)
 
--- the part of a trace that was let go was written and counted
+-- the part of a trace that was cleared was written and counted
 pub record TraceWritten {I O : Type 0} (t : Texts I O) (gone : List (Item I O)) (out out' : Option (List ℕ)) (tally : Tally) : Type 0 where
   pub written : Gained out out' (trace_text t.input_text t.output_text gone)
   pub counted : tally ≡ tallied t.is_reply (record { inputs = 0; outputs = 0; replies = 0 }) gone

@@ -20,7 +20,7 @@ use schedule_text::{LineFault, Reader};
 use std::alloc::Global;
 use xform_stack::Runs;
 
-// Plays the steps of a schedule behind its header up to where they end. What clients saw of a step is written at once.
+// Plays the steps of a schedule after its header up to where they end. What clients saw of a step is written at once.
 pub(crate) fn play<R: Runs, A: AppText<Input = R::Input, Output = R::Output>, S: Source, K: Sink>(
     alloc: Global,
     running: &mut R,

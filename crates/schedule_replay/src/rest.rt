@@ -18,7 +18,7 @@ use schedule_text::{Header, Printed, Reader};
 use std::alloc::Global;
 use xform_stack::Runs;
 
-// Replays what stands behind a header, where no step was taken yet. Below the trace stand this header, if there is one, and
+// Replays what stands after a header, where no step was taken yet. Below the trace stand this header, if there is one, and
 // the image.
 pub(crate) fn replay_rest<
     R: Runs<Line = L>,

@@ -1,4 +1,4 @@
--- What stands behind a front.
+-- What stands after a front.
 use Rattle.std.specs.Prelude.{◌≡◌, ℕ, Bool, true, false, ◌==◌, ◌&&◌, ◌<◌, ◌≤◌, List, [], ◌∷◌, ◌++◌, length, take, drop, Option, Some, None, option_and_then, cond, refl}
 use Rattle.std.specs.Str.{bytes_eq}
 use Rattle.std.proofs.Common.{ap, ◌∙◌, sym, arith}

@@ -19,7 +19,7 @@ within-by t u m low high = rw (low, high) refl
 nodes_within-reads : (least most m : ℕ) → least ≤ m → m ≤ most → nodes_within least most m ≡ Some m
 nodes_within-reads least most m low high = within-by (nat_le least m) (nat_le m most) m (le-leb least m low) (le-leb m most high)
 
--- behind a front stands the rest
+-- after a front stands the rest
 behind-found : (t : Bool) (o : Option (List ℕ)) (rest : List ℕ) → t ≡ true → o ≡ Some rest → cond t o None ≡ Some rest
 behind-found t o rest same e = rw (same, e) refl
 
@@ -88,7 +88,7 @@ among-text (r ∷ rs) h apart among =
 pub header_of-text : (h : Header) → IsHeader h → header_of (header_text h) ≡ Some h
 header_of-text h is = among-text rows h refl is
 
--- what stands behind a front stands behind it in the line
+-- what stands after a front stands after it in the line
 front-same : (t : Bool) (b f : ℕ) (o : Option (List ℕ)) (bs fs rest : List ℕ) → (t ≡ true → b ≡ f) → (o ≡ Some rest → bs ≡ fs ++ rest) → cond t o None ≡ Some rest → b ∷ bs ≡ f ∷ (fs ++ rest)
 front-same true b f o bs fs rest same more e = ap (λ c. c ∷ bs) (same refl) ∙ ap (λ cs. f ∷ cs) (more e)
 front-same false b f o bs fs rest same more e = cc

@@ -36,7 +36,7 @@ opening-reads most n l ls allowed read =
 pub opening-refuses : (most n : ℕ) (l : List ℕ) (ls : List (List ℕ)) (w : Why) → first_of (line_refusals most n l) ≡ Some w → opening most n (l ∷ ls) ≡ RefusedAt n w
 opening-refuses most n l ls w refused = ap (λ f. opening_unless f n (cond (is_skipped l) (opening most (n + 1) ls) (opened (header_of l) n ls))) refused
 
--- an opening with more lines behind
+-- an opening with more lines after
 abbrev pub opening_with : Opening → List (List ℕ) → ℕ → Opening
 opening_with (Opened h k ls) ms most = Opened h k (ls ++ ms)
 opening_with (RefusedAt k w) ms most = RefusedAt k w
@@ -88,7 +88,7 @@ module _ {I : Type 0} where
       ∙ ap (λ k. with_step n s (prefixed done (script most f ((n + 1) + length ls) k ms))) more
   behind-by (Refused w) most f n e ls ms later none = cc
 
-  -- behind lines that say no fault a script goes on
+  -- after lines that say no fault a script goes on
   pub script-behind : (most : ℕ) (f : List ℕ → Option I) (n e : ℕ) (ls ms : List (List ℕ)) → (script most f n e ls).fault ≡ None
       → script most f n e (ls ++ ms) ≡ prefixed (script most f n e ls).steps (script most f (n + length ls) (e + length (script most f n e ls).steps) ms)
   script-behind most f n e [] ms none = rw (add-zero, add-zero) refl

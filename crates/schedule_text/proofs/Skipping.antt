@@ -17,7 +17,7 @@ module _ {R : Type 0} (F : ℕ → List (List ℕ) → R) where
   pub skipped-none : (r : ReaderView) (left : Option (List ℕ)) (rest : List ℕ) → HasRest r left rest → Skipped r r left rest
   skipped-none r left rest has = record { used = []; uses = uses-none r left rest has; goes = λ ls. refl }
 
-  -- what follows a line that was used behind them
+  -- what follows a line that was used after them
   pub goes-on : (old mid new : ReaderView) (left left' : Option (List ℕ)) (rest : List ℕ) (s : Skipped old mid left rest) (used : List ℕ) (l : List ℕ)
       → Uses mid new left' s.uses.rest' used → lines_of used ≡ l ∷ [] → (ls : List (List ℕ))
       → F (old.number + 1) (lines_of (s.used ++ used) ++ ls) ≡ F (mid.number + 1) (l ∷ ls)

@@ -1,4 +1,4 @@
--- What a line that was read behind skipped ones makes of the header, or of the next step.
+-- What a line that was read after skipped ones makes of the header, or of the next step.
 use Rattle.std.specs.Prelude.{◌≡◌, ℕ, Bool, true, false, ◌+◌, ◌<◌, ◌≤◌, nat_le, is_none, List, [], ◌∷◌, ◌++◌, length, Option, Some, None, Ok, Err, cond, refl}
 use Rattle.std.proofs.Common.{ap, ◌∙◌, sym, subst, arith}
 use Rattle.std.proofs.lemmas.Bool.Decides.{nat_tests}

@@ -26,7 +26,7 @@ by-number r (Some n) h e =
     let bounds = by-bounds r n (nat_le r.least n && nat_le n r.most) h refl e in
     (bounds.0, ap Some bounds.1)
 
--- the digits behind the front of a header
+-- the digits after the front of a header
 by-digits : (r : StackRow) (o : Option (List ℕ)) (h : Header)
     → option_and_then (λ digits. option_and_then (λ n. option_and_then (with_nodes r) (nodes_within r.least r.most n)) (number_up_to 4294967295 digits)) o ≡ Some h
     → IsBy r h × ((digits : List ℕ) × (o ≡ Some digits) × (number_up_to 4294967295 digits ≡ Some h.nodes))

@@ -16,7 +16,7 @@ net_word net.Bag = codes "bag"
 net_word net.Dup = codes "dup"
 net_word net.Fail = codes "fail"
 
--- a word and the space behind it
+-- a word and the space after it
 abbrev pub spaced : List ℕ → List ℕ
 spaced word = word ++ 32 ∷ []
 
@@ -42,7 +42,7 @@ IsAmong (r ∷ rs) h = IsBy r h ⊎ IsAmong rs h
 abbrev pub IsHeader : Header → Type 0
 IsHeader h = IsAmong rows h
 
--- what stands behind a front
+-- what stands after a front
 abbrev pub behind : List ℕ → List ℕ → Option (List ℕ)
 behind [] line = Some line
 behind (f ∷ fs) [] = None

@@ -1,4 +1,4 @@
--- What a line of a schedule behind its header says, and why it may be refused.
+-- What a line of a schedule after its header says, and why it may be refused.
 use Rattle.std.specs.Prelude.{ℕ, Bool, nat_le, List, [], ◌∷◌, Option, Some, None, is_none, option_map, option_and_then, if◌then◌else◌}
 use Rattle.vst_base.specs.Firsts.{first_of}
 use Rattle.vst_base.specs.declared.step.Step.{Step}
@@ -20,7 +20,7 @@ pub record Parts : Type 0 where
   pub number : List ℕ
   pub text : List ℕ
 
--- behind its word an input has a number, a space and the text, and any other step a number alone
+-- after its word an input has a number, a space and the text, and any other step a number alone
 abbrev pub input_parts : Option (List ℕ × List ℕ) → Option Parts
 input_parts None = None
 input_parts (Some p) = Some (record { kind = kind.In; number = p.0; text = p.1 })

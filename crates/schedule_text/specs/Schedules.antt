@@ -12,7 +12,7 @@ use Rattle.schedule_text.specs.Headers.{header_of}
 use Rattle.line_reader.specs.Limits.{line_refusals}
 use Rattle.schedule_text.specs.Reading.{read_line}
 
--- how a text opens: with a header, the lines behind it and the number of the first of them; with a refused line; or
+-- how a text opens: with a header, the lines after it and the number of the first of them; with a refused line; or
 -- with no line that isn't skipped, where the number is that of the line after the last
 pub data Opening : Type 0 where
   Opened : (h : Header) → (number : ℕ) → (lines : List (List ℕ)) → Opening
@@ -34,13 +34,13 @@ opening most number (l ∷ ls) =
     opening_unless (first_of (line_refusals most number l)) number
     (if is_skipped l then opening most (number + 1) ls else opened (header_of l) number ls)
 
--- the line at which a text is refused for its opening: a text that ends without a header is refused behind its last line
+-- the line at which a text is refused for its opening: a text that ends without a header is refused after its last line
 abbrev pub opening_refusal : Opening → Option (ℕ × Why)
 opening_refusal (Opened h number ls) = None
 opening_refusal (RefusedAt number w) = Some (number, w)
 opening_refusal (EndedAt number) = Some (number, why.Header)
 
--- the steps of a text behind its header, each with its line, up to the first line that is refused, if one is
+-- the steps of a text after its header, each with its line, up to the first line that is refused, if one is
 pub record Script (I : Type 0) : Type 0 where
   pub steps : List (ℕ × Step I)
   pub fault : Option (ℕ × Why)
@@ -54,7 +54,7 @@ no_steps = record { steps = []; fault = None }
 abbrev pub refused_script : {I : Type 0} → ℕ → Why → Script I
 refused_script number w = record { steps = []; fault = Some (number, w) }
 
--- a line at this number, with so many events before it, and what the lines behind it are by the events before them
+-- a line at this number, with so many events before it, and what the lines after it are by the events before them
 abbrev pub script_line : {I : Type 0} → Line I → ℕ → ℕ → (ℕ → Script I) → Script I
 script_line Skipped number events rest = rest events
 script_line (IsStep s) number events rest = with_step number s (rest (events + 1))

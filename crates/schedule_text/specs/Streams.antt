@@ -10,7 +10,7 @@ use Rattle.line_reader.specs.declared.why.Why.TheVariants as why
 use Rattle.schedule_text.specs.declared.header.Header.{Header}
 use Rattle.schedule_text.specs.Schedules.{Opened, EndedAt, opening, opening_refusal, script, no_steps, refused_script, with_step}
 
--- a text that ends without a header is refused at the line behind its last
+-- a text that ends without a header is refused at the line after its last
 abbrev pub header_fault : ℕ → LineFault → LineFault
 header_fault next fault.End = fault.Refused next why.Header
 header_fault next fault.Read = fault.Read
@@ -30,7 +30,7 @@ ReadsHeader old new left' rest (Err fault.End) = ⊥
 ReadsHeader old new left' rest (Err fault.Write) = ⊥
 ReadsHeader old new left' rest (Err fault.Memory) = Unit {0}
 
--- the next step of the rest of a text behind its header
+-- the next step of the rest of a text after its header
 abbrev pub ReadsStep : {I : Type 0} → (List ℕ → Option I) → ReaderView → ReaderView → Option (List ℕ) → List ℕ → Result (Step I) LineFault → Type 0
 ReadsStep f old new left' rest (Ok s) =
     (used : List ℕ) × Uses old new left' rest used × StandsAt old new left' rest new.number

@@ -6,7 +6,7 @@ use Rattle.line_reader.specs.Cuts.{cut_at}
 use Rattle.vst_base.specs.declared.step.StepKind.{StepKind}
 use Rattle.vst_base.specs.declared.step.StepKind.TheVariants as kind
 
--- what stands before the first space and behind it, if there is one
+-- what stands before the first space and after it, if there is one
 abbrev pub cut : List ℕ → Option (List ℕ × List ℕ)
 cut bs = cut_at 32 bs
 
@@ -19,7 +19,7 @@ is_numeral [] = false
 is_numeral (b ∷ []) = is_digit b
 is_numeral (b ∷ c ∷ bs) = nat_le 49 b && is_digit b && list_all is_digit (c ∷ bs)
 
--- the number that digits spell behind those of n
+-- the number that digits spell after those of n
 abbrev pub value_from : ℕ → List ℕ → ℕ
 value_from n [] = n
 value_from n (b ∷ bs) = value_from (10 * n + (b - 48)) bs

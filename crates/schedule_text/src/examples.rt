@@ -62,7 +62,7 @@ pub fn worked_headers()
     ensures opens_with_step { opening 2000000 1 ([] ∷ codes "tick 0" ∷ []) ≡ RefusedAt 2 Why.Header }
 {}
 
-/// The lines behind a header, on examples.
+/// The lines after a header, on examples.
 pub fn worked_steps()
     ensures input { read_line 2000000 input_of 2 0 (codes "in 1 lock") ≡ Line.IsStep (Step.In 1 LockInput.Lock) }
     ensures delivery { read_line 2000000 input_of 2 0 (codes "deliver 7") ≡ Line.IsStep (Step.Deliver 7) }
@@ -83,7 +83,7 @@ pub fn worked_steps()
     ensures up_to_a_fault { script 2000000 input_of 2 0 (codes "tick 0" ∷ codes "" ∷ codes "tick" ∷ codes "tick 0" ∷ []) ≡ record { steps = (2, Step.Tick 0) ∷ []; fault = Some (4, Why.UnknownWord) } }
 {}
 
-/// Which of several refusals a line behind a header gets, and the borders of the limits, on examples.
+/// Which of several refusals a line after a header gets, and the borders of the limits, on examples.
 pub fn worked_limits()
     ensures word_before_number { read_line 2000000 input_of 2 0 (codes "foo 01") ≡ Line.Refused Why.UnknownWord }
     ensures number_before_text { read_line 2000000 input_of 2 0 (codes "in 01 grab") ≡ Line.Refused Why.Number }

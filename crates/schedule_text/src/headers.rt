@@ -26,7 +26,7 @@ fn stack_word(stack: StackId) -> &'static [u8]
     stack.word().as_bytes()
 }
 
-// What stands behind a front.
+// What stands after a front.
 fn behind<'a>(front: &[u8], line: &'a [u8]) -> Option<&'a [u8]>
     ensures { one result ≡ behind front.now line.now }
 {
@@ -37,7 +37,7 @@ fn behind<'a>(front: &[u8], line: &'a [u8]) -> Option<&'a [u8]>
     if start == front { Some(rest) } else { None }
 }
 
-// What stands behind a word and its space.
+// What stands after a word and its space.
 fn behind_word<'a>(word: &[u8], line: &'a [u8]) -> Option<&'a [u8]>
     ensures { one result ≡ behind (spaced word.now) line.now }
 {
@@ -47,7 +47,7 @@ fn behind_word<'a>(word: &[u8], line: &'a [u8]) -> Option<&'a [u8]>
     }
 }
 
-// What stands behind the words of a network and a stack.
+// What stands after the words of a network and a stack.
 fn behind_names(net: Net, stack: StackId, line: &[u8]) -> Option<&[u8]>
     ensures { one result ≡ behind (spaced (net_word net) ++ spaced (stack_word stack)) line.now }
 {
@@ -57,7 +57,7 @@ fn behind_names(net: Net, stack: StackId, line: &[u8]) -> Option<&[u8]>
     }
 }
 
-// What stands behind a header up to its number of nodes.
+// What stands after a header up to its number of nodes.
 fn behind_front(net: Net, stack: StackId, line: &[u8]) -> Option<&[u8]>
     ensures { one result ≡ behind (header_front net stack) line.now }
 {

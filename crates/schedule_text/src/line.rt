@@ -1,7 +1,7 @@
 use line_reader::Why;
 use vst_base::Step;
 
-/// What a line of a schedule behind its header is.
+/// What a line of a schedule after its header is.
 #[derive(Debug, Drop, PartialEq, Eq)]
 pub enum Line<I> {
     /// It is empty or begins with `#`.

@@ -7,7 +7,7 @@ use crate::words::kind_named;
 use line_reader::cut_at;
 use vst_base::StepKind;
 
-// The parts behind the word of a kind of step.
+// The parts after the word of a kind of step.
 fn parts_behind(kind: StepKind, rest: &[u8]) -> Option<Parts<'_>>
     ensures { parts_view result ≡ parts_behind rest.now kind }
 {

@@ -14,7 +14,7 @@ use vst_base::{MAX_STEPS, Step, StepKind};
 /// The greatest number of lines of a schedule.
 pub const MAX_LINES: u32 = 2_000_000;
 
-// A line that is not skipped, behind so many events: its step, or why it is refused.
+// A line that is not skipped, after so many events: its step, or why it is refused.
 fn step_line<A: AppText>(
     alloc: Global,
     events: u32,
@@ -46,7 +46,7 @@ fn step_line<A: AppText>(
     }
 }
 
-/// What a line behind the header says that is neither too long nor one too many, behind so many events.
+/// What a line after the header says that is neither too long nor one too many, after so many events.
 pub fn line_says<A: AppText>(
     alloc: Global,
     events: u32,

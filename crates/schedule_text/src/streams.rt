@@ -26,7 +26,7 @@ fn header_fault(reader: &Reader, fault: LineFault) -> LineFault
     }
 }
 
-/// Reads the header: the first line that is not skipped. A text without one is refused at the line behind its last, so
+/// Reads the header: the first line that is not skipped. A text without one is refused at the line after its last, so
 /// `End` never comes.
 pub fn read_header<S: Source>(reader: &mut Reader, source: &mut S) -> Result<Header, LineFault>
     ensures told { (rest : List ℕ) → HasRest reader.old (S.left source.old) rest → ReadsHeader reader.old reader.new (S.left source.new) rest result }
@@ -53,7 +53,7 @@ pub fn read_header<S: Source>(reader: &mut Reader, source: &mut S) -> Result<Hea
     }
 }
 
-/// Reads the next step behind the header, and counts it as an event. Lines that are skipped before it are used. `End`
+/// Reads the next step after the header, and counts it as an event. Lines that are skipped before it are used. `End`
 /// comes exactly where only such lines are left.
 pub fn read_step<A: AppText, S: Source>(
     alloc: Global,

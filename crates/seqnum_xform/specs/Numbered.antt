@@ -5,7 +5,7 @@ use Rattle.std.specs.FinSet as set
 use Rattle.std.specs.FinSet.{FinSet}
 use Rattle.std.specs.Ordering.{nat_cmp}
 
--- the numbers seen of each sender, from sender 0 on; of a sender behind the last none was seen
+-- the numbers seen of each sender, from sender 0 on; of a sender after the last none was seen
 abbrev pub Seen : Type 0
 Seen = List (FinSet nat_cmp)
 

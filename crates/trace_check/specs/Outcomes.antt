@@ -22,7 +22,7 @@ check_fault line.End = fault.Memory
 check_fault line.Write = fault.Memory
 
 -- by what a check says of a whole text, and which line it refuses among the whole lines of one that broke off: the text was
--- read to its end and the verdict is this; or this line is refused; or a read failed behind a part of the text, of which no
+-- read to its end and the verdict is this; or this line is refused; or a read failed after a part of the text, of which no
 -- whole line is refused
 abbrev pub ComesTo : (List ℕ → Result Verdict (ℕ × Why)) → (List (List ℕ) → Option (ℕ × Why)) → List ℕ → Option (List ℕ) → Result Verdict CheckFault → Type 0
 ComesTo whole so_far bytes left' (Ok verdict) = (left' ≡ Some []) × (whole bytes ≡ Ok verdict)

@@ -105,7 +105,7 @@ module _ {C O : Type 0} where
       let n = replies_in (outputs_at 0 items) in
       is n had.replies ∙ (ap (take n) had.inputs ∙ take-map (λ c. step.In 0 c) n (inputs_at 0 items))
 
-  -- what clients see of one more step stands behind the trace before it
+  -- what clients see of one more step stands after the trace before it
   pub sees-step : {S M : Type 0} (m : Meaning S C (PbOut O) M) (s s' : Seen C) (ss : List (Step C)) (last : Step C) (more : List (Item C (PbOut O))) → ((items : List (Item C (PbOut O))) → HasSeen s items → HasSeen s' (items ++ more))
       → HasSeen s (trace m (no_recovery {S = S}) ss) → more ≡ items_of m (run m (no_recovery {S = S}) ss) last → HasSeen s' (trace m (no_recovery {S = S}) (ss ++ last ∷ []))
   sees-step {S} m s s' ss last more sees had e =

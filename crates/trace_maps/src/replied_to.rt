@@ -84,7 +84,7 @@ impl<I: Drop> RepliedTo<I> {
         Ok(())
     }
 
-    /// Clients saw these items behind what they saw before. After an `Err` the map is given up.
+    /// Clients saw these items after what they saw before. After an `Err` the map is given up.
     pub fn see<H: Handlers<Input = I>, O>(
         &mut self,
         alloc: Global,

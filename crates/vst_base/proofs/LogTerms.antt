@@ -1,4 +1,4 @@
--- The term at an index, and what stands behind one, by the entry that stands there.
+-- The term at an index, and what stands after one, by the entry that stands there.
 use Rattle.std.proofs.Common.{◌≡◌, ℕ, zero, suc, ◌<◌, List, [], ◌∷◌, length, drop, get_or, refl, sym, ap, arith, length-drop}
 use Rattle.vst_base.specs.declared.entry.Entry.{Entry}
 use Rattle.vst_base.specs.Logs.{term_at}

@@ -16,18 +16,18 @@ last_term log = term_at log (length log)
 abbrev pub matches : {C : Type 0} → List (Entry C) → ℕ → ℕ → Bool
 matches log prev prev_term = nat_le prev (length log) && term_at log prev == prev_term
 
--- what stands behind an index once a leader's entries came for it: the old entries are cut at the first that
+-- what stands after an index once a leader's entries came for it: the old entries are cut at the first that
 -- differs in term from the new one, and the new ones that are missing are added
 abbrev pub merged : {C : Type 0} → List (Entry C) → List (Entry C) → List (Entry C)
 merged old [] = old
 merged [] (e ∷ es) = e ∷ es
 merged (o ∷ os) (e ∷ es) = if o.term == e.term then o ∷ merged os es else e ∷ es
 
--- the log once a leader's entries came for behind the index prev
+-- the log once a leader's entries came for the places after the index prev
 abbrev pub accepted : {C : Type 0} → List (Entry C) → ℕ → List (Entry C) → List (Entry C)
 accepted log prev es = take prev log ++ merged (drop prev log) es
 
--- one of the entries that come for behind prev differs in term from the log's at an index up to commit
+-- one of the entries that come for the places after prev differs in term from the log's at an index up to commit
 abbrev pub has_conflict : {C : Type 0} → List (Entry C) → ℕ → ℕ → List (Entry C) → Bool
 has_conflict log commit prev [] = false
 has_conflict log commit prev (e ∷ es) =

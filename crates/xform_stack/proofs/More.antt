@@ -58,7 +58,7 @@ has_followed-more {S} m follows ss s v shows mapped = record {
   mapped = mapped;
 }
 
--- a map that follows what clients saw of a step behind the trace before it
+-- a map that follows what clients saw of a step after the trace before it
 pub followed-behind : {H S I O M T : Type 0} (meaning : H → Meaning S I O M) (follows : T → Meaning S I O M → List (Step I) → Type 0) (h h' : H) (map map' : T) (s : Step I) (items before after : List (Item I O)) (n : ℕ)
     → ((xs : List (Step I)) → follows map (meaning h) xs → drop n items ≡ items_of (meaning h) (run (meaning h) (no_recovery {S = S}) xs) s → follows map' (meaning h) (xs ++ s ∷ []))
     → h ≡ h' → items ≡ after → n ≡ length before
@@ -72,7 +72,7 @@ later-first : (n : ℕ) (why : StepRefusal) → later n (Some (0, why)) ≡ Some
 later-first zero why = refl
 later-first (suc n) why = ap (λ o. option_map (λ (p : ℕ × StepRefusal). (suc p.0, p.1)) o) (later-first n why)
 
--- a step that is refused behind steps that aren't is the first that is, whatever follows it
+-- a step that is refused after steps that aren't is the first that is, whatever follows it
 pub refused_next : {S K I O M G : Type 0} (sys : System S K I O M G) (ss ts : List (Step I)) (s : Step I) (y : RunFault)
     → first_refused sys.net sys.meaning sys.recovery ss ≡ None
     → IsRunAnswer {A = Unit {0}} (Err y) (refusal_of sys.net sys.meaning (run sys.meaning sys.recovery ss) s) (length ss)
