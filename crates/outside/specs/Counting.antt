@@ -1,6 +1,10 @@
 -- Counts of faults.
 use Rattle.std.specs.Prelude.{ℕ, ◌+◌, ◌-◌, ◌^◌, ◌≤◌, min}
 
--- a count rose in this call. A real counter stops at the greatest 64-bit number, and counts as risen there
+-- a count after one more, which stops at the greatest 64-bit number
+abbrev pub counted : ℕ → ℕ
+counted n = min (n + 1) (2 ^ 64 - 1)
+
+-- a count rose in this call. One that stands at the greatest 64-bit number counts as risen
 abbrev pub Rose : ℕ → ℕ → Type 0
-Rose before now = min (before + 1) (2 ^ 64 - 1) ≤ now
+Rose before now = counted before ≤ now

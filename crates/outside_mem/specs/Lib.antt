@@ -1,4 +1,3 @@
 pub mod Counts
-pub mod Devices
 pub mod Sinks
 pub mod Sources

@@ -2,7 +2,8 @@
 use Rattle.std.specs.Prelude.{◌≡◌, ℕ, min, true, false, List, ◌++◌, length, take}
 use Rattle.outside.specs.declared.sink.WriteOutcome.{WriteOutcome}
 use Rattle.outside.specs.declared.sink.WriteOutcome.TheVariants as write
-use Rattle.outside_mem.specs.Counts.{counted, is_due}
+use Rattle.outside.specs.Counting.{counted}
+use Rattle.outside_mem.specs.Counts.{is_due}
 
 pub record SinkState : Type 0 where
   pub written : List ℕ

@@ -2,7 +2,8 @@
 use Rattle.std.specs.Prelude.{ℕ, min, if◌then◌else◌, List, ◌++◌, length, take, drop}
 use Rattle.outside.specs.declared.source.ReadOutcome.{ReadOutcome}
 use Rattle.outside.specs.declared.source.ReadOutcome.TheVariants as read
-use Rattle.outside_mem.specs.Counts.{counted, is_due}
+use Rattle.outside.specs.Counting.{counted}
+use Rattle.outside_mem.specs.Counts.{is_due}
 
 pub record SourceState : Type 0 where
   pub left : List ℕ

@@ -1,5 +1,5 @@
 use super::*;
-use outside::{Address, Begun, Device, ReadOutcome, Sink, Source, WriteOutcome};
+use outside::{ReadOutcome, Sink, Source, WriteOutcome};
 use std::test::Fail;
 
 // What a read with room for four bytes comes to, and the room after it, which was filled with bars.
@@ -12,14 +12,6 @@ fn read_four<S: Source>(source: &mut S) -> (ReadOutcome, [u8; 4]) {
 // What the write of a piece comes to.
 fn write_piece<S: Sink>(sink: &mut S, piece: &[u8]) -> WriteOutcome {
     sink.write(piece)
-}
-
-fn begin_at<D: Device>(device: &mut D) -> Begun {
-    let at = Address {
-        ip: [127, 0, 0, 1],
-        port: 7000,
-    };
-    device.begin(at, "state")
 }
 
 #[test]
@@ -80,12 +72,4 @@ fn a_steady_sink_takes_whole_pieces(rt: HostRuntime) {
     }
     assert!(rt; sink.written() == b"hellohello".as_slice());
     assert!(rt; sink.wants() == 0);
-}
-
-#[test]
-fn a_device_counts_each_failure_to_begin(rt: HostRuntime) {
-    let mut device = MemoryDevice::new();
-    assert!(rt; begin_at(&mut device) == Begun::Failed);
-    assert!(rt; begin_at(&mut device) == Begun::Failed);
-    assert!(rt; device.begin_faults() == 2);
 }

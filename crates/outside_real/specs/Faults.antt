@@ -1,13 +1,10 @@
--- Counts of faults, which stop at the greatest 64-bit number.
-use Rattle.std.specs.Prelude.{ℕ, ◌+◌, ◌-◌, ◌^◌, min}
+-- Counts of faults after a read or a write.
+use Rattle.std.specs.Prelude.{ℕ}
+use Rattle.outside.specs.Counting.{counted}
 use Rattle.outside.specs.declared.source.ReadOutcome.{ReadOutcome}
 use Rattle.outside.specs.declared.source.ReadOutcome.TheVariants as read
 use Rattle.outside.specs.declared.sink.WriteOutcome.{WriteOutcome}
 use Rattle.outside.specs.declared.sink.WriteOutcome.TheVariants as write
-
--- a count after one more
-abbrev pub counted : ℕ → ℕ
-counted n = min (n + 1) (2 ^ 64 - 1)
 
 -- a source's faults after a read that came to this
 abbrev pub after_read : ℕ → ReadOutcome → ℕ

@@ -1,7 +1,7 @@
 ghost use Rattle.std.specs.Prelude.{◌≡◌, IfOk};
 
 use super::*;
-use outside::{Address, Begun, Device, ReadOutcome, Sink, Source, WriteOutcome};
+use outside::{ReadOutcome, Sink, Source, WriteOutcome};
 use std::io::{self, ErrorKind, Read, Write};
 
 // A stream that does nothing but fail, or take nothing.
@@ -46,14 +46,6 @@ fn write_once<S: Sink>(sink: &mut S, piece: &[u8]) -> WriteOutcome {
     sink.write(piece)
 }
 
-fn begin_once<D: Device>(device: &mut D) -> Begun {
-    let at = Address {
-        ip: [127, 0, 0, 1],
-        port: 7000,
-    };
-    device.begin(at, "state")
-}
-
 #[test]
 fn each_error_is_a_fault(rt: HostRuntime) {
     let mut source = ReaderSource::new(Broken { fails: true });
@@ -63,9 +55,6 @@ fn each_error_is_a_fault(rt: HostRuntime) {
     let mut sink = WriterSink::new(Broken { fails: true });
     assert_eq!(rt; write_once(&mut sink, b"a"), WriteOutcome::Failed);
     assert_eq!(rt; sink.faults(), 1);
-    let mut device = RealDevice::new();
-    assert_eq!(rt; begin_once(&mut device), Begun::Failed);
-    assert_eq!(rt; device.begin_faults(), 1);
 }
 
 #[test]

@@ -31,8 +31,8 @@ pub fn stacks_explain()
     headers_follow_the_rows();
 }
 
-/// What stands below a trace of a machine under primary-backup can itself be replayed: the machine alone takes any commands, and its
-/// trace is each of them with the machine's answer after it.
+/// What stands below a trace of a machine under primary-backup can itself be replayed: the machine alone takes any commands, its
+/// trace is each of them with the machine's answer after it, and these answers are the replies that clients saw.
 pub fn machine_takes_images()
     ensures { (i : StackId) → IfFound (kind_at (row_of i).net i) TakesImages }
 {}

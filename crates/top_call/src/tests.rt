@@ -1,5 +1,6 @@
 use crate::run;
-use outside_mem::{MemoryDevice, MemorySink, MemorySource};
+use outside::NoDevice;
+use outside_mem::{MemorySink, MemorySource};
 use std::alloc::{AllocError, Global};
 use std::test::Fail;
 
@@ -35,7 +36,7 @@ pub(super) fn run_over(
     mut err: MemorySink,
 ) -> Result<Ran, AllocError> {
     let words = owned(alloc, words)?;
-    let mut device = MemoryDevice::new();
+    let mut device = NoDevice::new();
     let status = run(alloc, &words, &mut source, &mut out, &mut err, &mut device);
     Ok(Ran {
         status,

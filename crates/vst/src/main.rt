@@ -2,8 +2,8 @@
 //! and ends with its status.
 #![tactic(auto)]
 
-use outside::{WriteFault, write_all};
-use outside_real::{ReaderSource, RealDevice, WriterSink};
+use outside::{NoDevice, WriteFault, write_all};
+use outside_real::{ReaderSource, WriterSink};
 use std::env;
 use std::io::{self, ErrorKind};
 use std::process::ExitCode;
@@ -32,7 +32,7 @@ fn main(rt: HostRuntime) -> ExitCode {
     };
     let mut input = ReaderSource::new(rt.stdin());
     let mut out = WriterSink::new(rt.stdout());
-    let mut device = RealDevice::new();
+    let mut device = NoDevice::new();
     let status = run(
         rt.alloc(),
         &words,

@@ -1,30 +1,30 @@
 ghost use Rattle.std.specs.Prelude.{◌≡◌, false, ◌≤◌};
+ghost use Rattle.outside.specs.Counting.{counted};
 ghost use Rattle.outside.specs.Devices.{Begins};
-ghost use Rattle.outside_real.specs.Faults.{counted};
 
-use outside::{Address, Begun, Device};
+use crate::{Address, Begun, Device};
 use std::marker::Model;
 
-/// The device of a real node. It cannot begin yet: each try fails, and is counted.
+/// A device on which no node can begin: each try fails, and is counted.
 #[derive(Drop)]
-pub struct RealDevice {
+pub struct NoDevice {
     begin_faults: u64,
 }
 
-impl Model for RealDevice {
-    ghost use Rattle.outside_real.specs.Devices.{DeviceCounts};
+impl Model for NoDevice {
+    ghost use Rattle.outside.specs.Devices.{DeviceCounts};
 
     ghost Value = { DeviceCounts };
 
     ghost view = { λ device. record { begin_faults = device.begin_faults } };
 }
 
-impl RealDevice {
+impl NoDevice {
     /// A device on which nothing was tried.
     pub fn new() -> Self
         ensures { result.begin_faults ≡ 0 }
     {
-        RealDevice { begin_faults: 0 }
+        NoDevice { begin_faults: 0 }
     }
 
     /// How often beginning has failed. It stops at the greatest `u64`.
@@ -35,7 +35,7 @@ impl RealDevice {
     }
 }
 
-impl Device for RealDevice {
+impl Device for NoDevice {
     ghost begun = { λ _. false };
 
     ghost begin_faults = { λ device. device.begin_faults };
