@@ -12,7 +12,7 @@ pub fn worked()
     ensures first_header { stack_in (codes "# two nodes\nschedule 1 bag lock 2\nschedule 1 one kv 1\n") ≡ Some stack.Lock }
     ensures last_line { stack_in (codes "schedule 1 fail kv/raft 3") ≡ Some stack.KvRaft }
     ensures no_header { stack_in (codes "in 1 lock\nschedule 1 bag lock 2\n") ≡ None }
-    ensures no_such_stack { stack_in (codes "schedule 1 one table 1\n") ≡ None }
+    ensures no_such_stack { stack_in (codes "schedule 1 one tables 1\n") ≡ None }
     ensures nothing { stack_in [] ≡ None }
     ensures few_lines { IsWithinLimits stack.KvRaft (codes "in 2 7 1 put a x\nout 2 notleader 7 1\nbelow\n") }
     ensures any_lines { (out : List ℕ) → IsWithinLimits stack.Lock out }
@@ -20,6 +20,7 @@ pub fn worked()
     ensures too_many_lines { (out : List ℕ) → length (lines_of out) ≡ 8000001 → IsWithinLimits stack.KvRaft out → ⊥ }
     ensures lock { checked stack.Lock (replayed (codes "schedule 1 bag lock 2\nin 1 lock\ndeliver 0\ndeliver 1\n")).out ≡ Ok Yes }
     ensures copied { checked stack.LockSeq (replayed (codes "schedule 1 dup lock/seq 2\nin 1 lock\ndup 0\n")).out ≡ Ok Yes }
+    ensures held { checked stack.Table (replayed (codes "schedule 1 one table 1\nin 0 acquire l bob\nin 0 release l al\n")).out ≡ Ok Yes }
     ensures nothing_happens { checked stack.KvRaft (replayed (codes "schedule 1 fail kv/raft 3\n")).out ≡ Ok Yes }
     ensures refused_step { checked stack.Lock (replayed (codes "schedule 1 bag lock 2\nin 1 lock\ndeliver 7\n")).out ≡ Err (2, Header) }
     ensures another_stack { checked stack.Kv (replayed (codes "schedule 1 bag lock 2\n")).out ≡ Err (2, Header) }

@@ -43,6 +43,9 @@ pub fn worked()
     ensures check_kv_pb_seq { command_of (codes "vst" ∷ codes "check" ∷ codes "--stack" ∷ codes "kv/pb/seq" ∷ []) ≡ Some (Command.Check StackId.KvPbSeq) }
     ensures check_kv_raft { command_of (codes "vst" ∷ codes "check" ∷ codes "--stack" ∷ codes "kv/raft" ∷ []) ≡ Some (Command.Check StackId.KvRaft) }
     ensures check_kv { command_of (codes "vst" ∷ codes "check" ∷ codes "--stack" ∷ codes "kv" ∷ []) ≡ Some (Command.Check StackId.Kv) }
+    ensures check_table { command_of (codes "vst" ∷ codes "check" ∷ codes "--stack" ∷ codes "table" ∷ []) ≡ Some (Command.Check StackId.Table) }
+    ensures check_table_pb_seq { command_of (codes "vst" ∷ codes "check" ∷ codes "--stack" ∷ codes "table/pb/seq" ∷ []) ≡ Some (Command.Check StackId.TablePbSeq) }
+    ensures check_table_raft { command_of (codes "vst" ∷ codes "check" ∷ codes "--stack" ∷ codes "table/raft" ∷ []) ≡ Some (Command.Check StackId.TableRaft) }
     ensures attached { command_of (codes "vst" ∷ codes "check" ∷ codes "--stack=lock" ∷ []) ≡ Some (Command.Check StackId.Lock) }
     ensures check_end_of_options { command_of (codes "vst" ∷ codes "check" ∷ codes "--stack" ∷ codes "lock" ∷ codes "--" ∷ []) ≡ Some (Command.Check StackId.Lock) }
     ensures check_taken { takes_words (codes "vst" ∷ codes "check" ∷ codes "--stack" ∷ codes "lock" ∷ []) ≡ true }
@@ -60,9 +63,6 @@ pub fn worked()
     // No stack of these words.
     ensures unknown_stack { command_of (codes "vst" ∷ codes "check" ∷ codes "--stack" ∷ codes "frob" ∷ []) ≡ None }
     ensures empty_stack { command_of (codes "vst" ∷ codes "check" ∷ codes "--stack" ∷ codes "" ∷ []) ≡ None }
-    ensures table { command_of (codes "vst" ∷ codes "check" ∷ codes "--stack" ∷ codes "table" ∷ []) ≡ None }
-    ensures table_pb_seq { command_of (codes "vst" ∷ codes "check" ∷ codes "--stack" ∷ codes "table/pb/seq" ∷ []) ≡ None }
-    ensures table_raft { command_of (codes "vst" ∷ codes "check" ∷ codes "--stack" ∷ codes "table/raft" ∷ []) ≡ None }
     ensures stack_cut_short { command_of (codes "vst" ∷ codes "check" ∷ codes "--stack" ∷ codes "lock/" ∷ []) ≡ None }
     ensures stack_too_long { command_of (codes "vst" ∷ codes "check" ∷ codes "--stack" ∷ codes "kv/" ∷ []) ≡ None }
     ensures stack_upper_case { command_of (codes "vst" ∷ codes "check" ∷ codes "--stack" ∷ codes "Lock" ∷ []) ≡ None }

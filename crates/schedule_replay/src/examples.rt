@@ -61,6 +61,10 @@ pub fn worked()
     ensures at_once { (replayed (codes "schedule 1 one kv 1\nin 0 cas a - x\nin 0 cas a =y z\nin 0 cad a x\nin 0 del a\n")).out
         ≡ codes "in 0 cas a - x\nout 0 a =x -\nin 0 cas a =y z\nout 0 a =x =x\nin 0 cad a x\nout 0 a - =x\nin 0 del a\nout 0 a - -\nbelow\nschedule 1 one kv 1\nin 0 cas a - x\nin 0 cas a =y z\nin 0 cad a x\nin 0 del a\n" }
     ensures one_node_alone { (replayed (codes "schedule 1 one kv 1\nin 1 get a\n")).refused ≡ Some (2, NoSuchNode) }
+    ensures a_table_at_once { (replayed (codes "schedule 1 one table 1\nin 0 acquire l bob\nin 0 acquire l al\nin 0 holder m\n")).out
+        ≡ codes "in 0 acquire l bob\nout 0 l =bob yes\nin 0 acquire l al\nout 0 l =bob no\nin 0 holder m\nout 0 m - no\nbelow\nschedule 1 one table 1\nin 0 acquire l bob\nin 0 acquire l al\nin 0 holder m\n" }
+    ensures a_table_acknowledged { (replayed (codes "schedule 1 dup table/pb/seq 2\nin 0 acquire l bob\ndeliver 0\ndeliver 1\n")).out
+        ≡ codes "in 0 acquire l bob\nout 0 l =bob yes\nbelow\nschedule 1 one table 1\nin 0 acquire l bob\n" }
     ensures no_key_value_machine_on_a_bag { (replayed (codes "schedule 1 bag kv 1\n")).refused ≡ Some (1, Header) }
 
     // A cluster of one node answers at once, and its order is what it executed. A number that comes again is answered as it was,
@@ -71,6 +75,8 @@ pub fn worked()
         ≡ record { events = 2; inputs = 1; outputs = 1; replies = 1; image = 1 } }
     ensures asked_again { (replayed (codes "schedule 1 fail kv/raft 1\ntick 0\nin 0 7 1 put a x\ncrash 0\nreboot 0\ntick 0\nin 0 7 1 put a y\n")).out
         ≡ codes "in 0 7 1 put a x\nout 0 reply 7 1 a =x -\nout 0 reply 7 1 a =x -\nin 0 7 1 put a y\nout 0 reply 7 1 a =x -\nbelow\norder 7 1 put a x\n" }
+    ensures a_table_on_a_cluster { (replayed (codes "schedule 1 fail table/raft 1\ntick 0\nin 0 1 0 acquire l bob\nin 0 1 1 acquire l al\nin 0 1 2 release l bob\nin 0 1 3 holder l\n")).out
+        ≡ codes "in 0 1 0 acquire l bob\nout 0 reply 1 0 l =bob yes\nin 0 1 1 acquire l al\nout 0 reply 1 1 l =bob no\nin 0 1 2 release l bob\nout 0 reply 1 2 l - yes\nin 0 1 3 holder l\nout 0 reply 1 3 l - no\nbelow\norder 1 0 acquire l bob\norder 1 1 acquire l al\norder 1 2 release l bob\norder 1 3 holder l\n" }
     ensures a_vote_outlives_a_reboot { (replayed (codes "schedule 1 fail kv/raft 3\ntick 0\ndeliver 0\ncrash 1\nreboot 1\ntick 2\ndeliver 4\ndeliver 5\nin 2 7 1 put a x\n")).out
         ≡ codes "in 2 7 1 put a x\nout 2 notleader 7 1\nbelow\n" }
     ensures redirected_requests_are_no_replies { (replayed (codes "schedule 1 fail kv/raft 2\nin 1 7 1 get a\n")).counts ≡ record { events = 1; inputs = 1; outputs = 1; replies = 0; image = 0 } }
@@ -95,6 +101,10 @@ pub fn worked_replays()
     ensures not_silent { ¬ IsReplay (codes "schedule 1 bag lock 2\nin 1 lock\ndeliver 0\ndeliver 1\n") (codes "below\nschedule 1 bag lock 2\nin 1 lock\ndeliver 0\ndeliver 1\n") }
     ensures not_another_image { ¬ IsReplay (codes "schedule 1 bag lock 2\n") (codes "below\nschedule 1 bag lock 3\n") }
     ensures not_without_an_image { ¬ IsReplay (codes "schedule 1 bag lock 2\n") [] }
+    ensures at_once { IsReplay (codes "schedule 1 one kv 1\nin 0 put a x\n") (codes "in 0 put a x\nout 0 a =x -\nbelow\nschedule 1 one kv 1\nin 0 put a x\n") }
+    ensures not_another_answer { ¬ IsReplay (codes "schedule 1 one kv 1\nin 0 put a x\n") (codes "in 0 put a x\nout 0 a =y -\nbelow\nschedule 1 one kv 1\nin 0 put a x\n") }
+    ensures acknowledged { IsReplay (codes "schedule 1 dup kv/pb/seq 2\nin 0 put a x\ndup 0\ndeliver 0\ndeliver 1\n") (codes "in 0 put a x\nout 0 a =x -\nbelow\nschedule 1 one kv 1\nin 0 put a x\n") }
+    ensures not_without_its_command { ¬ IsReplay (codes "schedule 1 dup kv/pb/seq 2\nin 0 put a x\ndup 0\ndeliver 0\ndeliver 1\n") (codes "in 0 put a x\nout 0 a =x -\nbelow\nschedule 1 one kv 1\n") }
     ensures not_of_a_refused_step { (text : List ℕ) → ¬ IsReplay (codes "schedule 1 bag lock 2\nin 1 lock\ndeliver 7\n") text }
     ensures not_of_a_refused_line { (text : List ℕ) → ¬ IsReplay (codes "schedule 1 bag lock 2\nin 1 grab\n") text }
     ensures not_of_another_header { (text : List ℕ) → ¬ IsReplay (codes "schedule 1 bag kv/raft 1\n") text }

@@ -52,6 +52,10 @@ pub fn worked_headers()
     ensures beyond_cluster { (header_of (codes "schedule 1 fail kv/raft 0") ≡ None) × (header_of (codes "schedule 1 fail kv/raft 10") ≡ None) }
     ensures cluster_leading_zero { header_of (codes "schedule 1 fail kv/raft 03") ≡ None }
     ensures cluster_elsewhere { (header_of (codes "schedule 1 dup kv/raft 3") ≡ None) × (header_of (codes "schedule 1 bag kv/raft 3") ≡ None) }
+    ensures table_alone { header_of (codes "schedule 1 one table 1") ≡ Some (record { net = Net.One; stack = StackId.Table; nodes = 1 }) }
+    ensures table_backed { header_of (codes "schedule 1 dup table/pb/seq 2") ≡ Some (record { net = Net.Dup; stack = StackId.TablePbSeq; nodes = 2 }) }
+    ensures table_cluster { header_of (codes "schedule 1 fail table/raft 9") ≡ Some (record { net = Net.Fail; stack = StackId.TableRaft; nodes = 9 }) }
+    ensures table_elsewhere { (header_of (codes "schedule 1 bag table/pb/seq 2") ≡ None) × (header_of (codes "schedule 1 bag table/pb 2") ≡ None) }
     ensures other_stacks_failing { (header_of (codes "schedule 1 fail kv/pb 2") ≡ None) × (header_of (codes "schedule 1 fail kv 1") ≡ None) }
     ensures text { header_text (record { net = Net.Bag; stack = StackId.Lock; nodes = 2 }) ≡ codes "schedule 1 bag lock 2" }
     ensures numbered_text { header_text (record { net = Net.Dup; stack = StackId.LockSeq; nodes = 9 }) ≡ codes "schedule 1 dup lock/seq 9" }

@@ -8,6 +8,8 @@ use vst_base::StackId;
 pub fn worked_backups()
     ensures acknowledged { checked StackId.KvPb (codes "in 0 put a x\nin 0 get a\nout 0 a =x -\nbelow\nschedule 1 one kv 1\nin 0 put a x\n") ≡ Ok Verdict.Yes }
     ensures redirected { checked StackId.KvPbSeq (codes "in 0 put a x\nout 0 a =x -\nin 1 get a\nout 1 redirect\nbelow\nschedule 1 one kv 1\nin 0 put a x\n") ≡ Ok Verdict.Yes }
+    ensures a_table { checked StackId.TablePbSeq (codes "in 0 acquire l bob\nout 0 l =bob yes\nbelow\nschedule 1 one table 1\nin 0 acquire l bob\n") ≡ Ok Verdict.Yes }
+    ensures a_table_answers_another { checked StackId.TablePbSeq (codes "in 0 acquire l bob\nout 0 l - no\nbelow\nschedule 1 one table 1\nin 0 acquire l bob\n") ≡ Ok (Verdict.No 7 2) }
     ensures command_missing { checked StackId.KvPb (codes "in 0 get a\nout 0 a - -\nbelow\nschedule 1 one kv 1\n") ≡ Ok (Verdict.No 6 5) }
     ensures command_over { checked StackId.KvPb (codes "in 0 get a\nbelow\nschedule 1 one kv 1\nin 0 get a\n") ≡ Ok (Verdict.No 6 4) }
     ensures another_command { checked StackId.KvPb (codes "in 0 get a\nout 0 a - -\nbelow\nschedule 1 one kv 1\nin 0 get b\n") ≡ Ok (Verdict.No 6 5) }
