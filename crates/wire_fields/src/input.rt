@@ -1,4 +1,4 @@
-ghost use Rattle.std.specs.Prelude.{◌≡◌, ◌≤◌, IfSome, IsTrue};
+ghost use Rattle.std.specs.Prelude.{◌≡◌, ◌≤◌, [], ◌∷◌, IfSome, IsTrue, MatchOption};
 ghost use Rattle.std.specs.Option.{option_copied, option_map};
 ghost use Rattle.vst_base.specs.Tokens.{is_key, is_token, is_value};
 ghost use Rattle.wire_fields.specs.Fields.{Reads, flag, key, name, number, optional, token_of_length, value};
@@ -36,6 +36,19 @@ impl<'a> Input<'a> {
         ensures { result.now ≡ self.now }
     {
         self.rest
+    }
+
+    /// The next byte. `None` comes exactly where none is left.
+    pub fn byte(&mut self) -> Option<u8>
+        ensures { MatchOption result (self.old ≡ []) (λ b. self.old ≡ b ∷ self.new) }
+    {
+        match self.rest {
+            [byte, rest @ ..] => {
+                self.rest = rest;
+                Some(*byte)
+            }
+            [] => None,
+        }
     }
 
     /// A number of one byte, from `low` to `high`. `None` comes exactly where no byte is left or the number is out
