@@ -23,3 +23,7 @@ returns-clause-another_output c = simp lookups
 pub returns-clause-answered_twice : goal.returns-clause-answered_twice
 unfolding digits
 returns-clause-answered_twice c = simp lookups
+
+pub returns-clause-a_table : goal.returns-clause-a_table
+unfolding digits
+returns-clause-a_table c = simp lookups

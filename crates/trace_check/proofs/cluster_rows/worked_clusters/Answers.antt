@@ -30,3 +30,11 @@ returns-clause-put_in_again_later c = simp lookups
 pub returns-clause-put_in_before_with_another_command : goal.returns-clause-put_in_before_with_another_command
 unfolding digits
 returns-clause-put_in_before_with_another_command c = simp lookups
+
+pub returns-clause-a_table : goal.returns-clause-a_table
+unfolding digits
+returns-clause-a_table c = simp lookups
+
+pub returns-clause-both_told_yes : goal.returns-clause-both_told_yes
+unfolding digits
+returns-clause-both_told_yes c = simp lookups
