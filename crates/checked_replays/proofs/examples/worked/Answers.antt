@@ -1,6 +1,7 @@
 -- These print numbers, whose digits have to be computed.
 use Rattle.std.proofs.Common.{refl, arith}
 use Rattle.std.specs.Fmt.{digits}
+use Rattle.claim_verdicts.proofs.Lookups.{lookups}
 use Rattle.checked_replays.proofs.examples.worked.Goals as goal
 
 pub returns-clause-few_lines : goal.returns-clause-few_lines
@@ -34,3 +35,7 @@ returns-clause-refused_step c = refl
 pub returns-clause-another_stack : goal.returns-clause-another_stack
 unfolding digits
 returns-clause-another_stack c = refl
+
+pub returns-clause-held : goal.returns-clause-held
+unfolding digits
+returns-clause-held c = simp lookups
