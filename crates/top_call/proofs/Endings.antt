@@ -1,11 +1,10 @@
 -- How a run ends where a line is refused.
-use Rattle.std.specs.Prelude.{◌≡◌, ◌⊎◌, ℕ, ◌+◌, ◌-◌, ◌≤◌, List, [], ◌++◌, length, take, Option, Some, None, Result, Ok, Err, IfSome}
+use Rattle.std.specs.Prelude.{◌≡◌, ℕ, ◌+◌, ◌≤◌, List, [], ◌++◌, length, Option, Some, None, Result, Ok, Err, IfSome}
 use Rattle.std.proofs.Common.{ap, ◌∙◌, append-nil, arith, refl, subst, sym}
 use Rattle.std.proofs.Math.Seq.{take-length}
 use Rattle.outside.specs.Wholes.{Gained, GainedFront, Gave}
 use Rattle.line_reader.specs.Lines.{decided}
 use Rattle.line_reader.specs.declared.why.Why.{Why}
-use Rattle.schedule_text.specs.Printing.{refusal_line}
 use Rattle.schedule_replay.specs.declared.fault.ReplayFault.TheVariants as fault
 use Rattle.schedule_replay.specs.Outcomes.{ComesTo}
 use Rattle.schedule_replay.specs.Replays.{replayed, replayed_so_far}
@@ -16,9 +15,9 @@ use Rattle.stacks.specs.Checks.{checked}
 use Rattle.trace_check.specs.Outcomes.{LooksAhead}
 use Rattle.trace_check.specs.declared.fault.CheckFault.TheVariants as claim
 use Rattle.command_line.specs.declared.command.Command.TheVariants as command
-use Rattle.top_call.specs.Answers.{Answer, answer_of, answer_to_claim, permitted_line, refusal_status, refusal_text}
-use Rattle.top_call.specs.Complaints.{Complains, HasCause, Told}
-use Rattle.top_call.specs.Seen.{IsQuiet, Run}
+use Rattle.top_call.specs.Answers.{answer_to_claim, permitted_line, refusal_status, refusal_text}
+use Rattle.top_call.specs.Complaints.{HasCause, Told}
+use Rattle.top_call.specs.Seen.{Run}
 use Rattle.top_call.specs.Statuses.{IsLineRefused, WroteFront}
 use Rattle.top_call.specs.declared.complaint.Complaint.TheVariants as complaint
 use Rattle.top_call.proofs.Complained.{told-whole}

@@ -4,7 +4,7 @@ use Rattle.outside.specs.Counting.{Rose}
 use Rattle.outside.specs.Wholes.{Gained, GainedFront}
 use Rattle.schedule_text.specs.Printing.{refusal_line}
 use Rattle.command_line.specs.declared.command.Command.{Command}
-use Rattle.top_call.specs.Answers.{Answer, answer_by, condition_line, is_check, memory_line, read_failed_line, reads, usage_line}
+use Rattle.top_call.specs.Answers.{Answer, condition_line, is_check, memory_line, read_failed_line, reads, usage_line}
 use Rattle.top_call.specs.Runs.{IfAnswered}
 use Rattle.top_call.specs.Seen.{CountsNothing, Run, SinkSeen}
 use Rattle.top_call.specs.declared.complaint.Complaint.{Complaint}

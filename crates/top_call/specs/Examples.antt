@@ -1,6 +1,6 @@
 -- Runs for worked rows: over an input, and an output and an error stream that were empty, all of which tell what they hold.
-use Rattle.std.specs.Prelude.{ℕ, List, [], Option, Some}
-use Rattle.top_call.specs.Seen.{Run, Seen, SinkSeen, SourceSeen}
+use Rattle.std.specs.Prelude.{ℕ, List, [], Some}
+use Rattle.top_call.specs.Seen.{Run, SinkSeen, SourceSeen}
 
 abbrev pub quiet_source : List ℕ → SourceSeen
 quiet_source left = record { left = Some left; faults = 0 }

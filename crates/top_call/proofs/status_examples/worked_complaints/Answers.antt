@@ -1,5 +1,5 @@
 -- These print numbers, whose digits have to be computed.
-use Rattle.std.proofs.Common.{arith, codes, refl, sym, ◌∙◌, ap, ◌≡◌, ℕ, List, Some, []}
+use Rattle.std.proofs.Common.{arith, codes, refl, sym, ◌∙◌, ap, ◌≡◌, Some, []}
 use Rattle.std.specs.Prelude.{slice_index}
 use Rattle.std.specs.Fmt.{digits}
 use Rattle.line_reader.specs.declared.why.Why.TheVariants as why
