@@ -30,7 +30,18 @@ Before the rounds of `kv/raft`, on three nodes, node 0 is elected, and both othe
     deliver k + 1    node 2 takes it: packet k + 3 goes back
     deliver k + 2    the leader commits the entry, applies it and replies
     deliver k + 3    nothing more
+
+A recovery is that of a cluster of one node which stops and starts again: it leads once more, and by the tick it applies its whole
+log and replies for each entry of it, in one event:
+
+    tick 0
+    in 0 7 r put ..  for each request
+    crash 0
+    reboot 0
+    tick 0
+    in 0 7 r get ..
 """
+import functools
 import itertools
 import os
 import subprocess
@@ -39,6 +50,7 @@ import tempfile
 import time
 
 SIZES = (100_000, 1_000_000)
+RECOVERIES = (40_000, 400_000)
 RUNS = 3
 
 
@@ -56,7 +68,7 @@ def lock_round(turn, packet):
 
 
 def copied_round(turn, packet):
-    """The same, with a copy of the first packet that comes behind the answer."""
+    """The same, with a copy of the first packet that comes after the answer."""
     asked, taken, *rest = lock_round(turn, packet)
     return (asked, (f"dup {packet}", 0, None), taken, (f"deliver {packet}", 0, None), *rest)
 
@@ -129,7 +141,7 @@ def endless(opening, one_round, packets):
         yield from one_round(turn, first + turn * packets)
 
 
-def write_schedule(path, image, stack, count):
+def write_schedule(path, image, count, stack):
     """Writes the schedule and its image, and returns how many lines its trace has."""
     header, below, opening, one_round, packets = STACKS[stack]
     trace = 0
@@ -143,6 +155,18 @@ def write_schedule(path, image, stack, count):
             if stays:
                 kept.write(stays + "\n")
     return trace
+
+
+def write_recovery(path, image, count):
+    """Writes the schedule of a recovery after so many requests and its order, and returns how many lines its trace has."""
+    requests = [f"7 {turn + 1} put key-{turn % 1000} value-{turn}" for turn in range(count)]
+    last = f"7 {count + 1} get key-0"
+    steps = ["tick 0", *(f"in 0 {request}" for request in requests), "crash 0", "reboot 0", "tick 0", f"in 0 {last}"]
+    with open(path, "w", encoding="ascii", newline="\n") as out:
+        out.writelines(line + "\n" for line in ["schedule 1 fail kv/raft 1", *steps])
+    with open(image, "w", encoding="ascii", newline="\n") as kept:
+        kept.writelines(f"order {request}\n" for request in [*requests, last])
+    return 3 * count + 2
 
 
 def run_once(program, text, answer, *words):
@@ -195,19 +219,19 @@ def measure_growth(program, name, sizes, unit, prepare, text, answer, words, wro
     return True
 
 
-def measure(program, stack):
-    """Measures the replay of a stack."""
+def measure(program, name, sizes, unit, write):
+    """Measures the replay of the schedules that `write` writes, with their images, of these sizes."""
     with tempfile.TemporaryDirectory() as room:
         schedule, image, answer = (os.path.join(room, name) for name in ("schedule", "image", "answer"))
         trace = 0
 
         def prepare(count):
             nonlocal trace
-            trace = write_schedule(schedule, image, stack, count)
+            trace = write(schedule, image, count)
             return count
 
         return measure_growth(
-            program, stack, SIZES, "events", prepare, schedule, answer, ["replay"], lambda status: what_is_wrong(status, image, answer, trace)
+            program, name, sizes, unit, prepare, schedule, answer, ["replay"], lambda status: what_is_wrong(status, image, answer, trace)
         )
 
 
@@ -216,7 +240,9 @@ def main(words):
     if not os.access(program, os.X_OK):
         print(f"no program at {program}: build it first, as the README says")
         return 2
-    return 0 if all([measure(program, stack) for stack in STACKS]) else 1
+    right = [measure(program, stack, SIZES, "events", functools.partial(write_schedule, stack=stack)) for stack in STACKS]
+    right.append(measure(program, "recovery", RECOVERIES, "requests", write_recovery))
+    return 0 if all(right) else 1
 
 
 if __name__ == "__main__":

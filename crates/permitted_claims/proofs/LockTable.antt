@@ -18,7 +18,7 @@ use Rattle.permitted_claims.specs.Spelled.{IsSpelledMachine, most_bytes}
 use Rattle.permitted_claims.proofs.Eaches.{IfThere, either}
 use Rattle.permitted_claims.proofs.Machines.{AreShortTexts, MachineKeeps, machine-spelled}
 use Rattle.permitted_claims.proofs.Maps.{EachValue, each-empty, each-insert, each-remove}
-use Rattle.permitted_claims.proofs.Words.{joined-length, optional-length, token-length}
+use Rattle.permitted_claims.proofs.Words.{joined-length, optional-length, optional-token, token-length}
 
 abbrev IsCommand : TableCmd → Type 0
 IsCommand c = IsTrue (is_command c)
@@ -33,16 +33,12 @@ IsOwner o = is_key o ≡ true
 abbrev IsTextTable : Holders → Type 0
 IsTextTable m = EachValue (slice_cmp nat_cmp) IsOwner m
 
-optional-owner : (o : Option (List ℕ)) → IfThere IsOwner o → is_optional 64 o ≡ true
-optional-owner None has = refl
-optional-owner (Some v) has = has
-
 record IsTextChange (c : Change) : Type 0 where
   held : IsTextTable c.0
   output : is_output c.1 ≡ true
 
 answers-text : (m : Holders) (l : List ℕ) (answer : Bool) → IsTextTable m → is_key l ≡ true → IsTextChange (answers m l answer)
-answers-text m l answer sound key = record { held = sound; output = and_from _ _ key (optional-owner (get m l) (sound l)) }
+answers-text m l answer sound key = record { held = sound; output = and_from _ _ key (optional-token 64 (get m l) (sound l)) }
 
 applied : (m : Holders) (c : TableCmd) → IsTextTable m → is_command c ≡ true → IsTextChange (apply m c)
 applied m (Acquire l o) sound has =

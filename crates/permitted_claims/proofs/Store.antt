@@ -18,7 +18,7 @@ use Rattle.permitted_claims.specs.Spelled.{IsSpelledMachine, most_bytes}
 use Rattle.permitted_claims.proofs.Eaches.{IfThere, either}
 use Rattle.permitted_claims.proofs.Machines.{AreShortTexts, MachineKeeps, machine-spelled}
 use Rattle.permitted_claims.proofs.Maps.{EachValue, each-empty, each-insert, each-remove}
-use Rattle.permitted_claims.proofs.Words.{joined-length, optional-length, token-length}
+use Rattle.permitted_claims.proofs.Words.{joined-length, optional-length, optional-token, token-length}
 
 abbrev IsCommand : KvCmd → Type 0
 IsCommand c = IsTrue (is_command c)
@@ -33,28 +33,24 @@ IsValue v = is_value v ≡ true
 abbrev IsTextStore : Store → Type 0
 IsTextStore m = EachValue (slice_cmp nat_cmp) IsValue m
 
-optional-value : (o : Option (List ℕ)) → IfThere IsValue o → is_optional 1024 o ≡ true
-optional-value None has = refl
-optional-value (Some v) has = has
-
 record IsTextChange (c : Change) : Type 0 where
   store : IsTextStore c.0
   output : is_output c.1 ≡ true
 
 module _ (m : Store) (sound : IsTextStore m) (k : List ℕ) (key : is_key k ≡ true) where
   keeps-text : IsTextChange (keeps m k)
-  keeps-text = record { store = sound; output = and_from _ _ key (and_from _ _ (optional-value (get m k) (sound k)) (optional-value (get m k) (sound k))) }
+  keeps-text = record { store = sound; output = and_from _ _ key (and_from _ _ (optional-token 1024 (get m k) (sound k)) (optional-token 1024 (get m k) (sound k))) }
 
   sets-text : (v : List ℕ) → is_value v ≡ true → IsTextChange (sets m k v)
   sets-text v value = record {
     store = each-insert (slice_cmp nat_cmp) IsValue nat_list_cmp_total m sound k v value;
-    output = and_from _ _ key (and_from _ _ value (optional-value (get m k) (sound k)));
+    output = and_from _ _ key (and_from _ _ value (optional-token 1024 (get m k) (sound k)));
   }
 
   removes-text : IsTextChange (removes m k)
   removes-text = record {
     store = each-remove (slice_cmp nat_cmp) IsValue nat_list_cmp_total m sound k;
-    output = and_from _ _ key (and_from _ _ refl (optional-value (get m k) (sound k)));
+    output = and_from _ _ key (and_from _ _ refl (optional-token 1024 (get m k) (sound k)));
   }
 
 applied : (m : Store) (c : KvCmd) → IsTextStore m → is_command c ≡ true → IsTextChange (apply m c)

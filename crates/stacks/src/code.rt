@@ -3,6 +3,8 @@ ghost use Rattle.check_text.specs.Claims.{Claim as SpecClaim};
 ghost use Rattle.check_text.specs.ImageLines.{IsHeaded};
 ghost use Rattle.stacks.specs.Stack.{AnyStack, Stack, any, image_of, play_of, texts_of};
 ghost use Rattle.xform_stack.specs.Running.{HasRun};
+ghost use Rattle.vst_base.specs.declared.step.TheConstants.{MAX_STEPS};
+ghost use Rattle.check_text.specs.declared.reading.TheConstants.{MAX_LINES};
 
 use app_text::AppText;
 use check_text::{Claim, ImageText};
@@ -59,8 +61,8 @@ pub trait StackCode {
         nodes: u8,
         claim: &Claim<Self::Input, Self::Output, Self::Line>,
     ) -> Result<Verdict, AllocError>
-        requires few { length claim.now.trace + length claim.now.image ≤ 8000000 }
-        requires counted { length claim.now.image ≤ 1000000 }
+        requires few { length claim.now.trace + length claim.now.image ≤ MAX_LINES }
+        requires counted { length claim.now.image ≤ MAX_STEPS }
         requires headed { IsHeaded (option_map (λ h. h.stack) (stack nodes).play.below.header) claim.now.header }
         ensures { IfOk result (λ verdict. verdict ≡ (stack nodes).verdict claim.now) };
 }

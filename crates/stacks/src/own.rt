@@ -5,6 +5,8 @@ ghost use Rattle.stacks.specs.Stack.{texts_of};
 ghost use Rattle.vst_base.specs.Stacks.{row_of};
 ghost use Rattle.vst_base.specs.declared.net.Net.TheVariants as net;
 ghost use Rattle.vst_base.specs.declared.stack.StackId.{StackId as SpecId};
+ghost use Rattle.vst_base.specs.declared.step.TheConstants.{MAX_STEPS};
+ghost use Rattle.check_text.specs.declared.reading.TheConstants.{MAX_LINES};
 
 use crate::StackCode;
 use app_text::AppText;
@@ -68,8 +70,8 @@ fn own_verdict<H: OwnStack>(
     alloc: Global,
     claim: &Claim<H::Input, H::Output, Step<H::Input>>,
 ) -> Result<Verdict, AllocError>
-    requires few { length claim.now.trace + length claim.now.image ≤ 8000000 }
-    requires counted { length claim.now.image ≤ 1000000 }
+    requires few { length claim.now.trace + length claim.now.image ≤ MAX_LINES }
+    requires counted { length claim.now.image ≤ MAX_STEPS }
     requires headed { IsHeaded (Some H.own) claim.now.header }
     ensures { IfOk result (λ verdict. verdict ≡ own_verdict H.own (λ n. H.meaning (H.of_nodes n))
         (texts_of H.Text.input_of H.Text.input_text H.Text.output_of H.Text.output_text H.Text.replies) claim.now) }

@@ -60,6 +60,14 @@ pub returns-clause-acknowledged : goal.returns-clause-acknowledged
 unfolding digits
 returns-clause-acknowledged c = simp lookups
 
+pub returns-clause-a_table_at_once : goal.returns-clause-a_table_at_once
+unfolding digits
+returns-clause-a_table_at_once c = simp lookups
+
+pub returns-clause-a_table_acknowledged : goal.returns-clause-a_table_acknowledged
+unfolding digits
+returns-clause-a_table_acknowledged c = simp lookups_and_sets
+
 pub returns-clause-broken_off : goal.returns-clause-broken_off
 unfolding digits
 returns-clause-broken_off c = refl
@@ -157,6 +165,10 @@ ruleset lookups_and_sessions = (get-empty, get-insert, get-remove, nat_list_cmp_
 pub returns-clause-one_node_cluster : goal.returns-clause-one_node_cluster
 unfolding digits
 returns-clause-one_node_cluster c = simp lookups_and_sessions
+
+pub returns-clause-a_table_on_a_cluster : goal.returns-clause-a_table_on_a_cluster
+unfolding digits
+returns-clause-a_table_on_a_cluster c = simp lookups_and_sessions
 
 pub returns-clause-asked_again : goal.returns-clause-asked_again
 unfolding digits

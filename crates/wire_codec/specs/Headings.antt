@@ -1,0 +1,94 @@
+-- What stands before a datagram's message.
+use Rattle.std.specs.Prelude.{◌==◌, ℕ, List, [], ◌∷◌, ◌++◌, Option, None, Some, if◌then◌else◌}
+use Rattle.vst_base.specs.declared.stack.StackId.{StackId}
+use Rattle.vst_base.specs.declared.stack.StackId.TheVariants as stack
+use Rattle.wire_codec.specs.Linked.{linked}
+use Rattle.wire_codec.specs.declared.heading.Heading.{Heading}
+use Rattle.wire_codec.specs.declared.kind.Kind.{Kind}
+use Rattle.wire_codec.specs.declared.kind.Kind.TheVariants as kind
+use Rattle.wire_fields.specs.Bytes.{number_bytes}
+use Rattle.wire_fields.specs.Fields.{name, number}
+use Rattle.wire_fields.specs.Formats.{Format, mapped, pair}
+
+-- the letter V, and the version
+abbrev pub read_mark : List ℕ → Option (Unit × List ℕ)
+read_mark [] = None
+read_mark (letter ∷ []) = None
+read_mark (letter ∷ version ∷ bs) = if letter == 86 then (if version == 2 then Some (tt, bs) else None) else None
+
+abbrev pub mark : Format Unit
+mark = record { Fits = λ _. Unit {0}; spell = λ _. 86 ∷ 2 ∷ []; read = read_mark }
+
+-- the stacks whose nodes send packets, each with a byte: a machine alone has none
+abbrev pub HasByte : StackId → Type 0
+HasByte stack.Kv = ⊥
+HasByte stack.Table = ⊥
+HasByte _ = Unit {0}
+
+abbrev pub stack_byte : StackId → ℕ
+stack_byte stack.Lock = 1
+stack_byte stack.LockSeq = 2
+stack_byte stack.KvPb = 3
+stack_byte stack.KvPbSeq = 4
+stack_byte stack.KvRaft = 5
+stack_byte stack.TablePbSeq = 6
+stack_byte stack.TableRaft = 7
+stack_byte stack.Kv = 0
+stack_byte stack.Table = 0
+
+abbrev pub read_stack : List ℕ → Option (StackId × List ℕ)
+read_stack [] = None
+read_stack (b ∷ bs) =
+    if b == 1 then Some (stack.Lock, bs)
+    else if b == 2 then Some (stack.LockSeq, bs)
+    else if b == 3 then Some (stack.KvPb, bs)
+    else if b == 4 then Some (stack.KvPbSeq, bs)
+    else if b == 5 then Some (stack.KvRaft, bs)
+    else if b == 6 then Some (stack.TablePbSeq, bs)
+    else if b == 7 then Some (stack.TableRaft, bs)
+    else None
+
+abbrev pub stack_field : Format StackId
+stack_field = record { Fits = HasByte; spell = λ s. stack_byte s ∷ []; read = read_stack }
+
+-- from a node to another, from a client to a node, and from a node to a client
+abbrev pub kind_byte : Kind → ℕ
+kind_byte kind.Peer = 0
+kind_byte kind.Request = 1
+kind_byte kind.Reply = 2
+
+abbrev pub read_kind : List ℕ → Option (Kind × List ℕ)
+read_kind [] = None
+read_kind (b ∷ bs) =
+    if b == 0 then Some (kind.Peer, bs)
+    else if b == 1 then Some (kind.Request, bs)
+    else if b == 2 then Some (kind.Reply, bs)
+    else None
+
+abbrev pub kind_field : Format Kind
+kind_field = record { Fits = λ _. Unit {0}; spell = λ k. kind_byte k ∷ []; read = read_kind }
+
+-- the greatest number of the one that sends, and of the one that it is sent to: nodes are below 9, clients below 255
+abbrev pub most_from : Kind → ℕ
+most_from kind.Peer = 8
+most_from kind.Request = 254
+most_from kind.Reply = 8
+
+abbrev pub most_to : Kind → ℕ
+most_to kind.Peer = 8
+most_to kind.Request = 8
+most_to kind.Reply = 254
+
+abbrev pub parties : Kind → Format (ℕ × (ℕ × List ℕ))
+parties k = pair (number 1 0 (most_from k)) (pair (number 1 0 (most_to k)) name)
+
+abbrev pub heading_of : StackId → Kind → ℕ → ℕ → List ℕ → Heading
+heading_of s k from to name = record { stack = s; kind = k; from = from; to = to; name = name }
+
+abbrev pub heading : Format Heading
+heading = mapped (λ p. heading_of p.1.0 p.1.1.0 p.1.1.1.0 p.1.1.1.1.0 p.1.1.1.1.1) (λ h. (tt, (h.stack, (h.kind, (h.from, (h.to, h.name))))))
+    (pair mark (pair stack_field (linked kind_field parties)))
+
+-- what stands before the name
+abbrev pub spell_parties : Heading → List ℕ
+spell_parties h = (86 ∷ 2 ∷ stack_byte h.stack ∷ kind_byte h.kind ∷ []) ++ (number_bytes 1 h.from ++ number_bytes 1 h.to)

@@ -1,0 +1,18 @@
+//! Datagrams of version 2: a heading, and a message of its stack and kind up to the end. It knows how they stand in
+//! bytes, and not what nodes do with them.
+#![tactic(auto)]
+
+mod datagram;
+mod examples;
+mod heading;
+mod kind;
+mod laws;
+
+pub use datagram::{Datagram, MAX_DATAGRAM, decode, encode_into};
+pub use examples::{refused_datagrams, worked_datagrams, worked_messages};
+pub use heading::Heading;
+pub use kind::Kind;
+pub use laws::datagrams_have_one_spelling;
+
+#[cfg(test)]
+mod tests;

@@ -1,0 +1,107 @@
+ghost use Rattle.std.specs.Prelude.{◌≡◌, ◌∷◌, [], ◌++◌, OnErr, OnOk};
+ghost use Rattle.wire_fields.specs.Bytes.{number_bytes};
+ghost use Rattle.wire_fields.specs.Fields.{StandsBefore, flag_byte, key, optional, token_of_length, value};
+
+use byteorder::{ByteOrder, NetworkEndian};
+use std::alloc::AllocError;
+use vst_base::{Key, Value};
+
+/// Adds a number of one byte at the end, or nothing.
+#[tactic(auto, unfolding(crate::specs::Bytes::number_bytes))]
+pub fn put_u8(out: &mut Vec<u8>, x: u8) -> Result<(), AllocError>
+    ensures ok { OnOk result (out.new.items ≡ out.old.items ++ number_bytes 1 x) }
+    ensures err { OnErr result (out.new.items ≡ out.old.items) }
+{
+    Ok(out.push(x)?)
+}
+
+/// Adds a number of two bytes at the end, or nothing.
+#[tactic(auto, unfolding(crate::specs::Bytes::number_bytes))]
+pub fn put_u16(out: &mut Vec<u8>, x: u16) -> Result<(), AllocError>
+    ensures ok { OnOk result (out.new.items ≡ out.old.items ++ number_bytes 2 x) }
+    ensures err { OnErr result (out.new.items ≡ out.old.items) }
+{
+    let mut bytes = [0; 2];
+    NetworkEndian::write_u16(&mut bytes, x);
+    out.extend_from_slice(&bytes)
+}
+
+/// Adds a number of four bytes at the end, or nothing.
+#[tactic(auto, unfolding(crate::specs::Bytes::number_bytes))]
+pub fn put_u32(out: &mut Vec<u8>, x: u32) -> Result<(), AllocError>
+    ensures ok { OnOk result (out.new.items ≡ out.old.items ++ number_bytes 4 x) }
+    ensures err { OnErr result (out.new.items ≡ out.old.items) }
+{
+    let mut bytes = [0; 4];
+    NetworkEndian::write_u32(&mut bytes, x);
+    out.extend_from_slice(&bytes)
+}
+
+/// Adds a number of eight bytes at the end, or nothing.
+#[tactic(auto, unfolding(crate::specs::Bytes::number_bytes))]
+pub fn put_u64(out: &mut Vec<u8>, x: u64) -> Result<(), AllocError>
+    ensures ok { OnOk result (out.new.items ≡ out.old.items ++ number_bytes 8 x) }
+    ensures err { OnErr result (out.new.items ≡ out.old.items) }
+{
+    let mut bytes = [0; 8];
+    NetworkEndian::write_u64(&mut bytes, x);
+    out.extend_from_slice(&bytes)
+}
+
+/// Adds no or yes at the end, or nothing.
+pub fn put_flag(out: &mut Vec<u8>, yes: bool) -> Result<(), AllocError>
+    ensures ok { OnOk result (out.new.items ≡ out.old.items ++ flag_byte yes ∷ []) }
+    ensures err { OnErr result (out.new.items ≡ out.old.items) }
+{
+    Ok(out.push(u8::from(yes))?)
+}
+
+/// Adds a key after its length at the end, or a part of them.
+pub fn put_key(out: &mut Vec<u8>, token: &Key) -> Result<(), AllocError>
+    ensures ok { OnOk result (out.new.items ≡ out.old.items ++ key.spell token.now) }
+    ensures err { OnErr result (StandsBefore out.old.items out.new.items) }
+    ensures fits { OnOk result (key.Fits token.now) }
+{
+    let bytes = token.as_bytes();
+    put_u8(out, bytes.len() as u8)?;
+    out.extend_from_slice(bytes)
+}
+
+/// Adds a value after its length at the end, or a part of them.
+pub fn put_value(out: &mut Vec<u8>, token: &Value) -> Result<(), AllocError>
+    ensures ok { OnOk result (out.new.items ≡ out.old.items ++ value.spell token.now) }
+    ensures err { OnErr result (StandsBefore out.old.items out.new.items) }
+    ensures fits { OnOk result (value.Fits token.now) }
+{
+    let bytes = token.as_bytes();
+    put_u16(out, bytes.len() as u16)?;
+    out.extend_from_slice(bytes)
+}
+
+#[tactic(auto, using(crate::specs::Fronts::front_stays))]
+/// Adds a key that may be left out at the end, or a part of its bytes.
+pub fn put_optional_key(out: &mut Vec<u8>, token: &Option<Key>) -> Result<(), AllocError>
+    ensures ok { OnOk result (out.new.items ≡ out.old.items ++ (optional key).spell token.now) }
+    ensures err { OnErr result (StandsBefore out.old.items out.new.items) }
+    ensures fits { OnOk result ((optional key).Fits token.now) }
+{
+    put_flag(out, token.is_some())?;
+    match token {
+        Some(token) => put_key(out, token),
+        None => Ok(()),
+    }
+}
+
+#[tactic(auto, using(crate::specs::Fronts::front_stays))]
+/// Adds a value that may be left out at the end, or a part of its bytes.
+pub fn put_optional_value(out: &mut Vec<u8>, token: &Option<Value>) -> Result<(), AllocError>
+    ensures ok { OnOk result (out.new.items ≡ out.old.items ++ (optional value).spell token.now) }
+    ensures err { OnErr result (StandsBefore out.old.items out.new.items) }
+    ensures fits { OnOk result ((optional value).Fits token.now) }
+{
+    put_flag(out, token.is_some())?;
+    match token {
+        Some(token) => put_value(out, token),
+        None => Ok(()),
+    }
+}
