@@ -1,5 +1,6 @@
 -- What a run of the program without faults does, from its words and its input.
-use Rattle.std.specs.Prelude.{ℕ, List, [], ◌∷◌, ◌++◌, Option, Some, None, Result, Ok, Err, codes}
+use Rattle.std.specs.Prelude.{ℕ, Bool, true, false, List, [], ◌∷◌, ◌++◌, map, Option, Some, None, Result, Ok, Err, codes, if◌then◌else◌, string_bytes}
+use Rattle.std.specs.declared.string.String.{String}
 use Rattle.line_reader.specs.declared.why.Why.{Why}
 use Rattle.line_reader.specs.Lines.{whole_lines}
 use Rattle.schedule_text.specs.Printing.{as_line, numbered, refusal_line}
@@ -72,3 +73,22 @@ so_far_by (Some (command.Check s)) given = record { out = []; refused = refused_
 
 abbrev pub answered : List (List ℕ) → List ℕ → Answer
 answered words = answer_by (command_of words)
+
+-- what the words ask for
+abbrev pub asked : {Z : Type 0} → List (String Z) → Option Command
+asked words = command_of (map string_bytes words)
+
+-- whether a command reads its input, and whether it is a check. Words that name none ask for nothing
+abbrev pub reads : Option Command → Bool
+reads None = false
+reads (Some command.Replay) = true
+reads (Some (command.Check s)) = true
+
+abbrev pub is_check : Option Command → Bool
+is_check None = false
+is_check (Some command.Replay) = false
+is_check (Some (command.Check s)) = true
+
+-- what a command answers to, where it is known: what its input has, where this is told; nothing, if it reads none
+abbrev pub input_of : Option Command → Option (List ℕ) → Option (List ℕ)
+input_of command left = if reads command then left else Some []

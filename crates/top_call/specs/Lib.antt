@@ -1,2 +1,6 @@
 pub mod Answers
-pub mod Clauses
+pub mod Complaints
+pub mod Examples
+pub mod Runs
+pub mod Seen
+pub mod Statuses

@@ -1,13 +1,15 @@
-ghost use Rattle.std.specs.Prelude.{◌≡◌, ◌≤◌, ℕ, map, false, string_bytes};
-ghost use Rattle.outside.specs.Counting.{Rose};
-ghost use Rattle.command_line.specs.CommandSet.{command_of, takes_words};
-ghost use Rattle.top_call.specs.Answers.{answered};
-ghost use Rattle.top_call.specs.Clauses.{AreWordsRefused, HasJudged, HasReadFailed, HasReplayed, HasWriteFailed, IsComplete, IsDenied, IsDone, IsIdle, IsLineRefused, IsOutOfMemory, IsStatus, SaysItsOwn, streams};
+ghost use Rattle.std.specs.Prelude.{◌≡◌, ℕ, None, map, string_bytes};
+ghost use Rattle.std.specs.Bool.{OnFalse};
+ghost use Rattle.top_call.specs.Answers.{asked, reads};
+ghost use Rattle.top_call.specs.Runs.{IsComplete};
+ghost use Rattle.top_call.specs.Seen.{KeepsCounts, ran};
+ghost use Rattle.top_call.specs.Statuses.{AreWordsRefused, HasReadFailed, HasWriteFailed};
+ghost use Rattle.top_call.specs.Statuses.{IsDenied, IsDone, IsLineRefused, IsOutOfMemory, IsStatus};
 
+use crate::Complaint;
 use crate::checking::run_check;
 use crate::replaying::run_replay;
-use crate::say::say;
-use crate::status::{OUT_OF_MEMORY, WORDS_REFUSED};
+use crate::telling::tell;
 use command_line::{Command, read_words};
 use outside::{Device, Sink, Source};
 use std::alloc::{AllocError, Global};
@@ -24,32 +26,30 @@ pub fn run<S: Source, O: Sink, E: Sink, D: Device>(
     device: &mut D,
 ) -> u8
     ensures status { IsStatus result }
-    ensures complete { IsComplete (answered (map string_bytes words.now)) (S.left input.old) (Rose (S.faults input.old) (S.faults input.new))
-        (Rose (O.faults out.old) (O.faults out.new)) (Rose (E.faults err.old) (E.faults err.new)) result }
-    ensures done { result ≡ 0 → IsDone (answered (map string_bytes words.now)) (streams (S.left input.old) (S.left input.new) (O.written out.old) (O.written out.new) (E.written err.old) (E.written err.new)) }
-    ensures replayed { result ≡ 0 → HasReplayed (command_of (map string_bytes words.now)) (streams (S.left input.old) (S.left input.new) (O.written out.old) (O.written out.new) (E.written err.old) (E.written err.new)) }
-    ensures judged { HasJudged (command_of (map string_bytes words.now)) result (streams (S.left input.old) (S.left input.new) (O.written out.old) (O.written out.new) (E.written err.old) (E.written err.new)) }
-    ensures denied { result ≡ 1 → IsDenied (answered (map string_bytes words.now)) (streams (S.left input.old) (S.left input.new) (O.written out.old) (O.written out.new) (E.written err.old) (E.written err.new)) }
-    ensures words { result ≡ 2 → AreWordsRefused (map string_bytes words.now) (streams (S.left input.old) (S.left input.new) (O.written out.old) (O.written out.new) (E.written err.old) (E.written err.new)) }
-    ensures words_only { takes_words (map string_bytes words.now) ≡ false → IsIdle (streams (S.left input.old) (S.left input.new) (O.written out.old) (O.written out.new) (E.written err.old) (E.written err.new)) result }
-    ensures refused { result ≡ 3 → IsLineRefused (command_of (map string_bytes words.now)) (streams (S.left input.old) (S.left input.new) (O.written out.old) (O.written out.new) (E.written err.old) (E.written err.new)) }
-    ensures read { result ≡ 4 → HasReadFailed (command_of (map string_bytes words.now)) (S.faults input.old) (S.faults input.new) (streams (S.left input.old) (S.left input.new) (O.written out.old) (O.written out.new) (E.written err.old) (E.written err.new)) }
-    ensures write { result ≡ 5 → HasWriteFailed (answered (map string_bytes words.now)) (takes_words (map string_bytes words.now) ≡ false) (Rose (S.faults input.old) (S.faults input.new)) (O.faults out.old) (O.faults out.new) (E.faults err.old) (E.faults err.new) (streams (S.left input.old) (S.left input.new) (O.written out.old) (O.written out.new) (E.written err.old) (E.written err.new)) }
-    ensures memory { result ≡ 8 → IsOutOfMemory (answered (map string_bytes words.now)) (takes_words (map string_bytes words.now) ≡ false) (Rose (S.faults input.old) (S.faults input.new)) (E.wants err.old) (E.wants err.new) (streams (S.left input.old) (S.left input.new) (O.written out.old) (O.written out.new) (E.written err.old) (E.written err.new)) }
-    ensures verdict { SaysItsOwn (command_of (map string_bytes words.now)) result (streams (S.left input.old) (S.left input.new) (O.written out.old) (O.written out.new) (E.written err.old) (E.written err.new)) }
-    ensures quiet_reads { result ≤ 3 → S.faults input.new ≡ S.faults input.old }
-    ensures quiet_writes { result ≤ 4 → (O.faults out.new ≡ O.faults out.old) × (O.wants out.new ≡ O.wants out.old) }
-    ensures quiet_complaints { result ≤ 4 → (E.faults err.new ≡ E.faults err.old) × (E.wants err.new ≡ E.wants err.old) }
-    ensures reads { S.faults input.old ≤ S.faults input.new }
-    ensures writes { O.faults out.old ≤ O.faults out.new }
-    ensures complains { E.faults err.old ≤ E.faults err.new }
-    ensures untouched { takes_words (map string_bytes words.now) ≡ false → (input.new ≡ input.old) × (out.new ≡ out.old) }
+    ensures complete { IsComplete (asked words.now)
+        (ran S.Source O.Sink E.Sink input.old input.new out.old out.new err.old err.new) result }
+    ensures done { result ≡ 0 → IsDone (asked words.now) (ran S.Source O.Sink E.Sink input.old input.new out.old out.new err.old err.new) }
+    ensures denied { result ≡ 1 → IsDenied (asked words.now)
+        (ran S.Source O.Sink E.Sink input.old input.new out.old out.new err.old err.new) }
+    ensures words { result ≡ 2 → AreWordsRefused (map string_bytes words.now)
+        (ran S.Source O.Sink E.Sink input.old input.new out.old out.new err.old err.new) }
+    ensures refused { result ≡ 3 → IsLineRefused (asked words.now)
+        (ran S.Source O.Sink E.Sink input.old input.new out.old out.new err.old err.new) }
+    ensures read { result ≡ 4 → HasReadFailed (asked words.now)
+        (ran S.Source O.Sink E.Sink input.old input.new out.old out.new err.old err.new) }
+    ensures write { result ≡ 5 → HasWriteFailed (asked words.now)
+        (ran S.Source O.Sink E.Sink input.old input.new out.old out.new err.old err.new) }
+    ensures memory { result ≡ 8 → IsOutOfMemory (asked words.now)
+        (ran S.Source O.Sink E.Sink input.old input.new out.old out.new err.old err.new) }
+    ensures unread { OnFalse (reads (asked words.now)) (input.new ≡ input.old) }
+    ensures unwritten { asked words.now ≡ None → out.new ≡ out.old }
+    ensures counts { KeepsCounts (ran S.Source O.Sink E.Sink input.old input.new out.old out.new err.old err.new) }
     ensures device { device.new ≡ device.old }
 {
     match read_words(alloc, words) {
         Ok(Some(Command::Replay)) => run_replay(alloc, input, out, err),
         Ok(Some(Command::Check(stack))) => run_check(alloc, stack, input, out, err),
-        Ok(None) => say(err, b"usage\n", WORDS_REFUSED),
-        Err(AllocError) => say(err, b"memory\n", OUT_OF_MEMORY),
+        Ok(None) => tell(alloc, err, Complaint::Words),
+        Err(AllocError) => tell(alloc, err, Complaint::Memory),
     }
 }

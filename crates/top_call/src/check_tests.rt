@@ -1,11 +1,7 @@
-use super::tests::{Ran, came_to, repeated, run_over, sink, source};
+use super::tests::{PUT_IN_AGAIN_ANSWER, Ran, came_to, repeated, run_over, sink, source};
 use outside_mem::{MemorySink, MemorySource};
 use std::alloc::{AllocError, Global};
 use std::test::Fail;
-
-// A cluster's trace in which a request was put in again at another leader, and its order.
-const PUT_IN_AGAIN: &[u8] =
-    b"in 0 7 1 put a x\nout 0 reply 7 1 a =x -\nin 1 7 1 put a x\nout 1 reply 7 1 a =x -\nbelow\norder 7 1 put a x\n";
 
 // Checks a text against a stack, where the text is read in pieces of at most so many bytes.
 fn check_in(alloc: Global, stack: &str, text: &[u8], read: usize) -> Result<Ran, AllocError> {
@@ -16,7 +12,7 @@ fn check_in(alloc: Global, stack: &str, text: &[u8], read: usize) -> Result<Ran,
 }
 
 // Whether check comes to this status and these lines on the output and the error stream.
-fn comes_to(
+pub(super) fn comes_to(
     alloc: Global,
     stack: &str,
     text: &[u8],
@@ -38,7 +34,7 @@ fn a_claim_that_holds_is_permitted(rt: HostRuntime) -> Result<(), Fail> {
     let told_twice: &[u8] =
         b"in 0 7 1 put a x\nout 0 reply 7 1 a =x -\nout 0 reply 7 1 a =x -\nin 0 7 1 put a y\nout 0 reply 7 1 a =x -\nbelow\norder 7 1 put a x\n";
     let rows: [(&str, &[u8]); 8] = [
-        ("kv/raft", PUT_IN_AGAIN),
+        ("kv/raft", PUT_IN_AGAIN_ANSWER),
         ("kv/raft", told_twice),
         ("kv/raft", b"in 8 7 1 put a x\nbelow\n"),
         ("lock", handed_over),
@@ -176,7 +172,7 @@ fn an_image_has_a_million_lines_at_most(rt: HostRuntime) -> Result<(), Fail> {
 #[test]
 fn how_a_text_is_cut_changes_no_verdict(rt: HostRuntime) -> Result<(), Fail> {
     for read in [1, 3, 7] {
-        let ran = check_in(rt.alloc(), "kv/raft", PUT_IN_AGAIN, read)?;
+        let ran = check_in(rt.alloc(), "kv/raft", PUT_IN_AGAIN_ANSWER, read)?;
         assert!(rt; came_to(&ran, 0, b"permitted\n", b""));
         assert!(rt; ran.source.left().is_empty());
     }
@@ -198,7 +194,7 @@ fn check_over(alloc: Global, source: MemorySource, out: MemorySink) -> Result<Ra
 #[test]
 fn a_check_that_cannot_read_says_so(rt: HostRuntime) -> Result<(), Fail> {
     let alloc = rt.alloc();
-    let source = source(alloc, PUT_IN_AGAIN, 10, vec![in alloc; 3]?)?;
+    let source = source(alloc, PUT_IN_AGAIN_ANSWER, 10, vec![in alloc; 3]?)?;
     let ran = check_over(alloc, source, sink(alloc, 100, Vec::new(alloc)))?;
     assert!(rt; came_to(&ran, 4, b"", b"read\n"));
     Ok(())
@@ -220,7 +216,7 @@ fn a_refused_line_of_a_claim_comes_before_a_read_that_would_fail(
 #[test]
 fn a_check_that_cannot_write_says_so(rt: HostRuntime) -> Result<(), Fail> {
     let alloc = rt.alloc();
-    let source = source(alloc, PUT_IN_AGAIN, 10, Vec::new(alloc))?;
+    let source = source(alloc, PUT_IN_AGAIN_ANSWER, 10, Vec::new(alloc))?;
     let ran = check_over(alloc, source, sink(alloc, 4, vec![in alloc; 2]?))?;
     assert!(rt; ran.status == 5);
     assert!(rt; ran.out.written() == b"perm".as_slice());

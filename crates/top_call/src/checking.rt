@@ -1,13 +1,12 @@
-ghost use Rattle.std.specs.Prelude.{◌≡◌, ◌≢◌, ◌≤◌, ℕ, IfSome, Some};
+ghost use Rattle.std.specs.Prelude.{◌≡◌, ◌≢◌, ℕ, Some};
 ghost use Rattle.command_line.specs.declared.command.Command.TheVariants as command;
-ghost use Rattle.outside.specs.Counting.{Rose};
-ghost use Rattle.top_call.specs.Answers.{answer_by};
-ghost use Rattle.top_call.specs.Clauses.{HasReadFailed, HasWriteFailed, IsComplete, IsDenied, IsDone, IsLineRefused, IsOutOfMemory, IsStatus, Judges, SaysVerdict, streams};
+ghost use Rattle.top_call.specs.Runs.{IsComplete};
+ghost use Rattle.top_call.specs.Seen.{KeepsCounts, ran};
+ghost use Rattle.top_call.specs.Statuses.{HasReadFailed, HasWriteFailed, IsDenied, IsDone, IsLineRefused, IsOutOfMemory, IsStatus};
 
-use crate::deny::deny;
-use crate::refuse::refuse;
-use crate::say::say;
-use crate::status::{DONE, OUT_OF_MEMORY, READ_FAILED, WRITE_FAILED};
+use crate::Complaint;
+use crate::status::{DONE, WRITE_FAILED};
+use crate::telling::tell;
 use outside::{Sink, Source, WriteFault, write_all};
 use permitted_claims::permitted_claims_are_explained;
 use std::alloc::Global;
@@ -23,34 +22,33 @@ pub(crate) fn run_check<S: Source, O: Sink, E: Sink>(
     err: &mut E,
 ) -> u8
     ensures status { IsStatus result }
-    ensures complete { IsComplete (answer_by (Some (command.Check stack))) (S.left input.old) (Rose (S.faults input.old) (S.faults input.new))
-        (Rose (O.faults out.old) (O.faults out.new)) (Rose (E.faults err.old) (E.faults err.new)) result }
-    ensures done { result ≡ 0 → IsDone (answer_by (Some (command.Check stack))) (streams (S.left input.old) (S.left input.new) (O.written out.old) (O.written out.new) (E.written err.old) (E.written err.new)) }
-    ensures judged { IfSome (S.left input.old) (Judges result stack) }
-    ensures denied { result ≡ 1 → IsDenied (answer_by (Some (command.Check stack))) (streams (S.left input.old) (S.left input.new) (O.written out.old) (O.written out.new) (E.written err.old) (E.written err.new)) }
+    ensures complete { IsComplete (Some (command.Check stack))
+        (ran S.Source O.Sink E.Sink input.old input.new out.old out.new err.old err.new) result }
+    ensures done { result ≡ 0 → IsDone (Some (command.Check stack))
+        (ran S.Source O.Sink E.Sink input.old input.new out.old out.new err.old err.new) }
+    ensures denied { result ≡ 1 → IsDenied (Some (command.Check stack))
+        (ran S.Source O.Sink E.Sink input.old input.new out.old out.new err.old err.new) }
     ensures words { result ≢ 2 }
-    ensures refused { result ≡ 3 → IsLineRefused (Some (command.Check stack)) (streams (S.left input.old) (S.left input.new) (O.written out.old) (O.written out.new) (E.written err.old) (E.written err.new)) }
-    ensures read { result ≡ 4 → HasReadFailed (Some (command.Check stack)) (S.faults input.old) (S.faults input.new) (streams (S.left input.old) (S.left input.new) (O.written out.old) (O.written out.new) (E.written err.old) (E.written err.new)) }
-    ensures write { result ≡ 5 → HasWriteFailed (answer_by (Some (command.Check stack))) ⊥ (Rose (S.faults input.old) (S.faults input.new)) (O.faults out.old) (O.faults out.new) (E.faults err.old) (E.faults err.new) (streams (S.left input.old) (S.left input.new) (O.written out.old) (O.written out.new) (E.written err.old) (E.written err.new)) }
-    ensures memory { result ≡ 8 → IsOutOfMemory (answer_by (Some (command.Check stack))) ⊥ (Rose (S.faults input.old) (S.faults input.new)) (E.wants err.old) (E.wants err.new) (streams (S.left input.old) (S.left input.new) (O.written out.old) (O.written out.new) (E.written err.old) (E.written err.new)) }
-    ensures verdict { SaysVerdict result (O.written out.old) (O.written out.new) }
-    ensures quiet_reads { result ≤ 3 → S.faults input.new ≡ S.faults input.old }
-    ensures quiet_writes { result ≤ 4 → (O.faults out.new ≡ O.faults out.old) × (O.wants out.new ≡ O.wants out.old) }
-    ensures quiet_complaints { result ≤ 4 → (E.faults err.new ≡ E.faults err.old) × (E.wants err.new ≡ E.wants err.old) }
-    ensures reads { S.faults input.old ≤ S.faults input.new }
-    ensures writes { O.faults out.old ≤ O.faults out.new }
-    ensures complains { E.faults err.old ≤ E.faults err.new }
+    ensures refused { result ≡ 3 → IsLineRefused (Some (command.Check stack))
+        (ran S.Source O.Sink E.Sink input.old input.new out.old out.new err.old err.new) }
+    ensures read { result ≡ 4 → HasReadFailed (Some (command.Check stack))
+        (ran S.Source O.Sink E.Sink input.old input.new out.old out.new err.old err.new) }
+    ensures write { result ≡ 5 → HasWriteFailed (Some (command.Check stack))
+        (ran S.Source O.Sink E.Sink input.old input.new out.old out.new err.old err.new) }
+    ensures memory { result ≡ 8 → IsOutOfMemory (Some (command.Check stack))
+        (ran S.Source O.Sink E.Sink input.old input.new out.old out.new err.old err.new) }
+    ensures counts { KeepsCounts (ran S.Source O.Sink E.Sink input.old input.new out.old out.new err.old err.new) }
 {
     permitted_claims_are_explained();
     match check(alloc, stack, input) {
         Ok(Verdict::Yes) => match write_all(out, b"permitted\n") {
             Ok(()) => DONE,
             Err(WriteFault::Failed) => WRITE_FAILED,
-            Err(WriteFault::Memory) => say(err, b"memory\n", OUT_OF_MEMORY),
+            Err(WriteFault::Memory) => tell(alloc, err, Complaint::Memory),
         },
-        Ok(Verdict::No(condition, line)) => deny(alloc, err, condition, line),
-        Err(CheckFault::Read) => say(err, b"read\n", READ_FAILED),
-        Err(CheckFault::Refused { line, why }) => refuse(alloc, err, line, why),
-        Err(CheckFault::Memory) => say(err, b"memory\n", OUT_OF_MEMORY),
+        Ok(Verdict::No(condition, line)) => tell(alloc, err, Complaint::Condition(condition, line)),
+        Err(CheckFault::Read) => tell(alloc, err, Complaint::Read),
+        Err(CheckFault::Refused { line, why }) => tell(alloc, err, Complaint::Line(line, why)),
+        Err(CheckFault::Memory) => tell(alloc, err, Complaint::Memory),
     }
 }

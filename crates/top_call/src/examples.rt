@@ -1,7 +1,6 @@
 ghost use Rattle.std.specs.Prelude.{◌≡◌, [], ◌∷◌, None, Some, codes};
 ghost use Rattle.command_line.specs.declared.command.Command.TheVariants as command;
 ghost use Rattle.top_call.specs.Answers.{answered, memory_line, read_failed_line, so_far_by};
-ghost use Rattle.top_call.specs.Clauses.{SaysVerdict};
 
 use line_reader::Why;
 use vst_base::StackId;
@@ -35,16 +34,4 @@ pub fn worked_breaks()
     ensures checked_up_to_a_refused_line { so_far_by (Some (command.Check StackId.Lock)) (codes "on 1 lock\nin 1") ≡ record { out = []; refused = Some (1, Why.UnknownWord) } }
     ensures no_command { so_far_by None (codes "on 1 lock\n") ≡ record { out = []; refused = None } }
     ensures lines { (read_failed_line ≡ codes "read\n") × (memory_line ≡ codes "memory\n") }
-{}
-
-/// What a check may leave on an output that was empty: its whole line at 0, nothing at 1, 3 and 4, and at 5 and 8 a front of its line.
-pub fn worked_verdicts()
-    ensures yes { SaysVerdict 0 (Some []) (Some (codes "permitted\n")) }
-    ensures yes_is_written { SaysVerdict 0 (Some []) (Some []) → ⊥ }
-    ensures no { SaysVerdict 1 (Some []) (Some []) }
-    ensures no_is_not_written { SaysVerdict 1 (Some []) (Some (codes "permitted\n")) → ⊥ }
-    ensures refused { SaysVerdict 3 (Some []) (Some (codes "p")) → ⊥ }
-    ensures unread { SaysVerdict 4 (Some []) (Some (codes "permitted\n")) → ⊥ }
-    ensures unwritten { SaysVerdict 5 (Some []) (Some (codes "perm")) }
-    ensures out_of_memory { SaysVerdict 8 (Some []) (Some []) }
 {}

@@ -3,17 +3,21 @@
 
 mod answers;
 mod checking;
-mod deny;
+mod complaint;
 mod examples;
-mod refuse;
 mod replaying;
-mod say;
 mod status;
+mod status_examples;
+mod telling;
 
 pub use answers::run;
-pub use examples::{worked, worked_breaks, worked_verdicts};
+pub use complaint::Complaint;
+pub use examples::{worked, worked_breaks};
+pub use status_examples::{worked_complaints, worked_statuses};
 
 #[cfg(test)]
 mod check_tests;
+#[cfg(test)]
+mod table_tests;
 #[cfg(test)]
 mod tests;

@@ -9,6 +9,20 @@ const HANDED_OVER: &[u8] = b"schedule 1 bag lock 2\nin 1 lock\ndeliver 0\ndelive
 const HANDED_OVER_ANSWER: &[u8] =
     b"in 1 lock\nout 1 locked\nbelow\nschedule 1 bag lock 2\nin 1 lock\ndeliver 0\ndeliver 1\n";
 
+// Two requests whose packets come in the opposite order.
+const OPPOSITE_ORDER: &[u8] =
+    b"schedule 1 dup lock/seq 2\nin 1 lock\nin 1 lock\ndeliver 1\ndeliver 0\ndeliver 2\nin 1 unlock\ndeliver 3\ndeliver 4\n";
+
+const OPPOSITE_ORDER_ANSWER: &[u8] =
+    b"in 1 lock\nin 1 lock\nout 1 locked\nin 1 unlock\nout 1 locked\nbelow\nschedule 1 bag lock 2\nin 1 lock\nin 1 lock\ndeliver 1\ndeliver 0\ndeliver 2\nin 1 unlock\ndeliver 3\ndeliver 4\n";
+
+// A request that is put in again at another leader.
+const PUT_IN_AGAIN: &[u8] =
+    b"schedule 1 fail kv/raft 3\ntick 0\ndeliver 0\ndeliver 2\nin 0 7 1 put a x\ndeliver 5\ndeliver 7\ntick 1\ndeliver 9\ndeliver 10\nin 1 7 1 put a x\ndeliver 13\ndeliver 15\n";
+
+pub(super) const PUT_IN_AGAIN_ANSWER: &[u8] =
+    b"in 0 7 1 put a x\nout 0 reply 7 1 a =x -\nin 1 7 1 put a x\nout 1 reply 7 1 a =x -\nbelow\norder 7 1 put a x\n";
+
 // What a run came to.
 #[derive(Drop)]
 pub(super) struct Ran {
@@ -76,7 +90,7 @@ fn replay_in(alloc: Global, text: &[u8], read: usize, write: usize) -> Result<Ra
 }
 
 // A row: a text, and the status, the output and the line on the error stream that replay comes to.
-type Row<'a> = (&'a [u8], u8, &'a [u8], &'a [u8]);
+pub(super) type Row<'a> = (&'a [u8], u8, &'a [u8], &'a [u8]);
 
 // Whether replay comes to what the row says, where it reads and writes pieces of at most so many bytes.
 fn holds_in(alloc: Global, row: Row, read: usize, write: usize) -> Result<bool, AllocError> {
@@ -86,7 +100,7 @@ fn holds_in(alloc: Global, row: Row, read: usize, write: usize) -> Result<bool, 
 }
 
 // Whether replay comes to what the row says.
-fn holds(alloc: Global, row: Row) -> Result<bool, AllocError> {
+pub(super) fn holds(alloc: Global, row: Row) -> Result<bool, AllocError> {
     holds_in(alloc, row, 100, 100_000)
 }
 
@@ -156,12 +170,7 @@ fn numbered_packets_are_delivered_once(rt: HostRuntime) -> Result<(), Fail> {
             HANDED_OVER_ANSWER,
             b"",
         ),
-        (
-            b"schedule 1 dup lock/seq 2\nin 1 lock\nin 1 lock\ndeliver 1\ndeliver 0\ndeliver 2\nin 1 unlock\ndeliver 3\ndeliver 4\n",
-            0,
-            b"in 1 lock\nin 1 lock\nout 1 locked\nin 1 unlock\nout 1 locked\nbelow\nschedule 1 bag lock 2\nin 1 lock\nin 1 lock\ndeliver 1\ndeliver 0\ndeliver 2\nin 1 unlock\ndeliver 3\ndeliver 4\n",
-            b"",
-        ),
+        (OPPOSITE_ORDER, 0, OPPOSITE_ORDER_ANSWER, b""),
         (
             b"schedule 1 dup lock/seq 3\nin 1 lock\nin 2 lock\ndeliver 0\ndeliver 1\ndeliver 2\nin 1 unlock\ndeliver 3\ndeliver 4\n",
             0,
@@ -308,12 +317,7 @@ fn an_entry_of_an_earlier_term_waits_for_one_of_the_leaders_own(
 fn a_request_that_is_put_in_again_at_another_leader_is_executed_once(
     rt: HostRuntime,
 ) -> Result<(), Fail> {
-    let row: Row = (
-        b"schedule 1 fail kv/raft 3\ntick 0\ndeliver 0\ndeliver 2\nin 0 7 1 put a x\ndeliver 5\ndeliver 7\ntick 1\ndeliver 9\ndeliver 10\nin 1 7 1 put a x\ndeliver 13\ndeliver 15\n",
-        0,
-        b"in 0 7 1 put a x\nout 0 reply 7 1 a =x -\nin 1 7 1 put a x\nout 1 reply 7 1 a =x -\nbelow\norder 7 1 put a x\n",
-        b"",
-    );
+    let row: Row = (PUT_IN_AGAIN, 0, PUT_IN_AGAIN_ANSWER, b"");
     assert!(rt; holds(rt.alloc(), row)?);
     Ok(())
 }
@@ -495,16 +499,21 @@ fn words_are_taken_as_the_command_set_takes_them(rt: HostRuntime) -> Result<(), 
 
 #[test]
 fn small_reads_and_writes_change_nothing(rt: HostRuntime) -> Result<(), Fail> {
-    let whole: Row = (HANDED_OVER, 0, HANDED_OVER_ANSWER, b"");
-    let refused: Row = (
-        b"schedule 1 bag lock 2\nin 1 lock\ndeliver 0\ndeliver 0\n",
-        3,
-        b"in 1 lock\n",
-        b"line 4: no copy\n",
-    );
-    for read in [1, 3, 7] {
-        assert!(rt; holds_in(rt.alloc(), whole, read, 1)?);
-        assert!(rt; holds_in(rt.alloc(), refused, read, 1)?);
+    let rows: [Row; 4] = [
+        (HANDED_OVER, 0, HANDED_OVER_ANSWER, b""),
+        (
+            b"schedule 1 bag lock 2\nin 1 lock\ndeliver 0\ndeliver 0\n",
+            3,
+            b"in 1 lock\n",
+            b"line 4: no copy\n",
+        ),
+        (OPPOSITE_ORDER, 0, OPPOSITE_ORDER_ANSWER, b""),
+        (PUT_IN_AGAIN, 0, PUT_IN_AGAIN_ANSWER, b""),
+    ];
+    for row in rows {
+        for read in [1, 3, 7] {
+            assert!(rt; holds_in(rt.alloc(), row, read, 1)?);
+        }
     }
     Ok(())
 }
