@@ -6,10 +6,7 @@ use std::alloc::AllocError;
 use vst_base::{Node, SeqMsg};
 
 // Hands on the outputs, in order.
-fn outputs<O: Drop, M: Drop>(
-    within: Vec<O>,
-    effects: &mut Effects<O, M>,
-) -> Result<(), AllocError>
+fn outputs<O: Drop, M: Drop>(within: Vec<O>, effects: &mut Effects<O, M>) -> Result<(), AllocError>
     ensures outputs { OnOk result (effects.new.outputs ≡ effects.old.outputs ++ within.items) }
     ensures sends { effects.new.sends ≡ effects.old.sends }
     ensures room { effects.new.send_places ≡ effects.old.send_places }
