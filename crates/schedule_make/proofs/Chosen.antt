@@ -1,0 +1,46 @@
+-- What a candidate that is chosen keeps to.
+use Rattle.std.proofs.Common.{◌≡◌, ℕ, zero, suc, ◌+◌, ◌<◌, ◌≤◌, Bool, true, false, cond, List, [], ◌∷◌, length, get_or, Some, refl, arith}
+use Rattle.std.specs.List.{filter, range_with_len, slice_get}
+use Rattle.flight_index.specs.Flights.{numbers_of}
+
+-- one of the nodes from a on that pass
+pub record IsNode (p : ℕ → Bool) (a n c : ℕ) : Type 0 where
+  pub passes : p c ≡ true
+  pub from : a ≤ c
+  pub below : c < a + n
+
+first-node : (b : Bool) (p : ℕ → Bool) (a n i : ℕ) (cs : List ℕ) → p a ≡ b → i < length (cond b (a ∷ cs) cs)
+    → ((j : ℕ) → j < length cs → IsNode p (a + 1) n (get_or cs j 0)) → IsNode p a (suc n) (get_or (cond b (a ∷ cs) cs) i 0)
+first-node true p a n zero cs e h later = record { passes = e; from = omega arith; below = omega arith }
+first-node true p a n (suc i) cs e h later =
+    let l = later i (omega (arith, h)) in
+    record { passes = l.passes; from = omega (arith, l.from); below = omega (arith, l.below) }
+first-node false p a n i cs e h later =
+    let l = later i h in
+    record { passes = l.passes; from = omega (arith, l.from); below = omega (arith, l.below) }
+
+pub node-at : (p : ℕ → Bool) (a n i : ℕ) → i < length (filter p (range_with_len a n)) → IsNode p a n (get_or (filter p (range_with_len a n)) i 0)
+node-at p a zero i h = absurd (omega (arith, h))
+node-at p a (suc n) i h = first-node (p a) p a n i (filter p (range_with_len (a + 1) n)) refl h (λ j below. node-at p (a + 1) n j below)
+
+-- one of the packets that pass, of which the first has the number 'from'
+pub record IsOne {X : Type 0} (p : X → Bool) (from : ℕ) (xs : List X) (c : ℕ) : Type 0 where
+  pub item : X
+  pub place : ℕ
+  pub number : c ≡ from + place
+  pub is : slice_get xs place ≡ Some item
+  pub passes : p item ≡ true
+
+first-one : {X : Type 0} (b : Bool) (p : X → Bool) (from i : ℕ) (x : X) (xs : List X) (cs : List ℕ) → p x ≡ b → i < length (cond b (from ∷ cs) cs)
+    → ((j : ℕ) → j < length cs → IsOne p (from + 1) xs (get_or cs j 0)) → IsOne p from (x ∷ xs) (get_or (cond b (from ∷ cs) cs) i 0)
+first-one true p from zero x xs cs e h later = record { item = x; place = 0; number = omega arith; is = refl; passes = e }
+first-one true p from (suc i) x xs cs e h later =
+    let l = later i (omega (arith, h)) in
+    record { item = l.item; place = suc l.place; number = omega (arith, l.number); is = l.is; passes = l.passes }
+first-one false p from i x xs cs e h later =
+    let l = later i h in
+    record { item = l.item; place = suc l.place; number = omega (arith, l.number); is = l.is; passes = l.passes }
+
+pub one-at : {X : Type 0} (p : X → Bool) (from : ℕ) (xs : List X) (i : ℕ) → i < length (numbers_of p from xs) → IsOne p from xs (get_or (numbers_of p from xs) i 0)
+one-at p from [] i h = absurd (omega (arith, h))
+one-at p from (x ∷ xs) i h = first-one (p x) p from i x xs (numbers_of p (from + 1) xs) refl h (λ j below. one-at p (from + 1) xs j below)

@@ -1,0 +1,28 @@
+-- Numbers in keys and values, computed through their digits.
+use Rattle.std.specs.Prelude.{refl}
+use Rattle.std.specs.Fmt.{digits}
+use Rattle.schedule_make.proofs.examples.worked_inputs.Goals as goal
+
+pub returns-clause-put : goal.returns-clause-put
+unfolding digits
+returns-clause-put c = refl
+
+pub returns-clause-cas : goal.returns-clause-cas
+unfolding digits
+returns-clause-cas c = refl
+
+pub returns-clause-get : goal.returns-clause-get
+unfolding digits
+returns-clause-get c = refl
+
+pub returns-clause-del : goal.returns-clause-del
+unfolding digits
+returns-clause-del c = refl
+
+pub returns-clause-release : goal.returns-clause-release
+unfolding digits
+returns-clause-release c = refl
+
+pub returns-clause-acquire : goal.returns-clause-acquire
+unfolding digits
+returns-clause-acquire c = refl

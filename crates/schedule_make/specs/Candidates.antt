@@ -1,0 +1,46 @@
+-- Which kind of step is made, and at which node or of which packet, from a random word each.
+use Rattle.std.specs.Prelude.{ℕ, Bool, not, ◌&&◌, ◌%◌, nat_lt, List, [], ◌∷◌, length, get_or, filter, if◌then◌else◌}
+use Rattle.std.specs.List.{range_with_len}
+use Rattle.handler_trait.specs.Handling.{Meaning}
+use Rattle.flight_index.specs.Flights.{numbers_of}
+use Rattle.net_semantics.specs.Worlds.{World, Packet}
+use Rattle.vst_base.specs.Nets.{has_kind}
+use Rattle.vst_base.specs.declared.net.Net.{Net}
+use Rattle.vst_base.specs.declared.step.StepKind.{StepKind}
+use Rattle.vst_base.specs.declared.step.StepKind.TheVariants as kind
+
+-- four of sixteen words take an input, seven deliver, and one each does what else there is
+abbrev pub drawn_kind : ℕ → StepKind
+drawn_kind word = get_or (kind.In ∷ kind.In ∷ kind.In ∷ kind.In ∷ kind.Tick ∷ kind.Dup ∷ kind.Lose ∷ kind.Crash ∷ kind.Reboot ∷ []) (word % 16) kind.Deliver
+
+-- the nodes that pass, ascending
+abbrev pub nodes_that : {S I O M : Type 0} → Meaning S I O M → (ℕ → Bool) → List ℕ
+nodes_that m p = filter p (range_with_len 0 m.nodes)
+
+abbrev pub is_in_flight : {M : Type 0} → Packet M → Bool
+is_in_flight p = nat_lt 0 p.copies
+
+-- the nodes or packets that a step of this kind may name, ascending
+abbrev pub candidates : {S K I O M : Type 0} → Meaning S I O M → World S K M → StepKind → List ℕ
+candidates m w kind.In = nodes_that m (λ n. m.takes_input n && w.is_up n)
+candidates m w kind.Tick = nodes_that m w.is_up
+candidates m w kind.Crash = nodes_that m w.is_up
+candidates m w kind.Reboot = nodes_that m (λ n. not (w.is_up n))
+candidates m w kind.Dup = numbers_of is_in_flight 0 w.packets
+candidates m w kind.Lose = numbers_of is_in_flight 0 w.packets
+candidates m w kind.Deliver = numbers_of (λ p. is_in_flight p && w.is_up p.destination) 0 w.packets
+
+-- whether there is a step of this kind
+abbrev pub has_step : {S K I O M : Type 0} → Net → Meaning S I O M → World S K M → StepKind → Bool
+has_step net m w k = has_kind net k && nat_lt 0 (length (candidates m w k))
+
+-- a kind without a step becomes a tick, and a tick without one a reboot
+abbrev pub made_kind : {S K I O M : Type 0} → Net → Meaning S I O M → World S K M → StepKind → StepKind
+made_kind net m w k =
+    if has_step net m w k then k
+    else if has_step net m w kind.Tick then kind.Tick
+    else kind.Reboot
+
+-- the candidate of this number, counted round
+abbrev pub chosen : List ℕ → ℕ → ℕ
+chosen cs number = get_or cs (number % length cs) 0

@@ -1,0 +1,4 @@
+pub mod Candidates
+pub mod Inputs
+pub mod Made
+pub mod Allowed

@@ -1,0 +1,11 @@
+//! Schedules that are made from a number, step by step: each step is one that the network allows, chosen by random words in the
+//! world that the steps before it make. It knows nothing of lines.
+#![tactic(auto)]
+
+mod examples;
+mod laws;
+mod rows;
+
+pub use examples::{worked, worked_inputs};
+pub use laws::made_schedules_are_allowed;
+pub use rows::{worked_backups, worked_clusters, worked_locks};
