@@ -201,15 +201,6 @@ fn a_follower_takes_what_fits_its_log(rt: HostRuntime) -> Result<(), Fail> {
     sends_entries(&rt, alloc, 2, (0, 0), &[1], (2, true, 1), &[1, 1, 2])
 }
 
-#[test]
-fn a_follower_refuses_what_does_not(rt: HostRuntime) -> Result<(), Fail> {
-    let alloc = rt.alloc();
-    sends_entries(&rt, alloc, 1, (3, 2), &[2], (2, false, 3), &[1, 1, 2])?;
-    sends_entries(&rt, alloc, 2, (4, 2), &[2], (2, false, 4), &[1, 1, 2])?;
-    sends_entries(&rt, alloc, 2, (3, 1), &[2], (2, false, 3), &[1, 1, 2])?;
-    sends_entries(&rt, alloc, 3, (2, 2), &[3], (3, false, 2), &[1, 1, 2])
-}
-
 // As many entries of the first term as a log has places.
 fn full_log(alloc: Global) -> Result<Entries<u8>, Fail> {
     let mut made = Vec::new(alloc);
@@ -321,101 +312,10 @@ fn a_leader_whose_log_is_full_says_so(rt: HostRuntime) -> Result<(), Fail> {
 }
 
 #[test]
-fn a_new_leader_sends_a_noop_to_the_others(rt: HostRuntime) -> Result<(), Fail> {
-    let kept = Kept::new(1, None, entries(rt.alloc(), &[1])?);
-    let (state, mut effects) = elected(rt.alloc(), kept, 2)?;
-    assert!(rt; has_log(&state, &[1, 2]));
-    assert!(rt; are_appends(&mut effects, 1, &[true]));
-    Ok(())
-}
-
-#[test]
 fn a_leader_sends_a_request_to_the_others(rt: HostRuntime) -> Result<(), Fail> {
     let kept = Kept::new(1, None, entries(rt.alloc(), &[1])?);
     let (state, mut effects) = elected_and_asked(rt.alloc(), kept, 2)?;
     assert!(rt; has_log(&state, &[1, 2, 2]));
     assert!(rt; are_appends(&mut effects, 1, &[true, false]));
-    Ok(())
-}
-
-// Whether the leader of term 2 still leads once node 1 tells it this, the term and the vote that it keeps then, and how
-// many packets it sends.
-fn hears(alloc: Global, message: &RaftMsg<u8>) -> Result<(bool, u64, Option<u8>, usize), Fail> {
-    let (me, from) = (Node::new(0, 3).unwrap(), Node::new(1, 3).unwrap());
-    let raft = Raft::new(Counter, 3);
-    let (mut state, _) = elected(alloc, Kept::new(1, None, entries(alloc, &[1])?), 2)?;
-    let mut effects = Effects::with_capacity(alloc, 1, MAX_SENDS)?;
-    raft.message(alloc, me, &mut state, from, message, &mut effects)?;
-    let kept = raft.keep(alloc, &state)?;
-    let voted = kept.voted().map(|node| node.index());
-    let sent = effects.sends().len();
-    Ok((raft.leads(&state), kept.term(), voted, sent))
-}
-
-#[test]
-fn a_leader_follows_in_a_greater_term(rt: HostRuntime) -> Result<(), Fail> {
-    let alloc = rt.alloc();
-    let (still, no_more) = ((true, 2, Some(0), 0), (false, 3, None, 0));
-    for (term, then) in [(1, still), (2, still), (3, no_more)] {
-        let appended = RaftMsg::Appended(Appended::new(term, false, 0));
-        assert_eq!(rt; hears(alloc, &appended)?, then);
-        let vote = RaftMsg::Vote(Vote::new(term, false));
-        assert_eq!(rt; hears(alloc, &vote)?, then);
-    }
-    let answers = (false, 3, None, 1);
-    assert_eq!(rt; hears(alloc, &append(alloc, 2, (1, 1), &[])?)?, still);
-    assert_eq!(rt; hears(alloc, &append(alloc, 3, (1, 1), &[3])?)?, answers);
-    Ok(())
-}
-
-// How many packets node 1 sends when its timer fires in a term, and the term and the vote that it keeps then. It does
-// not lead.
-fn campaigns(alloc: Global, term: u64) -> Result<(usize, u64, Option<Node>), Fail>
-    requires { IsTerm term }
-{
-    let kept = Kept::new(term, None, entries(alloc, &[])?);
-    let (state, effects) = fires(alloc, Node::new(1, 3).unwrap(), kept)?;
-    let raft = Raft::new(Counter, 3);
-    if raft.leads(&state) {
-        return Err(Fail::from("no leader"));
-    }
-    let kept = raft.keep(alloc, &state)?;
-    Ok((effects.sends().len(), kept.term(), kept.voted()))
-}
-
-#[test]
-fn no_election_follows_the_greatest_term(rt: HostRuntime) -> Result<(), Fail> {
-    let me = Node::new(1, 3);
-    for (term, then) in [
-        (0, (2, 1, me)),
-        (MAX_TERM - 1, (2, MAX_TERM, me)),
-        (MAX_TERM, (0, MAX_TERM, None)),
-    ] {
-        assert_eq!(rt; campaigns(rt.alloc(), term)?, then);
-    }
-    Ok(())
-}
-
-// The term in which this packet asks for a vote, if it does.
-fn asked_in(sent: &(Node, RaftMsg<u8>)) -> Option<u64> {
-    match &sent.1 {
-        RaftMsg::RequestVote(request) => Some(request.term()),
-        _ => None,
-    }
-}
-
-#[test]
-fn a_candidate_asks_again_in_the_next_term(rt: HostRuntime) -> Result<(), Fail> {
-    let alloc = rt.alloc();
-    let (raft, me) = (Raft::new(Counter, 3), Node::new(1, 3).unwrap());
-    let (mut state, _) = fires(alloc, me, Kept::new(4, None, entries(alloc, &[])?))?;
-    let mut effects = Effects::with_capacity(alloc, 1, MAX_SENDS)?;
-    raft.timeout(alloc, me, &mut state, &mut effects)?;
-    let [first, second] = effects.sends() else {
-        return Err(Fail::from("two packets"));
-    };
-    assert_eq!(rt; (asked_in(first), asked_in(second)), (Some(6), Some(6)));
-    let kept = raft.keep(alloc, &state)?;
-    assert_eq!(rt; (kept.term(), kept.voted()), (6, Some(me)));
     Ok(())
 }
