@@ -33,7 +33,7 @@ use Rattle.checked_replays.proofs.StepImages.{headed-by, plain-steps, steps-said
 module _ (p : Application) (is : IsSpelledMachine p) (nodes : ℕ) (few_nodes : nodes < 4294967296) (one : 1 ≤ nodes)
     (each_row : (i : StackId) (h : Header) → IsBy (row_of i) h → IsHeader h) (least : (row_of p.own).least ≤ 1) (most : 1 ≤ (row_of p.own).most) where
   abbrev plays : Play p.Command p.Output (Step p.Command)
-  plays = (by_itself p.own p.machine p.texts).stack.play
+  plays = (by_itself p.own p.machine p.texts p.makes).stack.play
 
   pub alone-read : (ss : List (Step p.Command)) → AreReadSteps (HasInputText p.texts) ss → plays.refused ss ≡ None
       → claim_of (form_on nodes plays) (lines_of (claim_text plays (claim_by plays ss))) ≡ Whole (claim_by plays ss)

@@ -76,7 +76,7 @@ module _ (p : Application) (is : IsSpelledMachine p) (nodes : ℕ) where
   module _ {S M : Type 0} (on : Net) (m : Meaning S p.Command (PbOut p.Output) M) (few_nodes : nodes < 4294967296)
       (each_row : (i : StackId) (h : Header) → IsBy (row_of i) h → IsHeader h) (least : (row_of p.own).least ≤ 1) (most : 1 ≤ (row_of p.own).most) where
     abbrev plays : Play p.Command (PbOut p.Output) (Step p.Command)
-    plays = (backed_by p.own p.machine p.texts on m).stack.play
+    plays = (backed_by p.own p.machine p.texts on m p.makes).stack.play
 
     pub backed-read : (ss : List (Step p.Command)) → AreReadSteps HasIn ss → IsTextTrace p nodes (plays.trace ss)
         → claim_of (form_on nodes plays) (lines_of (claim_text plays (claim_by plays ss))) ≡ Whole (claim_by plays ss)

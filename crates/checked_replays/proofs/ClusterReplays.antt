@@ -41,7 +41,7 @@ put-in-text nodes HasIn HasOut (item.Output n o ∷ seen) texts i has = put-in-t
 
 module _ (p : Application) (is : IsSpelledMachine p) (nodes n : ℕ) (few_nodes : nodes < 4294967296) (most : n ≤ nodes) where
   abbrev plays : Play (RaftInput p.Command) (RaftOut p.Output) (RaftInput p.Command)
-  plays = (clustered p.machine p.texts n).stack.play
+  plays = (clustered p.machine p.texts p.makes n).stack.play
 
   pub cluster-read : (ss : List (Step (RaftInput p.Command))) → AreReadSteps (IsRaftInput (HasInputText p.texts)) ss → plays.refused ss ≡ None → IsLinearizable p.machine (plays.image ss) (plays.trace ss)
       → length (lines_of (claim_text plays (claim_by plays ss))) ≤ 8000000 → claim_of (form_on nodes plays) (lines_of (claim_text plays (claim_by plays ss))) ≡ Whole (claim_by plays ss)

@@ -50,9 +50,9 @@ module _ (each_row : (i : StackId) (h : Header) → IsBy (row_of i) h → IsHead
   WasWritten a = IsReplayOn (a n) number ls text
 
   module _ (h : OwnHandlers) (is : AreSpelledHandlers h) (own_least : row.least ≡ (row_of h.own).least) (own_most : row.most ≡ (row_of h.own).most) where
-    plain-claim : WasWritten (plain h.own h.handlers h.texts) → IsClaimOf (plain h.own h.handlers h.texts)
+    plain-claim : WasWritten (plain h.own h.handlers h.texts h.makes) → IsClaimOf (plain h.own h.handlers h.texts h.makes)
     plain-claim r =
-        let p = (plain h.own h.handlers h.texts n).stack.play in
+        let p = (plain h.own h.handlers h.texts h.makes n).stack.play in
         let read = steps-read h.texts.input_of (HasInputText h.texts) is.texts.inputs.has_text number ls r.steps r.says in
         record {
           claim = claim_by p r.steps;
@@ -61,9 +61,9 @@ module _ (each_row : (i : StackId) (h : Header) → IsBy (row_of i) h → IsHead
           so = r.explained;
         }
 
-    numbered-claim : WasWritten (numbered h.own h.handlers h.texts) → IsClaimOf (numbered h.own h.handlers h.texts)
+    numbered-claim : WasWritten (numbered h.own h.handlers h.texts h.makes) → IsClaimOf (numbered h.own h.handlers h.texts h.makes)
     numbered-claim r =
-        let p = (numbered h.own h.handlers h.texts n).stack.play in
+        let p = (numbered h.own h.handlers h.texts h.makes n).stack.play in
         let HasIn = HasInputText h.texts in
         let read = steps-read h.texts.input_of HasIn is.texts.inputs.has_text number ls r.steps r.says in
         record {
@@ -79,9 +79,9 @@ module _ (each_row : (i : StackId) (h : Header) → IsBy (row_of i) h → IsHead
     HasIn c = HasInputText p.texts c
 
     module _ (one_least : (row_of p.own).least ≡ 1) (one_most : (row_of p.own).most ≡ 1) where
-      alone-claim : row.most ≡ 1 → WasWritten (λ _. by_itself p.own p.machine p.texts) → IsClaimOf (λ _. by_itself p.own p.machine p.texts)
+      alone-claim : row.most ≡ 1 → WasWritten (λ _. by_itself p.own p.machine p.texts p.makes) → IsClaimOf (λ _. by_itself p.own p.machine p.texts p.makes)
       alone-claim one r =
-          let plays = (by_itself p.own p.machine p.texts).stack.play in
+          let plays = (by_itself p.own p.machine p.texts p.makes).stack.play in
           let read = steps-read p.texts.input_of HasIn is.texts.inputs.has_text number ls r.steps r.says in
           record {
             claim = claim_by plays r.steps;
@@ -90,9 +90,9 @@ module _ (each_row : (i : StackId) (h : Header) → IsBy (row_of i) h → IsHead
             so = r.explained;
           }
 
-      backed-claim : row.most ≡ 2 → WasWritten (λ _. backed p.own p.machine p.texts) → IsClaimOf (λ _. backed p.own p.machine p.texts)
+      backed-claim : row.most ≡ 2 → WasWritten (λ _. backed p.own p.machine p.texts p.makes) → IsClaimOf (λ _. backed p.own p.machine p.texts p.makes)
       backed-claim two r =
-          let plays = (backed p.own p.machine p.texts).stack.play in
+          let plays = (backed p.own p.machine p.texts p.makes).stack.play in
           let read = steps-read p.texts.input_of HasIn is.texts.inputs.has_text number ls r.steps r.says in
           record {
             claim = claim_by plays r.steps;
@@ -103,9 +103,9 @@ module _ (each_row : (i : StackId) (h : Header) → IsBy (row_of i) h → IsHead
           }
 
       -- with numbered packets clients see what they see on a bag without the repeats
-      backed-numbered-claim : row.most ≡ 2 → WasWritten (λ _. backed_numbered p.own p.machine p.texts) → IsClaimOf (λ _. backed_numbered p.own p.machine p.texts)
+      backed-numbered-claim : row.most ≡ 2 → WasWritten (λ _. backed_numbered p.own p.machine p.texts p.makes) → IsClaimOf (λ _. backed_numbered p.own p.machine p.texts p.makes)
       backed-numbered-claim two r =
-          let plays = (backed_numbered p.own p.machine p.texts).stack.play in
+          let plays = (backed_numbered p.own p.machine p.texts p.makes).stack.play in
           let read = steps-read p.texts.input_of HasIn is.texts.inputs.has_text number ls r.steps r.says in
           let same = repeats-do-nothing (primary_backup p.machine) no_recovery no_recovery r.steps r.allowed in
           record {
@@ -116,9 +116,9 @@ module _ (each_row : (i : StackId) (h : Header) → IsBy (row_of i) h → IsHead
             so = r.explained;
           }
 
-    clustered-claim : length (lines_of text) ≤ 8000000 → WasWritten (clustered p.machine p.texts) → IsClaimOf (clustered p.machine p.texts)
+    clustered-claim : length (lines_of text) ≤ 8000000 → WasWritten (clustered p.machine p.texts p.makes) → IsClaimOf (clustered p.machine p.texts p.makes)
     clustered-claim within r =
-        let plays = (clustered p.machine p.texts n).stack.play in
+        let plays = (clustered p.machine p.texts p.makes n).stack.play in
         let read = steps-read (raft_input_of p.texts.input_of) (IsRaftInput HasIn) (raft_inputs_are_spelled is.texts.inputs).has_text number ls r.steps r.says in
         record {
           claim = claim_by plays r.steps;

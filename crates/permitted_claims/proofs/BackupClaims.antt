@@ -61,7 +61,7 @@ module _ (apart : AreApart) (nodes : ℕ) (p : Application) (spelled : IsSpelled
     explained : IsOneMachine p.machine c → IsExplained p.texts.input_text p.machine c
     explained by = record { machine = by.machine; image = ap (map (step_text p.texts.input_text)) by.image }
 
-  pub backup-decided : IsDecided nodes (backed p.own p.machine p.texts)
+  pub backup-decided : IsDecided nodes (backed p.own p.machine p.texts p.makes)
   backup-decided ls c is =
       let yes = yes-one-machine HasOut p.texts.output_of p.texts.output_text spelled.texts.outputs p.machine p.texts.input_text c (replies-spelled ls c is) in
       (λ y. one-machine ls c is (yes.0 y), λ by. yes.1 (explained ls c is by))

@@ -70,6 +70,6 @@ module _ (apart : AreApart) (nodes : ℕ) (p : Application) (spelled : IsSpelled
         outputs = spelled.answers (map (λ r. r.cmd) c.image) (commands-text HasIn c.image read.image);
       }
 
-  pub cluster-decided : (n : ℕ) → IsDecided nodes (clustered p.machine p.texts n)
+  pub cluster-decided : (n : ℕ) → IsDecided nodes (clustered p.machine p.texts p.makes n)
   cluster-decided n ls c is =
       yes-linearizable HasOut p.texts.output_of p.texts.output_text spelled.texts.outputs p.machine HasIn p.texts.input_of p.texts.input_text spelled.texts.inputs c (cluster-spelled ls c is)

@@ -77,7 +77,7 @@ module _ (apart : AreApart) (own_row : (h : Header) → IsHeader h → IsBy (row
   nodes-within None is = absurd is
   nodes-within (Some g) is = subst (λ (s : StackId). g.nodes ≤ (row_of s).most) is.1 (own_row g is.0).most
 
-  pub own-decided : (n : ℕ) → IsDecided nodes (plain h.own h.handlers h.texts n)
+  pub own-decided : (n : ℕ) → IsDecided nodes (plain h.own h.handlers h.texts h.makes n)
   own-decided n ls c by =
       let HasIn = HasInputText h.texts in
       let HasOut = HasOutputText h.texts in
@@ -89,7 +89,7 @@ module _ (apart : AreApart) (own_row : (h : Header) → IsHeader h → IsBy (row
 
 -- on a machine alone, which shows each command with its answer
 module _ (apart : AreApart) (nodes : ℕ) (few_nodes : nodes < 4294967296) (one : 1 ≤ nodes) (p : Application) (is : IsSpelledMachine p) where
-  pub alone-decided : IsDecided nodes (by_itself p.own p.machine p.texts)
+  pub alone-decided : IsDecided nodes (by_itself p.own p.machine p.texts p.makes)
   alone-decided ls c by =
       let HasIn = HasInputText p.texts in
       let HasOut = HasOutputText p.texts in

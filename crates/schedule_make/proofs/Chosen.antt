@@ -1,5 +1,5 @@
 -- What a candidate that is chosen keeps to.
-use Rattle.std.proofs.Common.{◌≡◌, ℕ, zero, suc, ◌+◌, ◌<◌, ◌≤◌, Bool, true, false, cond, List, [], ◌∷◌, length, get_or, Some, refl, arith}
+use Rattle.std.proofs.Common.{◌≡◌, ℕ, zero, suc, ◌+◌, ◌<◌, ◌≤◌, Bool, true, false, cond, List, [], ◌∷◌, ◌++◌, length, get_or, Some, refl, sym, ap, ◌∙◌, arith}
 use Rattle.std.specs.List.{filter, range_with_len, slice_get}
 use Rattle.flight_index.specs.Flights.{numbers_of}
 
@@ -44,3 +44,23 @@ first-one false p from i x xs cs e h later =
 pub one-at : {X : Type 0} (p : X → Bool) (from : ℕ) (xs : List X) (i : ℕ) → i < length (numbers_of p from xs) → IsOne p from xs (get_or (numbers_of p from xs) i 0)
 one-at p from [] i h = absurd (omega (arith, h))
 one-at p from (x ∷ xs) i h = first-one (p x) p from i x xs (numbers_of p (from + 1) xs) refl h (λ j below. one-at p (from + 1) xs j below)
+
+-- one node more
+filter-more : (p : ℕ → Bool) (a n : ℕ) → filter p (range_with_len a (suc n)) ≡ filter p (range_with_len a n) ++ cond (p (a + n)) ((a + n) ∷ []) []
+filter-more p a zero = let e : a + 0 ≡ a = omega arith in sym (ap (λ k. cond (p k) (k ∷ []) []) e)
+filter-more p a (suc n) =
+    let e : a + 1 + n ≡ a + suc n = omega arith in
+    front (p a) a (filter p (range_with_len (a + 1) (suc n))) (filter p (range_with_len (a + 1) n)) (cond (p (a + suc n)) ((a + suc n) ∷ []) [])
+    (filter-more p (a + 1) n ∙ ap (λ k. filter p (range_with_len (a + 1) n) ++ cond (p k) (k ∷ []) []) e)
+  where
+    front : (b : Bool) (a : ℕ) (xs ys zs : List ℕ) → xs ≡ ys ++ zs → cond b (a ∷ xs) xs ≡ cond b (a ∷ ys) ys ++ zs
+    front true a xs ys zs h = ap (λ ks. a ∷ ks) h
+    front false a xs ys zs h = h
+
+pub filter-next : (p : ℕ → Bool) (n : ℕ) (b : Bool) → p n ≡ b → filter p (range_with_len 0 (n + 1)) ≡ filter p (range_with_len 0 n) ++ cond b (n ∷ []) []
+filter-next p n b is =
+    let on : n + 1 ≡ suc n = omega arith in
+    let here : 0 + n ≡ n = omega arith in
+    ap (λ k. filter p (range_with_len 0 k)) on ∙ filter-more p 0 n
+    ∙ ap (λ k. filter p (range_with_len 0 n) ++ cond (p k) (k ∷ []) []) here
+    ∙ ap (λ c. filter p (range_with_len 0 n) ++ cond c (n ∷ []) []) is

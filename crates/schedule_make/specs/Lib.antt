@@ -2,3 +2,5 @@ pub mod Candidates
 pub mod Inputs
 pub mod Made
 pub mod Allowed
+pub mod Flying
+pub mod Making

@@ -2,10 +2,17 @@
 //! world that the steps before it make. It knows nothing of lines.
 #![tactic(auto)]
 
+mod drawing;
 mod examples;
+mod inputs;
 mod laws;
+mod making;
 mod rows;
+mod words;
 
 pub use examples::{worked, worked_inputs};
+pub use inputs::{ByClients, KvInputs, LockInputs, MakesInputs, TableInputs};
 pub use laws::made_schedules_are_allowed;
+pub use making::Making;
 pub use rows::{worked_backups, worked_clusters, worked_locks};
+pub use words::Words;

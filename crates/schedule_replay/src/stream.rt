@@ -19,7 +19,7 @@ struct Replaying {
 impl<S: Source, K: Sink> OnStack<Reader, S, K> for Replaying {
     type Said = Result<Done, ReplayFault>;
 
-    ghost ready = { λ _ _ _ _. Unit {0} };
+    ghost ready = { λ _ _ _ _ _. Unit {0} };
 
     ghost Does = { λ _ a r s k r' s' k' result. ReplaysRest a.stack.play r (S.left s) (S.left s') (S.faults s) (S.faults s') (K.written k) (K.written k') (K.faults k) (K.faults k') (K.wants k) (K.wants k') result };
 

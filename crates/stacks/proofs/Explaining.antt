@@ -48,7 +48,7 @@ replies-as-alone p =
       takes = takes;
       replies = λ c is.
           let below = below_pb c.trace in
-          let alone_trace = ap (λ image. (by_itself p.own p.machine p.texts).stack.play.trace image) is.image ∙ takes.trace below in
+          let alone_trace = ap (λ image. (by_itself p.own p.machine p.texts p.makes).stack.play.trace image) is.image ∙ takes.trace below in
           is.machine.outputs ∙ ap (λ os. map told.Reply os) (sym (ap (λ items. outputs_in items) alone_trace ∙ outputs_in-machine_trace_from p.machine p.machine.init below));
     }
 

@@ -16,14 +16,14 @@ ExplainsAll a = (ss : List (Step a.Input)) → a.stack.play.refused ss ≡ None 
 
 -- a machine alone takes any commands, and its trace is each of them with the machine's answer after it
 pub record TakesCommands (p : Application) : Type 0 where
-  pub allowed : (cs : List p.Command) → (by_itself p.own p.machine p.texts).stack.play.refused (alone cs) ≡ None
-  pub trace : (cs : List p.Command) → (by_itself p.own p.machine p.texts).stack.play.trace (alone cs) ≡ machine_trace p.machine cs
+  pub allowed : (cs : List p.Command) → (by_itself p.own p.machine p.texts p.makes).stack.play.refused (alone cs) ≡ None
+  pub trace : (cs : List p.Command) → (by_itself p.own p.machine p.texts p.makes).stack.play.trace (alone cs) ≡ machine_trace p.machine cs
 
 -- and under primary-backup the outputs of the machine alone, over what stands below a trace, are what the primary told clients
 pub record RepliesAsAlone (p : Application) : Type 0 where
   pub takes : TakesCommands p
   pub replies : (c : BackupClaim p.Command p.Output) → IsOneMachine p.machine c
-      → outputs_at 0 c.trace ≡ map told.Reply (outputs_in ((by_itself p.own p.machine p.texts).stack.play.trace c.image))
+      → outputs_at 0 c.trace ≡ map told.Reply (outputs_in ((by_itself p.own p.machine p.texts p.makes).stack.play.trace c.image))
 
 -- where an image is a schedule of a machine alone, it takes the image, and answers as it says
 abbrev pub TakesImages : Kind → Type 0

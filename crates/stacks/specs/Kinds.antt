@@ -22,6 +22,8 @@ use Rattle.primary_backup.specs.Backup.{primary_backup}
 use Rattle.raft_text.specs.RaftTexts.{order_text, raft_input_of, raft_input_text, raft_output_of, raft_output_text, raft_replies}
 use Rattle.raft_types.specs.declared.client.RaftInput.{RaftInput}
 use Rattle.raft_types.specs.declared.client.RaftOut.{RaftOut}
+use Rattle.schedule_make.specs.Inputs.{asked_by_client}
+use Rattle.schedule_make.specs.Made.{Inputs}
 use Rattle.schedule_text.specs.Printing.{step_text}
 use Rattle.schedule_text.specs.declared.header.Header.{Header}
 use Rattle.seqnum_xform.specs.Numbering.{sequence_numbered}
@@ -62,11 +64,11 @@ module _ {S I O M : Type 0} (own : StackId) (handlers : ℕ → Meaning S I O M)
   abbrev pub IsItsRun : ScheduleClaim I O → Type 0
   IsItsRun c = IsWhatClientsSee (row_of own).net (handlers (nodes_of c.header)) c
 
-  abbrev pub plain : ℕ → AnyStack
-  plain n = any (stack_of (system_of (row_of own).net (handlers n) (λ ss. ss)) t (schedule_below (header_on own n) t) own_verdict) IsItsRun
+  abbrev pub plain : Inputs I → ℕ → AnyStack
+  plain makes n = any (stack_of (system_of (row_of own).net (handlers n) (λ ss. ss)) t makes (schedule_below (header_on own n) t) own_verdict) IsItsRun
 
-  abbrev pub numbered : ℕ → AnyStack
-  numbered n = any (stack_of (system_of net.Dup (sequence_numbered (handlers n)) once) t (schedule_below (header_on own n) t) own_verdict) IsItsRun
+  abbrev pub numbered : Inputs I → ℕ → AnyStack
+  numbered makes n = any (stack_of (system_of net.Dup (sequence_numbered (handlers n)) once) t makes (schedule_below (header_on own n) t) own_verdict) IsItsRun
 
 -- how a machine's commands and outputs are spelled under primary-backup, and on a cluster
 abbrev pub pb_texts : {C O : Type 0} → Texts C O → Texts C (PbOut O)
@@ -94,29 +96,29 @@ module _ {S C O : Type 0} (m : MachineMeaning S C O) where
 
 -- a machine alone, under primary-backup by these handlers on a network, and on a cluster. Alone it is a stack by itself
 module _ {S C O : Type 0} (own : StackId) (m : MachineMeaning S C O) (t : Texts C O) where
-  abbrev pub by_itself : AnyStack
-  by_itself = any
-      (stack_of (system_of net.One (single_node m) (λ ss. ss)) t (schedule_below (header_on own 1) t) (schedule_verdict t.input_text t.output_text net.One (single_node m)))
+  abbrev pub by_itself : Inputs C → AnyStack
+  by_itself makes = any
+      (stack_of (system_of net.One (single_node m) (λ ss. ss)) t makes (schedule_below (header_on own 1) t) (schedule_verdict t.input_text t.output_text net.One (single_node m)))
       (IsMachineAlone m)
 
-  abbrev pub backed_by : {B M : Type 0} → Net → Meaning B C (PbOut O) M → AnyStack
-  backed_by {B = B} on handlers = any
-      (stack_of (system_of on handlers (λ ss. alone (below_pb (trace handlers (no_recovery {S = B}) ss)))) (pb_texts t) (schedule_below (header_on own 1) t) (backup_verdict t.input_text t.output_text m))
+  abbrev pub backed_by : {B M : Type 0} → Net → Meaning B C (PbOut O) M → Inputs C → AnyStack
+  backed_by {B = B} on handlers makes = any
+      (stack_of (system_of on handlers (λ ss. alone (below_pb (trace handlers (no_recovery {S = B}) ss)))) (pb_texts t) makes (schedule_below (header_on own 1) t) (backup_verdict t.input_text t.output_text m))
       (IsOneMachine m)
 
-  abbrev pub backed : AnyStack
+  abbrev pub backed : Inputs C → AnyStack
   backed = backed_by net.Bag (primary_backup m)
 
-  abbrev pub backed_numbered : AnyStack
+  abbrev pub backed_numbered : Inputs C → AnyStack
   backed_numbered = backed_by net.Dup (sequence_numbered (primary_backup m))
 
 module _ {S C O : Type 0} (m : MachineMeaning S C O) (t : Texts C O) where
-  abbrev pub clustered : ℕ → AnyStack
-  clustered n = any
-      (stack_of (cluster_of m n) (raft_texts t) (order_below t) (cluster_verdict t.input_text t.output_text m))
+  abbrev pub clustered : Inputs C → ℕ → AnyStack
+  clustered makes n = any
+      (stack_of (cluster_of m n) (raft_texts t) (asked_by_client makes) (order_below t) (cluster_verdict t.input_text t.output_text m))
       (λ c. IsLinearizable m c.image c.trace)
 
--- handlers of so many nodes with their texts, which without a transformer are this stack
+-- handlers of so many nodes with their texts and the inputs of made schedules, which without a transformer are this stack
 pub record OwnHandlers : Type 1 where
   pub State : Type 0
   pub Input : Type 0
@@ -125,11 +127,13 @@ pub record OwnHandlers : Type 1 where
   pub own : StackId
   pub handlers : ℕ → Meaning State Input Output Msg
   pub texts : Texts Input Output
+  pub makes : Inputs Input
 
-abbrev pub own_handlers : {S I O M : Type 0} → StackId → (ℕ → Meaning S I O M) → Texts I O → OwnHandlers
-own_handlers {S = S} {I = I} {O = O} {M = M} own handlers t = record { State = S; Input = I; Output = O; Msg = M; own = own; handlers = handlers; texts = t }
+abbrev pub own_handlers : {S I O M : Type 0} → StackId → (ℕ → Meaning S I O M) → Texts I O → Inputs I → OwnHandlers
+own_handlers {S = S} {I = I} {O = O} {M = M} own handlers t makes =
+    record { State = S; Input = I; Output = O; Msg = M; own = own; handlers = handlers; texts = t; makes = makes }
 
--- a machine with its texts, which alone is this stack
+-- a machine with its texts and the commands of made schedules, which alone is this stack
 pub record Application : Type 1 where
   pub State : Type 0
   pub Command : Type 0
@@ -137,9 +141,10 @@ pub record Application : Type 1 where
   pub own : StackId
   pub machine : MachineMeaning State Command Output
   pub texts : Texts Command Output
+  pub makes : Inputs Command
 
-abbrev pub application : {S C O : Type 0} → StackId → MachineMeaning S C O → Texts C O → Application
-application {S = S} {C = C} {O = O} own m t = record { State = S; Command = C; Output = O; own = own; machine = m; texts = t }
+abbrev pub application : {S C O : Type 0} → StackId → MachineMeaning S C O → Texts C O → Inputs C → Application
+application {S = S} {C = C} {O = O} own m t makes = record { State = S; Command = C; Output = O; own = own; machine = m; texts = t; makes = makes }
 
 -- a kind of stack, with what it is a stack of
 pub data Kind : Type 1 where
@@ -152,9 +157,9 @@ pub data Kind : Type 1 where
 
 -- the stack of so many nodes
 abbrev pub of_kind : Kind → ℕ → AnyStack
-of_kind (Plain h) n = plain h.own h.handlers h.texts n
-of_kind (Numbered h) n = numbered h.own h.handlers h.texts n
-of_kind (Alone p) n = by_itself p.own p.machine p.texts
-of_kind (Backed p) n = backed p.own p.machine p.texts
-of_kind (BackedNumbered p) n = backed_numbered p.own p.machine p.texts
-of_kind (Clustered p) n = clustered p.machine p.texts n
+of_kind (Plain h) n = plain h.own h.handlers h.texts h.makes n
+of_kind (Numbered h) n = numbered h.own h.handlers h.texts h.makes n
+of_kind (Alone p) n = by_itself p.own p.machine p.texts p.makes
+of_kind (Backed p) n = backed p.own p.machine p.texts p.makes
+of_kind (BackedNumbered p) n = backed_numbered p.own p.machine p.texts p.makes
+of_kind (Clustered p) n = clustered p.machine p.texts p.makes n

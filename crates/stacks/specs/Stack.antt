@@ -8,6 +8,7 @@ use Rattle.check_text.specs.Claims.{Claim}
 use Rattle.check_text.specs.declared.image_line.ImageLine.{ImageLine}
 use Rattle.claim_verdicts.specs.declared.verdict.Verdict.{Verdict}
 use Rattle.net_semantics.specs.Runs.{first_refused, trace}
+use Rattle.schedule_make.specs.Made.{Inputs, made}
 use Rattle.schedule_text.specs.declared.header.Header.{Header}
 use Rattle.xform_stack.specs.Running.{System}
 
@@ -50,13 +51,18 @@ play_of sys t below = record {
   below = below;
 }
 
--- how schedules of a stack play, and the verdict on a claim on it
+-- the schedules that are made for a system, by a number and by how many steps they have
+abbrev pub made_of : {S K I O M G : Type 0} → System S K I O M G → Inputs I → ℕ → ℕ → List (Step I)
+made_of sys inputs seed steps = made sys.net sys.meaning sys.recovery inputs seed steps
+
+-- how schedules of a stack play, those that are made for it, and the verdict on a claim on it
 pub record Stack (I O G : Type 0) : Type 0 where
   pub play : Play I O G
+  pub made : ℕ → ℕ → List (Step I)
   pub verdict : Claim I O G → Verdict
 
-abbrev pub stack_of : {S K I O M G : Type 0} → System S K I O M G → Texts I O → ImageTexts G → (Claim I O G → Verdict) → Stack I O G
-stack_of sys t below verdict = record { play = play_of sys t below; verdict = verdict }
+abbrev pub stack_of : {S K I O M G : Type 0} → System S K I O M G → Texts I O → Inputs I → ImageTexts G → (Claim I O G → Verdict) → Stack I O G
+stack_of sys t inputs below verdict = record { play = play_of sys t below; made = made_of sys inputs; verdict = verdict }
 
 -- a stack of any inputs, outputs and lines of an image, with what it means that an image explains a trace
 pub record AnyStack : Type 1 where

@@ -17,6 +17,7 @@ use Rattle.lock_server.specs.Locks.{lock_server}
 use Rattle.lock_table.specs.Table.{table}
 use Rattle.lock_table.specs.declared.cmd.TableCmd.{TableCmd}
 use Rattle.lock_table.specs.declared.out.TableOut.{TableOut}
+use Rattle.schedule_make.specs.Inputs.{kv_input, lock_input, table_input}
 use Rattle.stacks.specs.Kinds.{Application, Kind, OwnHandlers, Plain, Numbered, Alone, Backed, BackedNumbered, Clustered, application, of_kind, own_handlers}
 use Rattle.stacks.specs.Stack.{Entry, Found, Here, Nowhere, Texts, found_map, texts_of}
 
@@ -31,13 +32,13 @@ table_texts = texts_of table_text.input_of table_text.input_text table_text.outp
 
 -- the lock server, the key-value machine and the table of named locks
 abbrev pub locks : OwnHandlers
-locks = own_handlers stack.Lock lock_server lock_texts
+locks = own_handlers stack.Lock lock_server lock_texts lock_input
 
 abbrev pub store : Application
-store = application stack.Kv kv kv_texts
+store = application stack.Kv kv kv_texts kv_input
 
 abbrev pub lock_table : Application
-lock_table = application stack.Table table table_texts
+lock_table = application stack.Table table table_texts table_input
 
 -- the kind of stack that a network and a name are, if there is one: one line a stack
 abbrev pub kind_at : Net → StackId → Found Kind

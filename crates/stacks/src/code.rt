@@ -1,17 +1,19 @@
 ghost use Rattle.std.specs.Prelude.{◌≡◌, ◌≤◌, ◌+◌, ℕ, [], IfOk, length, option_map};
 ghost use Rattle.check_text.specs.Claims.{Claim as SpecClaim};
 ghost use Rattle.check_text.specs.ImageLines.{IsHeaded};
-ghost use Rattle.stacks.specs.Stack.{AnyStack, Stack, any, image_of, play_of, texts_of};
+ghost use Rattle.stacks.specs.Stack.{AnyStack, Stack, any, image_of, made_of, play_of, texts_of};
 ghost use Rattle.xform_stack.specs.Running.{HasRun};
+ghost use Rattle.vst_base.specs.declared.node.TheConstants.{MAX_NODES};
 ghost use Rattle.vst_base.specs.declared.step.TheConstants.{MAX_STEPS};
 ghost use Rattle.check_text.specs.declared.reading.TheConstants.{MAX_LINES};
 
 use app_text::AppText;
 use check_text::{Claim, ImageText};
 use claim_verdicts::Verdict;
+use schedule_make::MakesInputs;
 use schedule_text::{Header, Printed};
 use std::alloc::{AllocError, Global};
-use xform_stack::Runs;
+use xform_stack::{Explores, Runs};
 
 /// The code of a stack, which is known by its type and its number of nodes.
 pub trait StackCode {
@@ -29,7 +31,10 @@ pub trait StackCode {
     type Lines: ImageText<Line = Self::Line>;
 
     /// A schedule that is run.
-    type Running: Runs<Input = Self::Input, Output = Self::Output, Line = Self::Line>;
+    type Running: Runs<Input = Self::Input, Output = Self::Output, Line = Self::Line> + Explores;
+
+    /// The inputs of made schedules.
+    type Inputs: MakesInputs<Input = Self::Input>;
 
     /// The stack of so many nodes that this is the code of.
     ghost stack: { ℕ → Stack Self.Input Self.Output Self.Line };
@@ -53,7 +58,9 @@ pub trait StackCode {
             HasRun (Self.Running.system running) Self.Running.follows Self.Running.progress [] [] running) }
         ensures sound { IfOk result Self.Running.sound }
         ensures runs { IfOk result (λ running.
-            (stack nodes).play ≡ play_of (Self.Running.system running) (stack nodes).play.texts (stack nodes).play.below) };
+            (stack nodes).play ≡ play_of (Self.Running.system running) (stack nodes).play.texts (stack nodes).play.below) }
+        ensures made { IfOk result (λ running. (stack nodes).made ≡ made_of (Self.Running.system running) Self.Inputs.inputs) }
+        ensures few_nodes { IfOk result (λ running. (Self.Running.system running).meaning.nodes ≤ MAX_NODES) };
 
     /// The verdict on a claim that was read.
     fn verdict(
@@ -72,14 +79,14 @@ pub trait OnStack<A, B, C> {
     type Said;
 
     /// When it may do that.
-    ghost ready: { Self → A → B → C → Type 0 };
+    ghost ready: { Self → AnyStack → A → B → C → Type 0 };
 
     /// What it makes of what is lent to it, and what it says.
     ghost Does: { Self → AnyStack → A → B → C → A → B → C → Self.Said → Type 0 };
 
     /// Does it on the stack of so many nodes.
     fn on<S: StackCode>(self, nodes: u8, a: &mut A, b: &mut B, c: &mut C) -> Self::Said
-        requires ready { ready self a.old b.old c.old }
+        requires ready { ready self (any (S.stack nodes) S.Explains) a.old b.old c.old }
         requires stack { S.ready nodes }
         ensures { Does self (any (S.stack nodes) S.Explains) a.old b.old c.old a.new b.new c.new result };
 }

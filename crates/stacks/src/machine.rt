@@ -13,6 +13,7 @@ use claim_verdicts::{Verdict, backup_verdict, cluster_verdict, schedule_verdict}
 use primary_backup::PrimaryBackup;
 use raft_text::RaftText;
 use raft_types::{RaftInput, RaftOut};
+use schedule_make::{ByClients, MakesInputs};
 use schedule_text::Header;
 use single_node::SingleNode;
 use std::alloc::{AllocError, Global};
@@ -24,6 +25,9 @@ use xform_stack::{Itself, RepliedTo, Running, RunningCluster, SeqNum};
 pub trait Application: Machine {
     /// How its commands and outputs are spelled.
     type Text: MachineText<Input = Self::Cmd, Output = Self::Out>;
+
+    /// Its commands in made schedules.
+    type Inputs: MakesInputs<Input = Self::Cmd>;
 
     /// Which stack it is alone.
     ghost own: { SpecId };
@@ -78,9 +82,11 @@ impl<M: Application> StackCode for Alone<M> {
 
     type Lines = Steps<M::Text>;
 
+    type Inputs = M::Inputs;
+
     type Running = Running<SingleNode<M>, Itself<M::Cmd>>;
 
-    ghost stack = { λ _. (by_itself M.own (M.meaning M.machine) (texts_of M.Text.input_of M.Text.input_text M.Text.output_of M.Text.output_text M.Text.replies)).stack };
+    ghost stack = { λ _. (by_itself M.own (M.meaning M.machine) (texts_of M.Text.input_of M.Text.input_text M.Text.output_of M.Text.output_text M.Text.replies) M.Inputs.inputs).stack };
 
     ghost Explains = { IsMachineAlone (M.meaning M.machine) };
 
@@ -115,9 +121,11 @@ impl<M: Application> StackCode for Backed<M> {
 
     type Lines = Steps<PbText<M::Text>>;
 
+    type Inputs = M::Inputs;
+
     type Running = Running<PrimaryBackup<M>, RepliedTo<M::Cmd>>;
 
-    ghost stack = { λ _. (backed M.own (M.meaning M.machine) (texts_of M.Text.input_of M.Text.input_text M.Text.output_of M.Text.output_text M.Text.replies)).stack };
+    ghost stack = { λ _. (backed M.own (M.meaning M.machine) (texts_of M.Text.input_of M.Text.input_text M.Text.output_of M.Text.output_text M.Text.replies) M.Inputs.inputs).stack };
 
     ghost Explains = { IsOneMachine (M.meaning M.machine) };
 
@@ -151,9 +159,11 @@ impl<M: Application> StackCode for BackedNumbered<M> {
 
     type Lines = Steps<PbText<M::Text>>;
 
+    type Inputs = M::Inputs;
+
     type Running = Running<SeqNum<PrimaryBackup<M>>, RepliedTo<M::Cmd>>;
 
-    ghost stack = { λ _. (backed_numbered M.own (M.meaning M.machine) (texts_of M.Text.input_of M.Text.input_text M.Text.output_of M.Text.output_text M.Text.replies)).stack };
+    ghost stack = { λ _. (backed_numbered M.own (M.meaning M.machine) (texts_of M.Text.input_of M.Text.input_text M.Text.output_of M.Text.output_text M.Text.replies) M.Inputs.inputs).stack };
 
     ghost Explains = { IsOneMachine (M.meaning M.machine) };
 
@@ -188,9 +198,11 @@ impl<M: Application> StackCode for Clustered<M> {
 
     type Lines = Orders<RaftText<M::Text>>;
 
+    type Inputs = ByClients<M::Inputs>;
+
     type Running = RunningCluster<M>;
 
-    ghost stack = { λ n. (clustered (M.meaning M.machine) (texts_of M.Text.input_of M.Text.input_text M.Text.output_of M.Text.output_text M.Text.replies) n).stack };
+    ghost stack = { λ n. (clustered (M.meaning M.machine) (texts_of M.Text.input_of M.Text.input_text M.Text.output_of M.Text.output_text M.Text.replies) M.Inputs.inputs n).stack };
 
     ghost Explains = { λ c. IsLinearizable (M.meaning M.machine) c.image c.trace };
 

@@ -5,6 +5,7 @@ ghost use Rattle.stacks.specs.Stack.{texts_of};
 ghost use Rattle.vst_base.specs.Stacks.{row_of};
 ghost use Rattle.vst_base.specs.declared.net.Net.TheVariants as net;
 ghost use Rattle.vst_base.specs.declared.stack.StackId.{StackId as SpecId};
+ghost use Rattle.vst_base.specs.declared.node.TheConstants.{MAX_NODES};
 ghost use Rattle.vst_base.specs.declared.step.TheConstants.{MAX_STEPS};
 ghost use Rattle.check_text.specs.declared.reading.TheConstants.{MAX_LINES};
 
@@ -13,6 +14,7 @@ use app_text::AppText;
 use check_text::{Claim, Steps};
 use claim_verdicts::{Verdict, schedule_verdict};
 use handler_trait::Handlers;
+use schedule_make::MakesInputs;
 use schedule_text::{Header, headers_follow_the_rows};
 use std::alloc::{AllocError, Global};
 use std::marker::PhantomData;
@@ -23,6 +25,9 @@ use xform_stack::{Itself, Running, SeqNum, WithoutRepeats};
 pub trait OwnStack: Handlers {
     /// How their inputs and outputs are spelled.
     type Text: AppText<Input = Self::Input, Output = Self::Output>;
+
+    /// Their inputs in made schedules.
+    type Inputs: MakesInputs<Input = Self::Input>;
 
     /// Which stack they are.
     ghost own: { SpecId };
@@ -40,7 +45,8 @@ pub trait OwnStack: Handlers {
     fn of_nodes(nodes: u8) -> Self
         requires least { (row_of own).least ≤ nodes }
         requires most { nodes ≤ (row_of own).most }
-        ensures { result ≡ of_nodes nodes };
+        ensures of_nodes { result ≡ of_nodes nodes }
+        ensures few_nodes { (Self.meaning result).nodes ≤ MAX_NODES };
 }
 
 // The header of a schedule of a stack on its network.
@@ -97,9 +103,11 @@ impl<H: OwnStack> StackCode for Plain<H> {
 
     type Lines = Steps<H::Text>;
 
+    type Inputs = H::Inputs;
+
     type Running = Running<H, Itself<H::Input>>;
 
-    ghost stack = { λ n. (plain H.own (λ k. H.meaning (H.of_nodes k)) (texts_of H.Text.input_of H.Text.input_text H.Text.output_of H.Text.output_text H.Text.replies) n).stack };
+    ghost stack = { λ n. (plain H.own (λ k. H.meaning (H.of_nodes k)) (texts_of H.Text.input_of H.Text.input_text H.Text.output_of H.Text.output_text H.Text.replies) H.Inputs.inputs n).stack };
 
     ghost Explains = { IsItsRun H.own (λ k. H.meaning (H.of_nodes k)) (texts_of H.Text.input_of H.Text.input_text H.Text.output_of H.Text.output_text H.Text.replies) };
 
@@ -133,9 +141,11 @@ impl<H: OwnStack> StackCode for Numbered<H> {
 
     type Lines = Steps<H::Text>;
 
+    type Inputs = H::Inputs;
+
     type Running = Running<SeqNum<H>, WithoutRepeats<H::Input>>;
 
-    ghost stack = { λ n. (numbered H.own (λ k. H.meaning (H.of_nodes k)) (texts_of H.Text.input_of H.Text.input_text H.Text.output_of H.Text.output_text H.Text.replies) n).stack };
+    ghost stack = { λ n. (numbered H.own (λ k. H.meaning (H.of_nodes k)) (texts_of H.Text.input_of H.Text.input_text H.Text.output_of H.Text.output_text H.Text.replies) H.Inputs.inputs n).stack };
 
     ghost Explains = { IsItsRun H.own (λ k. H.meaning (H.of_nodes k)) (texts_of H.Text.input_of H.Text.input_text H.Text.output_of H.Text.output_text H.Text.replies) };
 

@@ -11,11 +11,14 @@ use app_text::{KvText, LockText, TableText};
 use kv_machine::KvMachine;
 use lock_server::LockServer;
 use lock_table::TableMachine;
+use schedule_make::{KvInputs, LockInputs, TableInputs};
 use schedule_text::{Header, headers_follow_the_rows};
 use vst_base::StackId;
 
 impl OwnStack for LockServer {
     type Text = LockText;
+
+    type Inputs = LockInputs;
 
     ghost own = { id.Lock };
 
@@ -33,6 +36,8 @@ impl OwnStack for LockServer {
 impl Application for KvMachine {
     type Text = KvText;
 
+    type Inputs = KvInputs;
+
     ghost own = { id.Kv };
 
     ghost machine = { record {} };
@@ -48,6 +53,8 @@ impl Application for KvMachine {
 
 impl Application for TableMachine {
     type Text = TableText;
+
+    type Inputs = TableInputs;
 
     ghost own = { id.Table };
 
@@ -71,7 +78,8 @@ pub fn on_stack<A, B, C, V: OnStack<A, B, C>>(
     c: &mut C,
 ) -> V::Said
     requires known { IsHeader header.now }
-    requires ready { V.ready command a.old b.old c.old }
+    requires ready { IfFound (stack_at header.now.net header.now.stack) (λ e.
+        V.ready command (e.of header.now.nodes) a.old b.old c.old) }
     ensures { IfFound (stack_at header.now.net header.now.stack) (λ e.
         V.Does command (e.of header.now.nodes) a.old b.old c.old a.new b.new c.new result) }
 {

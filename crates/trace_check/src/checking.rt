@@ -22,7 +22,7 @@ struct Checking {
 impl<S: Source> OnStack<S, (), ()> for Checking {
     type Said = Result<Verdict, CheckFault>;
 
-    ghost ready = { λ _ _ _ _. Unit {0} };
+    ghost ready = { λ _ _ _ _ _. Unit {0} };
 
     ghost Does = { λ c a s _ _ s' _ _ result. ChecksText c.nodes a.stack (S.left s) (S.left s') (S.faults s) (S.faults s') result };
 

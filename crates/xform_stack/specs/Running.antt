@@ -8,6 +8,7 @@ use Rattle.vst_base.specs.declared.step.StepRefusal.{StepRefusal}
 use Rattle.vst_base.specs.declared.step.StepRefusal.TheVariants as refusal
 use Rattle.net_semantics.specs.Runs.{run, trace, first_refused, no_recovery}
 use Rattle.net_semantics.specs.Shown.{WorldView, Shows}
+use Rattle.net_semantics.specs.Worlds.{World}
 use Rattle.xform_stack.specs.declared.ran.RunFault.{RunFault}
 use Rattle.xform_stack.specs.declared.ran.RunFault.TheVariants as fault
 
@@ -21,6 +22,10 @@ pub record System (S K I O M G : Type 0) : Type 0 where
 -- handlers on a network without crashes
 abbrev pub system_of : {S I O M G : Type 0} → Net → Meaning S I O M → (List (Step I) → List G) → System S S I O M G
 system_of net m image = record { net = net; meaning = m; recovery = no_recovery; image = image }
+
+-- the world after these steps
+abbrev pub world_of : {S K I O M G : Type 0} → System S K I O M G → List (Step I) → World S K M
+world_of sys ss = run sys.meaning sys.recovery ss
 
 -- what clients saw since it was last cleared, and how many steps were taken
 pub record Progress (I O : Type 0) : Type 0 where

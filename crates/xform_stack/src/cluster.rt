@@ -1,19 +1,19 @@
-ghost use Rattle.std.specs.Prelude.{◌≡◌, [], IfOk, length};
+ghost use Rattle.std.specs.Prelude.{◌≡◌, [], IfOk};
 ghost use Rattle.applied_order.specs.Orders.{IsSoundCluster};
-ghost use Rattle.net_semantics.specs.Worlds.{copies, ends};
 ghost use Rattle.raft_types.specs.Ranges.{IsClusterSize};
-ghost use Rattle.xform_stack.specs.Clusters.{ForShownCluster, HasFollowedCluster, cluster_of};
+ghost use Rattle.xform_stack.specs.Clusters.{HasFollowedCluster, cluster_of};
 
 use crate::refusing::fault_at;
-use crate::{Ran, RunFault, Runs};
+use crate::{Explores, Ran, RunFault, Runs};
 use applied_order::AppliedOrder;
+use handler_trait::Handlers;
 use net_semantics::{FailWorld, Trace};
 use raft_types::{Kept, RaftInput, RaftMsg, RaftOut};
 use raft_xform::{Raft, RaftState};
 use std::alloc::{AllocError, Global};
 use std::marker::Model;
 use trace_maps::Image;
-use vst_base::{Machine, Node, Step};
+use vst_base::{Machine, Net, Node, Step};
 
 /// A schedule of a machine on a cluster, on a network that fails, that is run one step at a time: the world so far, and the
 /// order of the requests that were executed so far.
@@ -53,35 +53,6 @@ impl<M: Machine> RunningCluster<M> {
             world: FailWorld::new(alloc, Raft::new(machine, nodes))?,
             order: AppliedOrder::new(alloc),
         })
-    }
-
-    /// How many copies of packet `k` are in flight, none of one that was never sent.
-    pub fn copies(&self, k: u32) -> u32
-        ensures { ForShownCluster self.now (λ w. result ≡ copies w k) }
-    {
-        self.world.copies(k)
-    }
-
-    /// The source and the destination of packet `k`, and `None` exactly where it was never sent.
-    pub fn ends(&self, k: u32) -> Option<(Node, Node)>
-        ensures { ForShownCluster self.now (λ w. result ≡ ends w k) }
-    {
-        self.world.ends(k)
-    }
-
-    /// How many packets were sent.
-    pub fn sent(&self) -> u32
-        requires sound { IsSoundCluster (M.meaning self.now.world.handlers.machine) self.now.world.handlers.nodes self.now.world }
-        ensures { ForShownCluster self.now (λ w. result ≡ length w.packets) }
-    {
-        self.world.sent()
-    }
-
-    /// Whether node `n` is up.
-    pub fn is_up(&self, n: Node) -> bool
-        ensures { ForShownCluster self.now (λ w. result ≡ w.is_up n) }
-    {
-        self.world.is_up(n)
     }
 }
 
@@ -139,5 +110,35 @@ impl<M: Machine> Runs for RunningCluster<M> {
             trace: self.world.into_trace(),
             image: Image::from_lines(self.order.into_requests()),
         }
+    }
+}
+
+impl<M: Machine> Explores for RunningCluster<M> {
+    fn net(&self) -> Net {
+        Net::Fail
+    }
+
+    fn nodes(&self) -> u8 {
+        self.world.handlers().nodes()
+    }
+
+    fn takes_input(&self, n: Node) -> bool {
+        self.world.handlers().takes_input(n)
+    }
+
+    fn is_up(&self, n: Node) -> bool {
+        self.world.is_up(n)
+    }
+
+    fn sent(&self) -> u32 {
+        self.world.sent()
+    }
+
+    fn copies(&self, k: u32) -> u32 {
+        self.world.copies(k)
+    }
+
+    fn ends(&self, k: u32) -> Option<(Node, Node)> {
+        self.world.ends(k)
     }
 }

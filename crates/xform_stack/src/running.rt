@@ -2,13 +2,12 @@ ghost use Rattle.std.specs.Prelude.{◌≡◌, ◌≢◌, ℕ, ◌≤◌, drop, 
 ghost use Rattle.handler_trait.specs.Handling.{Meaning};
 ghost use Rattle.net_semantics.specs.Steps.{items_of};
 ghost use Rattle.net_semantics.specs.Runs.{run, no_recovery};
-ghost use Rattle.net_semantics.specs.Shown.{ForShown, IsSoundBy};
-ghost use Rattle.net_semantics.specs.Worlds.{copies, ends};
+ghost use Rattle.net_semantics.specs.Shown.{IsSoundBy};
 ghost use Rattle.vst_base.specs.declared.step.Step.{Step};
 ghost use Rattle.xform_stack.specs.Running.{HasFollowed, system_of};
 
 use crate::refusing::fault_at;
-use crate::{Ran, RunFault, Runs};
+use crate::{Explores, Ran, RunFault, Runs};
 use handler_trait::Handlers;
 use net_semantics::{Trace, World};
 use std::alloc::{AllocError, Global};
@@ -21,6 +20,7 @@ use vst_base::{Item, Net, Node, Step};
 #[derive(Drop)]
 pub struct Running<H: Handlers, T: TraceMap<H>> {
     alloc: Global,
+    net: Net,
     world: World<H>,
     map: T,
 }
@@ -31,6 +31,10 @@ impl<H: Handlers, T: TraceMap<H>> Model for Running<H, T> {
     ghost Value = { RunView H H.State H.Input H.Output H.Msg T };
 
     ghost view = { λ r. record { world = r.world; map = r.map } };
+
+    ghost use Rattle.std.specs.Prelude.{◌≡◌};
+
+    ghost invariant = { λ r. r.net ≡ r.world.net };
 }
 
 // Follows a step that was taken, of which clients saw what stands after the first `before` items.
@@ -65,38 +69,10 @@ impl<H: Handlers, T: TraceMap<H>> Running<H, T> {
         let world = World::new(alloc, handlers, net)?;
         Ok(Running {
             alloc,
+            net,
             world,
             map: T::start(alloc),
         })
-    }
-
-    /// How many copies of packet `k` are in flight, none of one that was never sent.
-    pub fn copies(&self, k: u32) -> u32
-        ensures { ForShown H.Handlers self.now.world (λ w. result ≡ copies w k) }
-    {
-        self.world.copies(k)
-    }
-
-    /// The source and the destination of packet `k`, and `None` exactly where it was never sent.
-    pub fn ends(&self, k: u32) -> Option<(Node, Node)>
-        ensures { ForShown H.Handlers self.now.world (λ w. result ≡ ends w k) }
-    {
-        self.world.ends(k)
-    }
-
-    /// How many packets were sent.
-    pub fn sent(&self) -> u32
-        requires sound { IsSoundBy H.Handlers self.now.world }
-        ensures { ForShown H.Handlers self.now.world (λ w. result ≡ length w.packets) }
-    {
-        self.world.sent()
-    }
-
-    /// Whether node `n` is up.
-    pub fn is_up(&self, n: Node) -> bool
-        ensures { ForShown H.Handlers self.now.world (λ w. result ≡ w.is_up n) }
-    {
-        self.world.is_up(n)
     }
 }
 
@@ -164,5 +140,35 @@ impl<H: Handlers, T: TraceMap<H>> Runs for Running<H, T> {
             trace: self.world.into_trace(),
             image: self.map.into_image(),
         }
+    }
+}
+
+impl<H: Handlers, T: TraceMap<H>> Explores for Running<H, T> {
+    fn net(&self) -> Net {
+        self.net
+    }
+
+    fn nodes(&self) -> u8 {
+        self.world.handlers().nodes()
+    }
+
+    fn takes_input(&self, n: Node) -> bool {
+        self.world.handlers().takes_input(n)
+    }
+
+    fn is_up(&self, n: Node) -> bool {
+        self.world.is_up(n)
+    }
+
+    fn sent(&self) -> u32 {
+        self.world.sent()
+    }
+
+    fn copies(&self, k: u32) -> u32 {
+        self.world.copies(k)
+    }
+
+    fn ends(&self, k: u32) -> Option<(Node, Node)> {
+        self.world.ends(k)
     }
 }

@@ -23,6 +23,7 @@ use Rattle.vst_base.specs.declared.step.Item.TheVariants as item
 use Rattle.vst_base.specs.declared.step.Step.TheVariants as step
 use Rattle.schedule_text.specs.Schedules.{Script}
 use Rattle.schedule_replay.specs.Replaying.{steps_of}
+use Rattle.schedule_make.specs.Inputs.{kv_input, lock_input}
 use Rattle.stacks.specs.Kinds.{backed_numbered, by_itself, numbered}
 use Rattle.stacks.specs.Stack.{Play}
 use Rattle.stacks.specs.Table.{kv_texts, lock_texts}
@@ -80,7 +81,7 @@ copied_script = record {
 }
 
 abbrev copied_stack : Play LockInput LockOutput (Step LockInput)
-copied_stack = (numbered stack.Lock lock_server lock_texts 2).stack.play
+copied_stack = (numbered stack.Lock lock_server lock_texts lock_input 2).stack.play
 
 copied-allowed : copied_stack.refused (steps_of copied_script) ≡ None
 copied-allowed = refl
@@ -110,7 +111,7 @@ acked_script = record {
 }
 
 abbrev acked_stack : Play KvCmd (PbOut KvOut) (Step KvCmd)
-acked_stack = (backed_numbered stack.Kv kv kv_texts).stack.play
+acked_stack = (backed_numbered stack.Kv kv kv_texts kv_input).stack.play
 
 acked-allowed : acked_stack.refused (steps_of acked_script) ≡ None
 acked-allowed = refl
@@ -138,7 +139,7 @@ alone_script = record {
 }
 
 abbrev alone_stack : Play KvCmd KvOut (Step KvCmd)
-alone_stack = (by_itself stack.Kv kv kv_texts).stack.play
+alone_stack = (by_itself stack.Kv kv kv_texts kv_input).stack.play
 
 alone-allowed : alone_stack.refused (steps_of alone_script) ≡ None
 alone-allowed = refl

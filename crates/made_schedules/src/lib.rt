@@ -1,0 +1,11 @@
+//! Schedules that are made from a number, as text: each step is written as it is made, and a replay of the text takes them all.
+#![tactic(auto)]
+
+mod fault;
+mod laws;
+mod make;
+mod writing;
+
+pub use fault::MakeFault;
+pub use laws::{made_schedules_are_allowed, made_schedules_are_replayed};
+pub use make::{make, summary};

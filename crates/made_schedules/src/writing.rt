@@ -1,0 +1,82 @@
+ghost use Rattle.std.specs.Prelude.{◌≡◌, ◌≤◌, ◌≢◌, ◌+◌, None, [], IfErr, OnOk};
+ghost use Rattle.net_semantics.specs.Runs.{first_refused};
+ghost use Rattle.schedule_make.specs.Made.{generator};
+ghost use Rattle.schedule_make.specs.Making.{HasMade};
+ghost use Rattle.schedule_text.specs.Printing.{steps_text};
+ghost use Rattle.stacks.specs.Stack.{made_of};
+ghost use Rattle.vst_base.specs.declared.node.TheConstants.{MAX_NODES};
+ghost use Rattle.vst_base.specs.declared.step.TheConstants.{MAX_STEPS};
+ghost use Rattle.made_schedules.specs.MadeTexts.{step_lines};
+ghost use Rattle.made_schedules.specs.Making.{WritesText};
+
+use app_text::AppText;
+use outside::Sink;
+use schedule_make::{MakesInputs, Making};
+use schedule_text::{LineFault, print_step};
+use stacks::{OnStack, StackCode};
+use std::alloc::Global;
+use xform_stack::Explores;
+
+// Makes so many steps, and writes the line of each as it is made.
+fn write_steps<
+    R: Explores,
+    T: MakesInputs<Input = R::Input>,
+    A: AppText<Input = R::Input, Output = R::Output>,
+    K: Sink,
+>(
+    alloc: Global,
+    making: &mut Making<R>,
+    seed: u32,
+    steps: u32,
+    sink: &mut K,
+) -> Result<(), LineFault>
+    requires made { HasMade (R.system making.old.running) R.follows R.progress [] making.old }
+    requires random { making.old.random ≡ generator seed }
+    requires sound { R.sound making.old.running }
+    requires nodes { (R.system making.old.running).meaning.nodes ≤ MAX_NODES }
+    requires few { steps ≤ MAX_STEPS }
+    requires allowed { first_refused (R.system making.old.running).net (R.system making.old.running).meaning (R.system making.old.running).recovery
+        (made_of (R.system making.old.running) T.inputs seed steps) ≡ None }
+    ensures { WritesText (steps_text A.input_text (made_of (R.system making.old.running) T.inputs seed steps))
+        (K.written sink.old) (K.written sink.new) (K.faults sink.old) (K.faults sink.new) (K.wants sink.old) (K.wants sink.new) result }
+{
+    for _ in 0..steps {
+        let step = making.step::<T>()?;
+        print_step::<A, K>(alloc, sink, &step)?;
+    }
+    Ok(())
+}
+
+// Makes the steps of a schedule by a number.
+#[derive(Drop)]
+pub(crate) struct Steps {
+    pub alloc: Global,
+    pub seed: u32,
+    pub steps: u32,
+}
+
+impl<K: Sink> OnStack<K, (), ()> for Steps {
+    type Said = Result<(), LineFault>;
+
+    ghost ready = { λ s a _ _ _. (s.steps ≤ MAX_STEPS) × (a.stack.play.refused (a.stack.made s.seed s.steps) ≡ None) };
+
+    ghost Does = { λ s a k _ _ k' _ _ result. WritesText (step_lines a.stack s.seed s.steps) (K.written k) (K.written k') (K.faults k) (K.faults k') (K.wants k) (K.wants k') result };
+
+    fn on<S: StackCode>(
+        self,
+        nodes: u8,
+        sink: &mut K,
+        _: &mut (),
+        _: &mut (),
+    ) -> Result<(), LineFault> {
+        let running = S::start(self.alloc, nodes)?;
+        let mut making = Making::new(self.alloc, running, self.seed);
+        write_steps::<S::Running, S::Inputs, S::Text, K>(
+            self.alloc,
+            &mut making,
+            self.seed,
+            self.steps,
+            sink,
+        )
+    }
+}

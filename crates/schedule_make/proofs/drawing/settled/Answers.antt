@@ -1,0 +1,13 @@
+use Rattle.std.proofs.Common.{◌≡◌, sym, ◌∙◌}
+use Rattle.vst_base.specs.declared.step.StepKind.TheVariants as kind
+use Rattle.xform_stack.specs.Running.{world_of}
+use Rattle.schedule_make.proofs.Offers.{made_rest, offered_none}
+use Rattle.schedule_make.proofs.drawing.settled.Goals as goal
+
+pub returns-clause-kind : goal.returns-clause-kind
+returns-clause-kind g c = λ ss follows knows.
+    let sys = g.R.Runs.system c.args.running.now in
+    let w = world_of sys ss in
+    sym (made_rest sys.net sys.meaning w c.args.drawn
+    (offered_none sys.net sys.meaning w c.args.drawn c.args.number (sym (c.in_ok-at.ensures ss follows knows) ∙ c.in_default.is))
+    (offered_none sys.net sys.meaning w kind.Tick c.args.number (sym (c.in_ok-at-2.ensures ss follows knows) ∙ c.in_default-2.is)))

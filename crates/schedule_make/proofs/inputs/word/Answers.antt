@@ -1,0 +1,10 @@
+use Rattle.std.proofs.Common.{◌≡◌, ◌<◌, ◌∷◌, ℕ, List, IsTrue, arith, sym, subst, ◌∙◌, ap, rules}
+use Rattle.std.specs.Fmt.{decimal}
+use Rattle.vst_base.specs.Tokens.{is_token}
+use Rattle.schedule_make.proofs.Letters.{lettered-token}
+use Rattle.schedule_make.proofs.inputs.word.Goals as goal
+
+pub from_token-requires : goal.from_token-requires
+from_token-requires g c =
+    let is : c.deref.result.now ≡ c.args.letter ∷ decimal c.args.n = search rules in
+    (omega arith, rw is (lettered-token _ c.args.letter c.args.n c.requires.letter (omega (arith, c.ranges.n.fits)) c.requires.room))

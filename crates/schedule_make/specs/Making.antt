@@ -1,0 +1,36 @@
+-- A schedule in the making.
+use Rattle.std.specs.Prelude.{ℕ, List, length}
+use Rattle.flight_index.specs.Flights.{Flights}
+use Rattle.rand_pcg.specs.Lcg.{Lcg}
+use Rattle.vst_base.specs.declared.step.Item.{Item}
+use Rattle.vst_base.specs.declared.step.Step.{Step}
+use Rattle.xform_stack.specs.Running.{HasRun, Progress, System, world_of}
+use Rattle.schedule_make.specs.Flying.{KnowsFlights}
+use Rattle.schedule_make.specs.Made.{Inputs, made_step, words_of}
+
+-- the running schedule, the packets in flight, and the random words to come
+pub record MakingView (R : Type 0) : Type 0 where
+  pub running : R
+  pub flights : Flights
+  pub random : Lcg
+
+-- the step that is made after these, from these random words on
+abbrev pub step_after : {S K I O M G : Type 0} → System S K I O M G → Inputs I → List (Step I) → Lcg → Step I
+step_after sys inputs ss random = made_step sys.net sys.meaning inputs (world_of sys ss) (length ss) (words_of random)
+
+-- these steps were made and taken
+pub record HasMade {R S K I O M G : Type 0} (sys : System S K I O M G) (follows : R → List (Step I) → Type 0) (progress : R → Progress I O)
+    (ss : List (Step I)) (v : MakingView R) : Type 0 where
+  pub gone : List (Item I O)
+  pub ran : HasRun sys follows progress ss gone v.running
+  pub flights : KnowsFlights v.flights (world_of sys ss)
+
+-- some steps were
+pub record IsMade {R S K I O M G : Type 0} (sys : System S K I O M G) (follows : R → List (Step I) → Type 0) (progress : R → Progress I O) (v : MakingView R) : Type 0 where
+  pub steps : List (Step I)
+  pub made : HasMade sys follows progress steps v
+
+-- what runs has followed some steps
+pub record HasSteps {R I : Type 0} (follows : R → List (Step I) → Type 0) (r : R) : Type 0 where
+  pub steps : List (Step I)
+  pub followed : follows r steps
