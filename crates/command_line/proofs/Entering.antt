@@ -1,22 +1,16 @@
--- Words that are taken ask for a command: they enter a subcommand, and it is not clap's own help.
-use Rattle.std.proofs.Common.{inl, inr, ◌≡◌, ◌&&◌, ◌||◌, ◌↔◌, ◌∙◌, ℕ, Bool, true, false, not, refl, sym, subst, List, [], ◌∷◌, Option, Some, None, IsNone, is_some, if◌then◌else◌, true≢false, codes}
-use Rattle.std.specs.Prelude.{find, fold, option_and_then, option_map, slice_get, ◌⊎◌, ⊤}
+-- Words that are taken enter a subcommand, and it is not clap's own help.
+use Rattle.std.proofs.Common.{inl, inr, ◌≡◌, ◌&&◌, ◌||◌, ◌∙◌, ℕ, Bool, true, false, not, refl, sym, List, [], ◌∷◌, Option, Some, None, is_some, if◌then◌else◌, true≢false, codes}
+use Rattle.std.specs.Prelude.{IsSomeAnd, find, fold, option_map, ◌⊎◌, ⊤}
 use Rattle.std.specs.List.{list_all, list_any}
 use Rattle.std.specs.Option.{option_map_or}
 use Rattle.std.specs.Str.{bytes_eq}
 use Rattle.std.proofs.lemmas.Slice.Eq.{bytes_eq-Decides}
 use Rattle.clap.specs.Lexer.{long_of, short_of}
-use Rattle.clap.specs.Walk.{Held, first_of, Names, Outcome, Row, Rule, Step, Text, Waiting, Walk, after_flag, after_step, answers_to, arg_by_index, arg_by_long, bundle, done, finished, idle, long_met, long_or_other, rows_after, next, nothing_held, option, plain, plain_word, positional, refused, short_or_plain, subcommand, subcommand_met, subcommand_or_other, to_positional, trailing, value, waits, walk, walk_from, walked, walked_from, word_met}
-use Rattle.clap.specs.Simple.{App, Shape, argument_words, built, built_leaf, entered, filled, is_simple, label_of, names_of, new_app, rows_at, subcommand_of, with_rule}
+use Rattle.clap.specs.Walk.{Held, Names, Outcome, Row, Rule, Step, Text, Waiting, Walk, after_flag, after_step, answers_to, arg_by_index, arg_by_long, bundle, done, finished, idle, long_met, long_or_other, next, nothing_held, option, plain, plain_word, positional, refused, short_or_plain, subcommand, subcommand_met, subcommand_or_other, to_positional, trailing, value, waits, walk, walk_from, walked, walked_from, word_met}
+use Rattle.clap.specs.Simple.{App, Shape, argument_words, built, entered, is_simple, label_of, names_of, rows_at, subcommand_of}
 use Rattle.clap.specs.Facts.{explicit_source}
-use Rattle.clap.specs.Takes.{default_passes, entered_passes, is_given, is_valid, level_passes, other_passes, settle_passes, step_passes, takes, turn_passes, values_pass, walk_passes, word_passes}
+use Rattle.clap.specs.Takes.{default_passes, entered_passes, is_valid, level_passes, other_passes, settle_passes, step_passes, takes, turn_passes, walk_passes, word_passes}
 use Rattle.clap.proofs.WalkLemmas.{both}
-use Rattle.command_line.specs.CommandSet.{command_entered, command_of, command_set, entered_by, one_of, stack_option, stack_words, takes_words}
-use Rattle.command_line.specs.declared.command.Command.{Command}
-use Rattle.command_line.specs.declared.command.Command.TheVariants.{Check}
-use Rattle.vst_base.specs.Stacks.{stack_named}
-use Rattle.vst_base.specs.declared.stack.StackId.{StackId}
-use Rattle.command_line.proofs.Kept.{first_fits, fits, fits_row, level_fits, level_gives}
 
 abbrev is_help : Text → Bool
 is_help name = bytes_eq name (codes "help")
@@ -127,35 +121,35 @@ not_help name [] word is other e =
     alone true e = refl
     alone false e = e
 
--- each subcommand but help passes the test where its level passes
-abbrev EachPasses : (Text × List Row → Bool) → List Shape → Type 0
-EachPasses test [] = ⊤
-EachPasses test (s ∷ rest) = ((is_own_help s ≡ true) ⊎ ((words : List Text) → level_passes s [] nothing_held words false ≡ true → test (rows_at s words) ≡ true)) × EachPasses test rest
+-- P holds of each subcommand but help where its level passes
+abbrev pub EachHas : (Text × List Row → Type 0) → List Shape → Type 0
+EachHas P [] = ⊤
+EachHas P (s ∷ rest) = ((is_own_help s ≡ true) ⊎ ((words : List Text) → level_passes s [] nothing_held words false ≡ true → P (rows_at s words))) × EachHas P rest
 
--- then the one that was found does
-found_passes : (test : Text × List Row → Bool) (subs : List Shape) (p : Text × List Text) → EachPasses test subs → is_help p.0 ≡ false
+-- then it holds of the one that was found
+found_has : (P : Text × List Row → Type 0) (subs : List Shape) (p : Text × List Text) → EachHas P subs → is_help p.0 ≡ false
     → option_map_or (λ (s : Shape). level_passes s [] nothing_held p.1 false) (find (λ s. answers_to p.0 (label_of s)) subs) true ≡ true
-    → is_some (found_by subs p) ≡ true → option_map_or test (found_by subs p) false ≡ true
-found_passes test [] p each other level e = e
-found_passes test (s ∷ rest) p each other level e = here (answers_to p.0 (label_of s)) refl each.0 (found_passes test rest p each.1 other) level e
+    → is_some (found_by subs p) ≡ true → IsSomeAnd (found_by subs p) P
+found_has P [] p each other level e = absurd (true≢false (sym e))
+found_has P (s ∷ rest) p each other level e = here (answers_to p.0 (label_of s)) refl each.0 (found_has P rest p each.1 other) level e
   where
-    passes : answers_to p.0 (label_of s) ≡ true → (is_own_help s ≡ true) ⊎ ((words : List Text) → level_passes s [] nothing_held words false ≡ true → test (rows_at s words) ≡ true)
-        → level_passes s [] nothing_held p.1 false ≡ true → test (rows_at s p.1) ≡ true
-    passes met (inl help) e = absurd (not_help s.name s.aliases p.0 help other met)
-    passes met (inr own) e = own p.1 e
+    has : answers_to p.0 (label_of s) ≡ true → (is_own_help s ≡ true) ⊎ ((words : List Text) → level_passes s [] nothing_held words false ≡ true → P (rows_at s words))
+        → level_passes s [] nothing_held p.1 false ≡ true → P (rows_at s p.1)
+    has met (inl help) e = absurd (not_help s.name s.aliases p.0 help other met)
+    has met (inr own) e = own p.1 e
 
-    here : (t : Bool) → answers_to p.0 (label_of s) ≡ t → (is_own_help s ≡ true) ⊎ ((words : List Text) → level_passes s [] nothing_held words false ≡ true → test (rows_at s words) ≡ true)
-        → (option_map_or (λ (s : Shape). level_passes s [] nothing_held p.1 false) (find (λ s. answers_to p.0 (label_of s)) rest) true ≡ true → is_some (found_by rest p) ≡ true → option_map_or test (found_by rest p) false ≡ true)
+    here : (t : Bool) → answers_to p.0 (label_of s) ≡ t → (is_own_help s ≡ true) ⊎ ((words : List Text) → level_passes s [] nothing_held words false ≡ true → P (rows_at s words))
+        → (option_map_or (λ (s : Shape). level_passes s [] nothing_held p.1 false) (find (λ s. answers_to p.0 (label_of s)) rest) true ≡ true → is_some (found_by rest p) ≡ true → IsSomeAnd (found_by rest p) P)
         → option_map_or (λ (s : Shape). level_passes s [] nothing_held p.1 false) (if t then Some s else find (λ s. answers_to p.0 (label_of s)) rest) true ≡ true
         → is_some (option_map (λ (s : Shape). rows_at s p.1) (if t then Some s else find (λ (s : Shape). answers_to p.0 (label_of s)) rest)) ≡ true
-        → option_map_or test (option_map (λ (s : Shape). rows_at s p.1) (if t then Some s else find (λ (s : Shape). answers_to p.0 (label_of s)) rest)) false ≡ true
-    here true met own after level e = passes met own level
+        → IsSomeAnd (option_map (λ (s : Shape). rows_at s p.1) (if t then Some s else find (λ (s : Shape). answers_to p.0 (label_of s)) rest)) P
+    here true met own after level e = has met own level
     here false met own after level e = after level e
 
-entered_passes_test : (test : Text × List Row → Bool) (a : App) (stop : Option (Text × List Text)) → EachPasses test a.subs → avoids_help stop ≡ true → entered_passes a stop ≡ true
-    → is_some (entered a stop) ≡ true → option_map_or test (entered a stop) false ≡ true
-entered_passes_test test a None each avoids level e = e
-entered_passes_test test a (Some p) each avoids level e = found_passes test a.subs p each (is_not (is_help p.0) avoids) level e
+entered_has : (P : Text × List Row → Type 0) (a : App) (stop : Option (Text × List Text)) → EachHas P a.subs → avoids_help stop ≡ true → entered_passes a stop ≡ true
+    → is_some (entered a stop) ≡ true → IsSomeAnd (entered a stop) P
+entered_has P a None each avoids level e = absurd (true≢false (sym e))
+entered_has P a (Some p) each avoids level e = found_has P a.subs p each (is_not (is_help p.0) avoids) level e
   where
     is_not : (b : Bool) → not b ≡ true → b ≡ false
     is_not true e = sym e
@@ -171,10 +165,10 @@ has_required s rows has required e =
     wanted true has is e = e
     wanted false has is e = absurd (true≢false (sym is))
 
--- taken words enter a subcommand that passes the test
-taken_passes : (test : Text × List Row → Bool) (a : App) (words : List Text) → (built a).top.disable_help_subcommand ≡ false → (built a).top.subcommand_required ≡ true
-    → EachPasses test (built a).subs → takes a words ≡ true → option_map_or test (subcommand_of a words) false ≡ true
-taken_passes test a words enabled required each e =
+-- taken words enter a subcommand, and P holds of it
+pub taken_enter : (P : Text × List Row → Type 0) (a : App) (words : List Text) → (built a).top.disable_help_subcommand ≡ false → (built a).top.subcommand_required ≡ true
+    → EachHas P (built a).subs → takes a words ≡ true → IsSomeAnd (subcommand_of a words) P
+taken_enter P a words enabled required each e =
     let b = built a in
     let end = walk b.top.rules (names_of b) nothing_held (argument_words a words) in
     let has = is_some (entered b end.stopped) in
@@ -182,73 +176,5 @@ taken_passes test a words enabled required each e =
     let walking = both (walk_passes b.top (names_of b) (walk_from nothing_held) (argument_words a words)) _ levels.1 in
     let settling = both (settle_passes b.top.rules b.top.args_override_self end.held) _ walking.1 in
     let valid = (both (list_all default_passes b.top.rules) (is_valid b.top (finished b.top.rules end.held) has) settling.1).1 in
-    entered_passes_test test b end.stopped each (walk_avoids b.top (names_of b) (walk_from nothing_held) (argument_words a words) enabled walking.0 refl) levels.0
+    entered_has P b end.stopped each (walk_avoids b.top (names_of b) (walk_from nothing_held) (argument_words a words) enabled walking.0 refl) levels.0
     (has_required b.top (finished b.top.rules end.held) has required valid)
-
--- ---- the command set
-
--- a word that is one of those that name a stack names one
-any_named : (words : List Text) (word : Text) → list_all (λ (w : Text). is_some (stack_named w)) words ≡ true → list_any (λ (w : Text). bytes_eq w word) words ≡ true → is_some (stack_named word) ≡ true
-any_named [] word all e = absurd (true≢false (sym e))
-any_named (w ∷ rest) word all e =
-    let parts = both (is_some (stack_named w)) (list_all (λ (w : Text). is_some (stack_named w)) rest) all in
-    here (bytes_eq w word) refl parts.0 (any_named rest word parts.1) e
-  where
-    here : (t : Bool) → bytes_eq w word ≡ t → is_some (stack_named w) ≡ true → (list_any (λ (w : Text). bytes_eq w word) rest ≡ true → is_some (stack_named word) ≡ true)
-        → (t || list_any (λ (w : Text). bytes_eq w word) rest) ≡ true → is_some (stack_named word) ≡ true
-    here true is own after e = subst (λ (w : Text). is_some (stack_named w) ≡ true) ((bytes_eq-Decides w word).0 is) own
-    here false is own after e = after e
-
--- check, as building leaves it
-check_shape : Shape
-check_shape = built_leaf (with_rule (new_app (codes "check")) (stack_option (one_of stack_words))).top
-
--- the first value of a row of its option names a stack
-row_names : (r : Row) → bytes_eq r.id (codes "stack") ≡ true → fits_row check_shape.rules r ≡ true → option_map_or (λ (word : Text). is_some (stack_named word)) (slice_get r.values 0) false ≡ true
-unfolding check_shape
-row_names r is fit = of_values r.values (own (fits (filled (stack_option (one_of stack_words))) r.values)
-    (subst (λ (id : Text). list_any (λ (a : Rule). bytes_eq a.id id && fits a r.values) check_shape.rules ≡ true) ((bytes_eq-Decides r.id (codes "stack")).0 is) fit))
-  where
-    own : (t : Bool) → (t || false) ≡ true → t ≡ true
-    own true e = refl
-    own false e = e
-
-    of_values : (values : List Text) → fits (filled (stack_option (one_of stack_words))) values ≡ true → option_map_or (λ (word : Text). is_some (stack_named word)) (slice_get values 0) false ≡ true
-    of_values [] e = absurd (true≢false (sym e))
-    of_values (v ∷ vs) e = any_named stack_words v refl (both (list_any (λ (w : Text). bytes_eq w v) stack_words) _ (both (values_pass (filled (stack_option (one_of stack_words))) (v ∷ vs)) true e).0).0
-
--- a check that passes names a stack
-check_asks : (words : List Text) → level_passes check_shape [] nothing_held words false ≡ true → is_some (command_entered (rows_at check_shape words)) ≡ true
-unfolding check_shape
-check_asks words passes =
-    let rows = rows_after check_shape.rules [] words in
-    let given = (both (is_given (codes "stack") rows) _ (level_gives check_shape [] words false refl passes)).0 in
-    asks (first_of (codes "stack") rows) (first_fits check_shape.rules (codes "stack") rows (λ (word : Text). is_some (stack_named word)) row_names
-    (level_fits check_shape [] words false (record { once = refl; all = refl }) passes) given)
-  where
-    asks : (o : Option Text) → option_map_or (λ (word : Text). is_some (stack_named word)) o false ≡ true → is_some (option_map Check (option_and_then stack_named o)) ≡ true
-    asks None e = e
-    asks (Some word) e = by_stack (stack_named word) e
-      where
-        by_stack : (s : Option StackId) → is_some s ≡ true → is_some (option_map Check s) ≡ true
-        by_stack None e = e
-        by_stack (Some s) e = e
-
--- taken words ask for a command
-taken_asks : (words : List Text) → takes_words words ≡ true → is_some (entered_by words) ≡ true
-unfolding takes_words entered_by check_shape
-taken_asks words e = by_entered (subcommand_of command_set words) (taken_passes (λ (p : Text × List Row). is_some (command_entered p)) command_set words refl refl (inr (λ words e. refl), (inr check_asks, (inl refl, tt))) e)
-  where
-    by_entered : (o : Option (Text × List Row)) → option_map_or (λ (p : Text × List Row). is_some (command_entered p)) o false ≡ true → is_some (option_and_then command_entered o) ≡ true
-    by_entered None e = e
-    by_entered (Some p) e = e
-
--- no command is asked for exactly where the words are not taken
-pub none_exactly_refused : (words : List Text) → IsNone (command_of words) ↔ (takes_words words ≡ false)
-unfolding command_of
-none_exactly_refused words = by_taken (takes_words words) (entered_by words) (taken_asks words)
-  where
-    by_taken : (t : Bool) (o : Option Command) → (t ≡ true → is_some o ≡ true) → IsNone (if t then o else None) ↔ (t ≡ false)
-    by_taken false o h = (λ none. refl, λ e. refl)
-    by_taken true (Some command) h = (λ none. absurd (true≢false none), λ e. absurd (true≢false e))
-    by_taken true None h = absurd (true≢false (sym (h refl)))

@@ -1,21 +1,22 @@
--- Where a parse passes, each value that it keeps of an argument passed that argument's parser. The rules set their values, and a second use of one does not pass.
+-- Where a parse passes, each value that it keeps of an argument passed that argument's parser, and is read by it. The rules set their values, and a second use of one does not pass.
 use Rattle.std.proofs.Common.{◌≡◌, ◌&&◌, ◌||◌, ◌∙◌, ◌==◌, ℕ, Bool, true, false, not, zero, suc, refl, sym, ap, subst, arith, List, [], ◌∷◌, ◌++◌, length, drop, Option, Some, None, is_some, if◌then◌else◌, true≢false}
 use Rattle.std.proofs.lemmas.Bool.Decides.{nat_tests}
 use Rattle.std.proofs.lemmas.List.Folds.{list_all-append}
 use Rattle.std.proofs.lemmas.Slice.Eq.{bytes_eq-Decides}
-use Rattle.std.specs.Prelude.{encode_utf8, find, fold, nat_le, option_and_then, slice_get}
+use Rattle.std.specs.Prelude.{encode_utf8, find, fold, nat_le, option_and_then, option_map, slice_get}
 use Rattle.std.specs.List.{list_all, list_any}
 use Rattle.std.specs.Option.{option_map_or}
 use Rattle.std.specs.Str.{bytes_eq, chars}
 use Rattle.clap.specs.Lexer.{long_of, short_of}
 use Rattle.clap.specs.Facts.{explicit_source, unwrap_or_range}
-use Rattle.clap.specs.Values.{is_request}
-use Rattle.clap.specs.Walk.{Held, Names, Outcome, Row, Rule, Step, Text, Waiting, Walk, action_of, after_flag, after_step, arg_by_id, arg_by_index, arg_by_long, arg_by_short, attached_value, bundle_met, bundle_step, default_rows, done, finished, first_of, flag_met, has_row, idle, is_empty, is_pending, long_met, long_or_other, most_values, more_values, next, nothing_held, option, option_met, option_word, plain, plain_word, positional, reacted, reading_by, refused, rows_after, settled, settled_rows, short_met, short_or_plain, subcommand, subcommand_met, subcommand_or_other, takes_several, takes_values, to_positional, trailing, used, used_as, used_by_id, value, values_or_missing, waits, walk, walk_from, walked, walked_from, with_default, with_values, without, word_met}
+use Rattle.clap.specs.Values.{is_request, read_as}
+use Rattle.clap.specs.Walk.{Held, Names, Outcome, Row, Rule, Step, Text, Waiting, Walk, action_of, after_flag, after_step, arg_by_id, arg_by_index, arg_by_long, arg_by_short, attached_value, bundle_met, bundle_step, default_rows, done, finished, flag_met, has_row, idle, is_empty, is_pending, long_met, long_or_other, most_values, more_values, next, nothing_held, option, option_met, option_word, plain, plain_word, positional, reacted, reading_by, refused, row_text, rows_after, settled, settled_rows, short_met, short_or_plain, subcommand, subcommand_met, subcommand_or_other, takes_several, takes_values, to_positional, trailing, used, used_as, used_by_id, value, values_or_missing, waits, walk, walk_from, walked, walked_from, with_default, with_values, without, word_met}
 use Rattle.clap.specs.Simple.{Shape}
-use Rattle.clap.specs.Takes.{action_passes, bundle_step_passes, default_passes, flag_word_passes, is_given, flags_pass, is_valid, level_passes, long_passes, option_passes, other_passes, positional_passes, react_passes, set_passes, settle_passes, short_passes, step_passes, turn_passes, use_passes, values_pass, walk_passes, word_passes}
+use Rattle.clap.specs.Takes.{action_passes, bundle_step_passes, default_passes, flag_word_passes, is_given, flags_pass, is_valid, level_passes, long_passes, option_passes, other_passes, positional_passes, react_passes, set_passes, settle_passes, short_passes, step_passes, turn_passes, use_passes, value_passes, values_pass, walk_passes, word_passes}
 use Rattle.clap.specs.declared.builder.action.ArgAction.{ArgAction}
 use Rattle.clap.specs.declared.builder.action.ArgAction.TheVariants as action
 use Rattle.clap.specs.declared.builder.value_parser.Reading.{Reading}
+use Rattle.clap.specs.declared.builder.value_parser.Reading.TheVariants as reading
 use Rattle.clap.specs.declared.parser.matches.ValueSource.{ValueSource}
 use Rattle.clap.proofs.WalkLemmas.{both}
 
@@ -32,13 +33,38 @@ has_some (v ∷ vs) = true
 abbrev pub least : Rule → ℕ
 least a = (unwrap_or_range a.range).start_inclusive
 
+-- two ways to read a value are one
+abbrev same_reading : Reading → Reading → Bool
+same_reading reading.AsWritten reading.AsWritten = true
+same_reading reading.WithoutMinus reading.WithoutMinus = true
+same_reading reading.Boolish reading.Boolish = true
+same_reading reading.Falsey reading.Falsey = true
+same_reading _ _ = false
+
+reads_as_itself : (how : Reading) → same_reading how how ≡ true
+reads_as_itself reading.AsWritten = refl
+reads_as_itself reading.WithoutMinus = refl
+reads_as_itself reading.Boolish = refl
+reads_as_itself reading.Falsey = refl
+
+is_reading : (how other : Reading) → same_reading how other ≡ true → how ≡ other
+is_reading reading.AsWritten reading.AsWritten e = refl
+is_reading reading.WithoutMinus reading.WithoutMinus e = refl
+is_reading reading.Boolish reading.Boolish e = refl
+is_reading reading.Falsey reading.Falsey e = refl
+is_reading _ _ e = absurd (true≢false (sym e))
+
 -- the values are of the argument, and it has one where it wants one
-abbrev pub fits : Rule → List Text → Bool
-fits a values = values_pass a values && (has_some values || least a == 0)
+abbrev suits : Rule → List Text → Bool
+suits a values = values_pass a values && (has_some values || least a == 0)
+
+-- and they are read by its parser
+abbrev pub fits : Rule → Reading → List Text → Bool
+fits a how values = same_reading how (reading_by a) && suits a values
 
 -- a rule with the id of the row has its values
 abbrev pub fits_row : List Rule → Row → Bool
-fits_row c r = list_any (λ (a : Rule). bytes_eq a.id r.id && fits a r.values) c
+fits_row c r = list_any (λ (a : Rule). bytes_eq a.id r.id && fits a r.reading r.values) c
 
 abbrev pub fits_rows : List Rule → List Row → Bool
 fits_rows c = list_all (fits_row c)
@@ -101,22 +127,25 @@ added_last id how s values (r ∷ rows) none =
     let n = neither_true (bytes_eq r.id id) (has_row id rows) none in
     ap (λ t. if t then more_values s values r ++ rows else r ∷ with_values id how s values rows) n.0 ∙ ap (λ rest. r ∷ rest) (added_last id how s values rows n.1)
 
-row_fits : (c : List Rule) (a : Rule) (how : Reading) (s : ValueSource) (values : List Text) → Found c (Some a) → fits a values ≡ true → fits_row c (new_row a.id how s values) ≡ true
-row_fits c a how s values found fit = found.0 (λ (b : Rule). bytes_eq b.id a.id && fits b values) (and_true (bytes_eq a.id a.id) (fits a values) ((bytes_eq-Decides a.id a.id).1 refl) fit)
+row_fits : (c : List Rule) (a : Rule) (s : ValueSource) (values : List Text) → Found c (Some a) → suits a values ≡ true
+    → fits_row c (new_row a.id (reading_by a) s values) ≡ true
+row_fits c a s values found fit = found.0 (λ (b : Rule). bytes_eq b.id a.id && fits b (reading_by a) values) (and_true (bytes_eq a.id a.id) (fits a (reading_by a) values) ((bytes_eq-Decides a.id a.id).1 refl)
+    (and_true (same_reading (reading_by a) (reading_by a)) (suits a values) (reads_as_itself (reading_by a)) fit))
 
-added_fits : (c : List Rule) (a : Rule) (how : Reading) (s : ValueSource) (values : List Text) (rows : List Row) → Found c (Some a) → has_row a.id rows ≡ false → fits a values ≡ true
-    → fits_rows c rows ≡ true → fits_rows c (with_values a.id how s values rows) ≡ true
-added_fits c a how s values rows found none fit before =
-    ap (fits_rows c) (added_last a.id how s values rows none) ∙ list_all-append (fits_row c) rows (new_row a.id how s values ∷ [])
-    ∙ and_true (fits_rows c rows) (fits_row c (new_row a.id how s values) && true) before (and_true (fits_row c (new_row a.id how s values)) true (row_fits c a how s values found fit) refl)
+added_fits : (c : List Rule) (a : Rule) (s : ValueSource) (values : List Text) (rows : List Row) → Found c (Some a) → has_row a.id rows ≡ false
+    → suits a values ≡ true → fits_rows c rows ≡ true → fits_rows c (with_values a.id (reading_by a) s values rows) ≡ true
+added_fits c a s values rows found none fit before =
+    let row = new_row a.id (reading_by a) s values in
+    ap (fits_rows c) (added_last a.id (reading_by a) s values rows none) ∙ list_all-append (fits_row c) rows (row ∷ [])
+    ∙ and_true (fits_rows c rows) (fits_row c row && true) before (and_true (fits_row c row) true (row_fits c a s values found fit) refl)
 
-set_fits : (c : List Rule) (a : Rule) (how : Reading) (s : ValueSource) (values : List Text) (rows : List Row) → Found c (Some a) → (has_some values || least a == 0) ≡ true → set_passes false a values rows ≡ true
-    → fits_rows c rows ≡ true → fits_rows c (with_values a.id how s values (without a.id rows)) ≡ true
-set_fits c a how s values rows found some passes before =
+set_fits : (c : List Rule) (a : Rule) (s : ValueSource) (values : List Text) (rows : List Row) → Found c (Some a) → (has_some values || least a == 0) ≡ true → set_passes false a values rows ≡ true
+    → fits_rows c rows ≡ true → fits_rows c (with_values a.id (reading_by a) s values (without a.id rows)) ≡ true
+set_fits c a s values rows found some passes before =
     let parts = both (not (has_row a.id rows) || false) (values_pass a values) passes in
     let none = unused (has_row a.id rows) parts.0 in
-    ap (λ rows. fits_rows c (with_values a.id how s values rows)) (without_none a.id rows none)
-    ∙ added_fits c a how s values rows found none (and_true (values_pass a values) (has_some values || least a == 0) parts.1 some) before
+    ap (λ rows. fits_rows c (with_values a.id (reading_by a) s values rows)) (without_none a.id rows none)
+    ∙ added_fits c a s values rows found none (and_true (values_pass a values) (has_some values || least a == 0) parts.1 some) before
   where
     unused : (t : Bool) → (not t || false) ≡ true → t ≡ false
     unused true e = sym e
@@ -135,9 +164,9 @@ used_fits c a vs rows found passes before =
   where
     by_action : (x : ArgAction) → (has_some (values_or_missing a vs) || least a == 0) ≡ true → sets x ≡ true → action_passes x false a (values_or_missing a vs) rows ≡ true
         → fits_rows c (used_as x a.id (reading_by a) (values_or_missing a vs) rows) ≡ true
-    by_action action.Set some is e = set_fits c a _ _ (values_or_missing a vs) rows found some e before
-    by_action action.SetTrue some is e = set_fits c a _ _ (values_or_missing a vs) rows found some e before
-    by_action action.SetFalse some is e = set_fits c a _ _ (values_or_missing a vs) rows found some e before
+    by_action action.Set some is e = set_fits c a _ (values_or_missing a vs) rows found some e before
+    by_action action.SetTrue some is e = set_fits c a _ (values_or_missing a vs) rows found some e before
+    by_action action.SetFalse some is e = set_fits c a _ (values_or_missing a vs) rows found some e before
     by_action action.Append some is e = absurd (true≢false (sym is))
     by_action action.Count some is e = absurd (true≢false (sym is))
     by_action action.Help some is e = before
@@ -299,7 +328,7 @@ default_fits c a rows found passes before = by_row (has_row a.id rows) refl
     by_values : (values : List Text) → (is_empty values || (not (is_request (action_of a)) && values_pass a values)) ≡ true → has_row a.id rows ≡ false
         → fits_rows c (default_rows a.id (reading_by a) values rows) ≡ true
     by_values [] e none = before
-    by_values (v ∷ vs) e none = added_fits c a _ _ (v ∷ vs) rows found none (and_true (values_pass a (v ∷ vs)) true (both (not (is_request (action_of a))) (values_pass a (v ∷ vs)) (nonempty (length vs) _ e)).1 refl) before
+    by_values (v ∷ vs) e none = added_fits c a _ (v ∷ vs) rows found none (and_true (values_pass a (v ∷ vs)) true (both (not (is_request (action_of a))) (values_pass a (v ∷ vs)) (nonempty (length vs) _ e)).1 refl) before
       where
         nonempty : (n : ℕ) (t : Bool) → ((suc n == 0) || t) ≡ true → t ≡ true
         nonempty n t e = grind (arith, nat_tests)
@@ -347,16 +376,39 @@ level_gives s names words has asks passes =
     asked false off e = e
     asked true off e = absurd (true≢false off)
 
--- the first value of an argument that is given, where a row of its id that fits has this of its first value
-pub first_fits : (c : List Rule) (id : Text) (rows : List Row) (test : Text → Bool) → ((r : Row) → bytes_eq r.id id ≡ true → fits_row c r ≡ true → option_map_or test (slice_get r.values 0) false ≡ true)
-    → fits_rows c rows ≡ true → is_given id rows ≡ true → option_map_or test (first_of id rows) false ≡ true
-first_fits c id [] test holds fit given = absurd (true≢false (sym given))
-first_fits c id (r ∷ rows) test holds fit given =
+-- an argument has a value, by the row that is found for it: the value passes its parser, and is read by it
+pub record HasValue (a : Rule) (row : Option Row) : Type 0 where
+  pub value : Text
+  pub passes : value_passes a value ≡ true
+  pub first : option_and_then (λ (r : Row). slice_get r.values 0) row ≡ Some value
+  pub read : option_and_then row_text row ≡ Some (read_as (reading_by a) value)
+
+-- the rule is the only one with its id
+abbrev pub HasOwnId : Rule → List Rule → Type 0
+HasOwnId a c = (q : Rule → Bool) → list_any (λ (b : Rule). bytes_eq b.id a.id && q b) c ≡ true → q a ≡ true
+
+-- an argument that is given and wants a value has one
+pub given_has_value : (c : List Rule) (a : Rule) (rows : List Row) → HasOwnId a c → (least a == 0) ≡ false → fits_rows c rows ≡ true → is_given a.id rows ≡ true
+    → HasValue a (find (λ (r : Row). bytes_eq r.id a.id) rows)
+given_has_value c a [] own wants fit given = absurd (true≢false (sym given))
+given_has_value c a (r ∷ rows) own wants fit given =
     let parts = both (fits_row c r) (fits_rows c rows) fit in
-    here (bytes_eq r.id id) refl parts.0 (first_fits c id rows test holds parts.1) given
+    here (bytes_eq r.id a.id) refl parts.0 (given_has_value c a rows own wants parts.1) given
   where
-    here : (t : Bool) → bytes_eq r.id id ≡ t → fits_row c r ≡ true → (is_given id rows ≡ true → option_map_or test (first_of id rows) false ≡ true)
-        → option_map_or (λ (r : Row). explicit_source r.source) (if t then Some r else find (λ (r : Row). bytes_eq r.id id) rows) false ≡ true
-        → option_map_or test (option_and_then (λ (r : Row). slice_get r.values 0) (if t then Some r else find (λ (r : Row). bytes_eq r.id id) rows)) false ≡ true
-    here true is fit after e = holds r is fit
+    of_values : (values : List Text) → r.values ≡ values → fits a r.reading values ≡ true → HasValue a (Some r)
+    of_values [] is e = absurd (true≢false (sym ((both (same_reading r.reading (reading_by a)) _ e).1) ∙ wants))
+    of_values (v ∷ vs) is e =
+        let reads = both (same_reading r.reading (reading_by a)) (values_pass a (v ∷ vs) && true) e in
+        record {
+          value = v;
+          passes = (both (value_passes a v) (values_pass a vs) (both (values_pass a (v ∷ vs)) true reads.1).0).0;
+          first = ap (λ (values : List Text). slice_get values 0) is;
+          read = ap (λ (values : List Text). option_map (read_as r.reading) (slice_get values 0)) is ∙ ap (λ how. Some (read_as how v)) (is_reading r.reading (reading_by a) reads.0);
+        }
+
+    here : (t : Bool) → bytes_eq r.id a.id ≡ t → fits_row c r ≡ true → (is_given a.id rows ≡ true → HasValue a (find (λ (r : Row). bytes_eq r.id a.id) rows))
+        → option_map_or (λ (r : Row). explicit_source r.source) (if t then Some r else find (λ (r : Row). bytes_eq r.id a.id) rows) false ≡ true
+        → HasValue a (if t then Some r else find (λ (r : Row). bytes_eq r.id a.id) rows)
+    here true is fit after e = of_values r.values refl (own (λ (b : Rule). fits b r.reading r.values)
+        (subst (λ (id : Text). list_any (λ (b : Rule). bytes_eq b.id id && fits b r.reading r.values) c ≡ true) ((bytes_eq-Decides r.id a.id).0 is) fit))
     here false is fit after e = after e

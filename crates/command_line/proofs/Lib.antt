@@ -1,6 +1,8 @@
+pub mod Asking
 mod Entering
 mod Faultless
 mod Kept
+pub mod Numbers
 pub mod OnLiterals
 pub mod Reading
 mod Seen

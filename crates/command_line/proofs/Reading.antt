@@ -1,6 +1,6 @@
 -- What the answers of a parse say of the words.
-use Rattle.std.proofs.Common.{◌≡◌, ◌∙◌, ◌↔◌, ◌||◌, Bool, true, false, sym, ap, subst, refl, List, [], ◌∷◌, map, Option, Some, None, IsNone, IsErr, IfOk, Result, Ok, Err, if◌then◌else◌, true≢false}
-use Rattle.std.specs.Prelude.{option_and_then}
+use Rattle.std.proofs.Common.{◌≡◌, ◌∙◌, ◌↔◌, ◌||◌, Bool, true, false, sym, ap, ap₂, subst, refl, List, [], ◌∷◌, map, Option, Some, None, IsNone, IsErr, IfOk, Result, Ok, Err, if◌then◌else◌, true≢false}
+use Rattle.std.specs.Prelude.{IfSome, option_and_then}
 use Rattle.std.specs.Borrow.{Bor}
 use Rattle.std.specs.List.{list_any}
 use Rattle.std.specs.declared.alloc.AllocError.{AllocError}
@@ -16,23 +16,25 @@ use Rattle.clap.specs.declared.builder.value_parser.ValueParser.TheVariants as p
 use Rattle.clap.specs.declared.error.kind.ErrorKind.{ErrorKind}
 use Rattle.clap.specs.declared.error.kind.ErrorKind.TheVariants.{OutOfMemory}
 use Rattle.clap.specs.declared.parser.matches.ArgMatches.{ArgMatches}
-use Rattle.command_line.specs.CommandSet.{behind, command_entered, command_of, command_set, commands_with, entered_by, one_of, stack_words, takes_words}
+use Rattle.command_line.specs.CommandSet.{CanBeMade, IfMakes, among, behind, command_entered, command_of, command_set, commands_with, entered_by, packet_stack_words, stack_words, takes_words}
 use Rattle.command_line.specs.declared.command.Command.{Command}
-use Rattle.command_line.proofs.Entering.{none_exactly_refused}
+use Rattle.command_line.proofs.Asking.{asked_can_be_made, none_exactly_refused}
 use Rattle.command_line.proofs.Faultless.{faultless_is_taken}
 use Rattle.command_line.proofs.Seen.{subcommand_same, takes_same}
 
--- a command of clap's is the command set, wherever the list of stacks that it borrows stands
+-- a command of clap's is the command set, wherever the lists of stacks that it borrows stand
 pub record IsCommandSet (app : App) : Type 0 where
   pub stacks : Bor (List (Bor Text))
+  pub packet_stacks : Bor (List (Bor Text))
   pub words : texts stacks.now ≡ stack_words
-  pub commands : app ≡ commands_with (parser.Names stacks)
+  pub packet_words : texts packet_stacks.now ≡ packet_stack_words
+  pub commands : app ≡ commands_with (parser.Names stacks) (parser.Names packet_stacks)
 
--- ---- where the list of stacks stands plays no part
+-- ---- where the lists of stacks stand plays no part
 
 -- a parser with its list of names told by their texts
 told : Option ValueParser → Option ValueParser
-told (Some (parser.Names names)) = Some (one_of (texts names.now))
+told (Some (parser.Names names)) = Some (among (texts names.now))
 told o = o
 
 told_reads : (o : Option ValueParser) → reading_of (parser_of_value (told o)) ≡ reading_of (parser_of_value o)
@@ -72,15 +74,15 @@ told_accepts i (Some (parser.Names names)) v = by_names names.now
 set_takes : (app : App) (words : List Text) → IsCommandSet app → takes app words ≡ takes_words words
 unfolding told takes_words
 set_takes app words is = ap (λ a. takes a words) is.commands
-    ∙ sym (takes_same told told_reads told_accepts (built (commands_with (parser.Names is.stacks))) (argument_words command_set words))
-    ∙ ap (λ stacks. takes (commands_with (one_of stacks)) words) is.words
+    ∙ sym (takes_same told told_reads told_accepts (built (commands_with (parser.Names is.stacks) (parser.Names is.packet_stacks))) (argument_words command_set words))
+    ∙ ap₂ (λ stacks packet_stacks. takes (commands_with (among stacks) (among packet_stacks)) words) is.words is.packet_words
 
 set_enters : (app : App) (words : List Text) → IsCommandSet app → option_and_then command_entered (subcommand_of app words) ≡ entered_by words
 unfolding told entered_by
 set_enters app words is = ap (option_and_then command_entered) (
     ap (λ a. subcommand_of a words) is.commands
-    ∙ sym (subcommand_same told told_reads told_accepts (built (commands_with (parser.Names is.stacks))) (argument_words command_set words))
-    ∙ ap (λ stacks. subcommand_of (commands_with (one_of stacks)) words) is.words
+    ∙ sym (subcommand_same told told_reads told_accepts (built (commands_with (parser.Names is.stacks) (parser.Names is.packet_stacks))) (argument_words command_set words))
+    ∙ ap₂ (λ stacks packet_stacks. subcommand_of (commands_with (among stacks) (among packet_stacks)) words) is.words is.packet_words
     )
 
 -- ---- the answers
@@ -97,7 +99,7 @@ where_refused words refused = ap (λ t. if t then entered_by words else None) re
 pub with_matches : (app : App) (words : List Text) (m : ArgMatches) (answer : Option Command) → IsCommandSet app → HasMatchesOf app words m
     → (is_simple_and_free app ≡ true → fault_of app words ≡ []) → answer ≡ option_and_then command_entered (subcommand_rows_of m) → answer ≡ command_of words
 with_matches app words m answer is has fault e =
-    let set = commands_with (parser.Names is.stacks) in
+    let set = commands_with (parser.Names is.stacks) (parser.Names is.packet_stacks) in
     let none : fault_of set words ≡ [] = ap (λ a. fault_of a words) (sym is.commands) ∙ fault (ap is_simple_and_free is.commands) in
     let taken : takes app words ≡ true = ap (λ a. takes a words) is.commands ∙ faultless_is_taken set words refl refl none in
     e ∙ ap (option_and_then command_entered) (has (ap is_simple is.commands)).1 ∙ set_enters app words is ∙ sym (where_taken words (sym (set_takes app words is) ∙ taken))
@@ -112,5 +114,9 @@ without_matches app words kind (Ok command) is passes memory none = by_taken (ta
     by_taken false refused = none ∙ sym (where_refused words refused)
     by_taken true taken = absurd (true≢false (sym (memory.1 (passes (set_takes app words is ∙ taken)))))
 
+-- what is known of a command by the words that ask for it
 pub refused_exactly : (words : List Text) (command : Option Command) → command ≡ command_of words → IsNone command ↔ (takes_words words ≡ false)
 refused_exactly words command e = subst (λ (c : Option Command). IsNone c ↔ (takes_words words ≡ false)) (sym e) (none_exactly_refused words)
+
+pub made_can_be : (words : List Text) (command : Option Command) → command ≡ command_of words → IfSome command (λ c. IfMakes c CanBeMade)
+made_can_be words command e = subst (λ (o : Option Command). IfSome o (λ c. IfMakes c CanBeMade)) (sym e) (asked_can_be_made words)

@@ -7,4 +7,16 @@ pub enum Command {
     Replay,
     /// Checks a trace and an image against this stack.
     Check(StackId),
+    /// Makes a schedule and writes it.
+    Make(MadeSchedule),
+    /// Makes a schedule, replays it, and writes what the run comes to in numbers.
+    Summarize(MadeSchedule),
+}
+
+/// A schedule that is not given but made: for this stack, from this number, and with so many steps.
+#[derive(Clone, Copy, Debug, PartialEq, Eq)]
+pub struct MadeSchedule {
+    pub stack: StackId,
+    pub seed: u32,
+    pub steps: u32,
 }

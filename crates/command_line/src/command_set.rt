@@ -1,10 +1,13 @@
 ghost use Rattle.std.specs.Prelude.{◌≡◌, IfOk, false, map};
 ghost use Rattle.clap.specs.Words.{app_of, rule_of};
 ghost use Rattle.clap.specs.declared.builder.value_parser.ValueParser.TheVariants.{Names};
-ghost use Rattle.command_line.specs.CommandSet.{commands_with, stack_option, stack_words};
+ghost use Rattle.command_line.specs.CommandSet.{carries_packets, commands_with, flag, packet_stack_words};
+ghost use Rattle.command_line.specs.CommandSet.{required_option, seeds, stack_words, step_counts};
 
+use clap::builder::ValueParser;
+use clap::{Arg, ArgAction};
 use std::alloc::{AllocError, Global};
-use vst_base::StackRow;
+use vst_base::{MAX_STEPS, StackRow, StepKind};
 
 // The words of the stacks, each of which check takes.
 pub(crate) fn stack_words(alloc: Global) -> Result<Vec<&'static str>, AllocError>
@@ -16,29 +19,77 @@ pub(crate) fn stack_words(alloc: Global) -> Result<Vec<&'static str>, AllocError
         .collect(alloc)
 }
 
-// The command set, as a command of clap, of which check takes one of these words as a stack.
+// The words of the stacks on whose network packets travel, each of which make takes.
+pub(crate) fn packet_stack_words(alloc: Global) -> Result<Vec<&'static str>, AllocError>
+    ensures { IfOk result (λ words. map (λ word. word.now) words.items ≡ packet_stack_words) }
+{
+    StackRow::all()
+        .iter()
+        .filter(|row| carries_packets(row))
+        .map(|row| row.stack.word())
+        .collect(alloc)
+}
+
+// Whether packets travel on a stack's network.
+fn carries_packets(row: &StackRow) -> bool
+    ensures { result ≡ carries_packets row.now }
+{
+    row.net.has(StepKind::Deliver)
+}
+
+// The command set, as a command of clap: check takes one of the first words as a stack, make one of the second.
 pub(crate) fn command_set<'a>(
     alloc: Global,
     stacks: &'a [&'a str],
+    packet_stacks: &'a [&'a str],
 ) -> Result<clap::Command<'a>, AllocError>
-    ensures { IfOk result (λ command. app_of command ≡ commands_with (Names stacks.entry)) }
+    ensures { IfOk result (λ command. app_of command ≡ commands_with (Names stacks.entry) (Names packet_stacks.entry)) }
 {
     let replay = clap::Command::new(alloc, "replay");
-    let check = clap::Command::new(alloc, "check").arg(stack_option(alloc, stacks))?;
+    let stack = required_option(alloc, "stack", stacks.into());
+    let check = clap::Command::new(alloc, "check").arg(stack)?;
+    let make = clap::Command::new(alloc, "make")
+        .arg(required_option(alloc, "stack", packet_stacks.into()))?
+        .arg(required_option(alloc, "seed", seeds()))?
+        .arg(required_option(alloc, "steps", step_counts()))?
+        .arg(flag(alloc, "summary"))?;
     clap::Command::new(alloc, "vst")
         .subcommand_required(true)
         .subcommand(replay)?
-        .subcommand(check)
+        .subcommand(check)?
+        .subcommand(make)
 }
 
-// The option by which check is told a stack, one of these words.
-fn stack_option<'a>(alloc: Global, stacks: &'a [&'a str]) -> clap::Arg<'a>
-    ensures rule { rule_of result ≡ stack_option (Names stacks.entry) }
+// What is taken as the number that a schedule is made from.
+fn seeds<'a>() -> ValueParser<'a>
+    ensures { result ≡ seeds }
+{
+    clap::value_parser!(u32)
+}
+
+// What is taken as the number of steps of a schedule.
+fn step_counts<'a>() -> ValueParser<'a>
+    ensures { result ≡ step_counts }
+{
+    clap::value_parser!(u32).range(..=i64::from(MAX_STEPS))
+}
+
+// An option that has to be given, with one value that the parser takes.
+fn required_option<'a>(alloc: Global, name: &'a str, values: ValueParser<'a>) -> Arg<'a>
+    ensures rule { rule_of result ≡ required_option name.entry.now values.entry }
     ensures local { result.global ≡ false }
 {
-    clap::Arg::new(alloc, "stack")
-        .long("stack")
+    Arg::new(alloc, name)
+        .long(name)
         .required(true)
-        .action(clap::ArgAction::Set)
-        .value_parser(stacks)
+        .action(ArgAction::Set)
+        .value_parser(values)
+}
+
+// An option that is there or not, and has no value.
+fn flag<'a>(alloc: Global, name: &'a str) -> Arg<'a>
+    ensures rule { rule_of result ≡ flag name.entry.now }
+    ensures local { result.global ≡ false }
+{
+    Arg::new(alloc, name).long(name).action(ArgAction::SetTrue)
 }

@@ -1,5 +1,5 @@
 ghost use Rattle.std.specs.Prelude.{◌≡◌, [], ◌∷◌, None, Some, codes, false, true};
-ghost use Rattle.command_line.specs.CommandSet.{command_of, takes_words};
+ghost use Rattle.command_line.specs.CommandSet.{CanBeMade, IfMakes, command_of, made_schedule, number_of, packet_stack_words, takes_words};
 
 use crate::Command;
 use vst_base::StackId;
@@ -20,7 +20,6 @@ pub fn worked()
 
     // No name of a command.
     ensures unknown { command_of (codes "vst" ∷ codes "frob" ∷ []) ≡ None }
-    ensures make { command_of (codes "vst" ∷ codes "make" ∷ []) ≡ None }
     ensures node { command_of (codes "vst" ∷ codes "node" ∷ []) ≡ None }
     ensures empty_word { command_of (codes "vst" ∷ codes "" ∷ []) ≡ None }
     ensures cut_short { command_of (codes "vst" ∷ codes "repla" ∷ []) ≡ None }
@@ -88,4 +87,68 @@ pub fn worked()
     ensures replay_help_option { command_of (codes "vst" ∷ codes "replay" ∷ codes "--help" ∷ []) ≡ None }
     ensures replay_help_flag { command_of (codes "vst" ∷ codes "replay" ∷ codes "-h" ∷ []) ≡ None }
     ensures version { command_of (codes "vst" ∷ codes "--version" ∷ []) ≡ None }
+{}
+
+/// The words that ask for a made schedule, on examples.
+#[tactic(auto, unfolding(crate::proofs::OnLiterals::words_on_literals))]
+pub fn worked_schedules()
+    // The stacks of which schedules can be made.
+    ensures stacks { packet_stack_words ≡ codes "lock" ∷ codes "lock/seq" ∷ codes "kv/pb" ∷ codes "kv/pb/seq" ∷ codes "kv/raft"
+        ∷ codes "table/pb/seq" ∷ codes "table/raft" ∷ [] }
+
+    // In any order, and in each spelling that clap takes.
+    ensures apart { command_of (codes "vst" ∷ codes "make" ∷ codes "--stack" ∷ codes "lock" ∷ codes "--seed" ∷ codes "5" ∷ codes "--steps" ∷ codes "3" ∷ [])
+        ≡ Some (Command.Make (made_schedule StackId.Lock 5 3)) }
+    ensures other_order { command_of (codes "vst" ∷ codes "make" ∷ codes "--steps" ∷ codes "5" ∷ codes "--summary" ∷ codes "--seed" ∷ codes "9" ∷ codes "--stack" ∷ codes "table/raft" ∷ [])
+        ≡ Some (Command.Summarize (made_schedule StackId.TableRaft 9 5)) }
+    ensures attached { command_of (codes "vst" ∷ codes "make" ∷ codes "--stack=kv/pb" ∷ codes "--seed=3" ∷ codes "--steps=10" ∷ [])
+        ≡ Some (Command.Make (made_schedule StackId.KvPb 3 10)) }
+    ensures plus_and_zeros { command_of (codes "vst" ∷ codes "make" ∷ codes "--stack=lock" ∷ codes "--seed=+5" ∷ codes "--steps=007" ∷ [])
+        ≡ Some (Command.Make (made_schedule StackId.Lock 5 7)) }
+    ensures least { command_of (codes "vst" ∷ codes "make" ∷ codes "--stack=lock/seq" ∷ codes "--seed=-0" ∷ codes "--steps=0" ∷ codes "--" ∷ [])
+        ≡ Some (Command.Make (made_schedule StackId.LockSeq 0 0)) }
+    ensures greatest { command_of (codes "vst" ∷ codes "make" ∷ codes "--stack=kv/raft" ∷ codes "--seed=4294967295" ∷ codes "--steps=1000000" ∷ codes "--summary" ∷ [])
+        ≡ Some (Command.Summarize (made_schedule StackId.KvRaft 4294967295 1000000)) }
+
+    // An option that is missing, or has no value.
+    ensures no_options { command_of (codes "vst" ∷ codes "make" ∷ []) ≡ None }
+    ensures no_seed { command_of (codes "vst" ∷ codes "make" ∷ codes "--stack=lock" ∷ codes "--steps=1" ∷ []) ≡ None }
+    ensures no_value { command_of (codes "vst" ∷ codes "make" ∷ codes "--stack=lock" ∷ codes "--seed=1" ∷ codes "--steps" ∷ []) ≡ None }
+    ensures empty_value { command_of (codes "vst" ∷ codes "make" ∷ codes "--stack=lock" ∷ codes "--seed=" ∷ codes "--steps=1" ∷ []) ≡ None }
+
+    // No such stack.
+    ensures machine_alone { command_of (codes "vst" ∷ codes "make" ∷ codes "--stack=kv" ∷ codes "--seed=1" ∷ codes "--steps=1" ∷ [])
+        ≡ None }
+    ensures table_alone { command_of (codes "vst" ∷ codes "make" ∷ codes "--stack=table" ∷ codes "--seed=1" ∷ codes "--steps=1" ∷ [])
+        ≡ None }
+    ensures unknown_stack { command_of (codes "vst" ∷ codes "make" ∷ codes "--stack=table/pb" ∷ codes "--seed=1" ∷ codes "--steps=1" ∷ [])
+        ≡ None }
+
+    // No such number.
+    ensures seed_too_great { command_of (codes "vst" ∷ codes "make" ∷ codes "--stack=lock" ∷ codes "--seed=4294967296" ∷ codes "--steps=1" ∷ [])
+        ≡ None }
+    ensures too_many_steps { command_of (codes "vst" ∷ codes "make" ∷ codes "--stack=lock" ∷ codes "--seed=1" ∷ codes "--steps=1000001" ∷ [])
+        ≡ None }
+    ensures negative { command_of (codes "vst" ∷ codes "make" ∷ codes "--stack=lock" ∷ codes "--seed=-1" ∷ codes "--steps=1" ∷ []) ≡ None }
+    ensures no_number { command_of (codes "vst" ∷ codes "make" ∷ codes "--stack=lock" ∷ codes "--seed=1" ∷ codes "--steps=1e3" ∷ [])
+        ≡ None }
+    ensures minus_as_a_word { command_of (codes "vst" ∷ codes "make" ∷ codes "--stack=lock" ∷ codes "--seed" ∷ codes "-0" ∷ codes "--steps=1" ∷ [])
+        ≡ None }
+
+    // Too much.
+    ensures second_seed { command_of (codes "vst" ∷ codes "make" ∷ codes "--stack=lock" ∷ codes "--seed=1" ∷ codes "--seed=1" ∷ codes "--steps=1" ∷ [])
+        ≡ None }
+    ensures second_summary { command_of (codes "vst" ∷ codes "make" ∷ codes "--stack=lock" ∷ codes "--seed=1" ∷ codes "--steps=1" ∷ codes "--summary" ∷ codes "--summary" ∷ [])
+        ≡ None }
+    ensures summary_with_a_value { command_of (codes "vst" ∷ codes "make" ∷ codes "--stack=lock" ∷ codes "--seed=1" ∷ codes "--steps=1" ∷ codes "--summary=true" ∷ [])
+        ≡ None }
+    ensures one_word_too_many { command_of (codes "vst" ∷ codes "make" ∷ codes "--stack=lock" ∷ codes "--seed=1" ∷ codes "--steps=1" ∷ codes "x" ∷ [])
+        ≡ None }
+
+    // What a number is, and which schedules can be made.
+    ensures numbers { (number_of (codes "+05") ≡ Some 5) × (number_of (codes "-0") ≡ None) × (number_of [] ≡ None)
+        × (number_of (codes "4294967295") ≡ Some 4294967295) × (number_of (codes "4294967296") ≡ None) }
+    ensures can_be { IfMakes (Command.Make (made_schedule StackId.Lock 4294967295 1000000)) CanBeMade }
+    ensures without_packets { ¬ CanBeMade (made_schedule StackId.Table 0 0) }
+    ensures with_too_many_steps { ¬ CanBeMade (made_schedule StackId.Lock 0 1000001) }
 {}

@@ -4,8 +4,10 @@
 mod command;
 mod command_set;
 mod examples;
+mod laws;
 mod words;
 
-pub use command::Command;
-pub use examples::worked;
+pub use command::{Command, MadeSchedule};
+pub use examples::{worked, worked_schedules};
+pub use laws::asked_schedules_can_be_made;
 pub use words::read_words;
