@@ -18,7 +18,8 @@ use Rattle.vst_base.specs.declared.step.StepKind.TheVariants as kind
 use Rattle.vst_base.specs.declared.step.StepRefusal.TheVariants as refusal
 use Rattle.schedule_make.specs.Allowed.{HasSteps}
 use Rattle.schedule_make.specs.Candidates.{candidates, chosen, drawn_kind, has_step, made_kind, nodes_that, is_in_flight}
-use Rattle.schedule_make.specs.Made.{Inputs, Words, after_words, made_from, made_step, step_of, words_of}
+use Rattle.schedule_make.specs.declared.words.Words.{Words}
+use Rattle.schedule_make.specs.Made.{Inputs, after_words, made_from, made_step, step_of, words_of}
 use Rattle.schedule_make.proofs.Chosen.{IsNode, IsOne, node-at, one-at}
 
 -- no refusal applies

@@ -1,5 +1,5 @@
 -- Which kind of step is made, and at which node or of which packet, from a random word each.
-use Rattle.std.specs.Prelude.{ℕ, Bool, not, ◌&&◌, ◌%◌, nat_lt, List, [], ◌∷◌, length, get_or, filter, if◌then◌else◌}
+use Rattle.std.specs.Prelude.{ℕ, Bool, false, not, ◌&&◌, ◌%◌, nat_lt, List, [], ◌∷◌, length, get_or, filter, if◌then◌else◌, Option, slice_get}
 use Rattle.std.specs.List.{range_with_len}
 use Rattle.handler_trait.specs.Handling.{Meaning}
 use Rattle.flight_index.specs.Flights.{numbers_of}
@@ -20,12 +20,22 @@ nodes_that m p = filter p (range_with_len 0 m.nodes)
 abbrev pub is_in_flight : {M : Type 0} → Packet M → Bool
 is_in_flight p = nat_lt 0 p.copies
 
+-- whether a step of this kind may be taken at node n
+abbrev pub may_act : {S K I O M : Type 0} → Meaning S I O M → World S K M → StepKind → ℕ → Bool
+may_act m w kind.In n = m.takes_input n && w.is_up n
+may_act m w kind.Tick n = w.is_up n
+may_act m w kind.Crash n = w.is_up n
+may_act m w kind.Reboot n = not (w.is_up n)
+may_act m w kind.Dup n = false
+may_act m w kind.Lose n = false
+may_act m w kind.Deliver n = false
+
 -- the nodes or packets that a step of this kind may name, ascending
 abbrev pub candidates : {S K I O M : Type 0} → Meaning S I O M → World S K M → StepKind → List ℕ
-candidates m w kind.In = nodes_that m (λ n. m.takes_input n && w.is_up n)
-candidates m w kind.Tick = nodes_that m w.is_up
-candidates m w kind.Crash = nodes_that m w.is_up
-candidates m w kind.Reboot = nodes_that m (λ n. not (w.is_up n))
+candidates m w kind.In = nodes_that m (may_act m w kind.In)
+candidates m w kind.Tick = nodes_that m (may_act m w kind.Tick)
+candidates m w kind.Crash = nodes_that m (may_act m w kind.Crash)
+candidates m w kind.Reboot = nodes_that m (may_act m w kind.Reboot)
 candidates m w kind.Dup = numbers_of is_in_flight 0 w.packets
 candidates m w kind.Lose = numbers_of is_in_flight 0 w.packets
 candidates m w kind.Deliver = numbers_of (λ p. is_in_flight p && w.is_up p.destination) 0 w.packets
@@ -44,3 +54,7 @@ made_kind net m w k =
 -- the candidate of this number, counted round
 abbrev pub chosen : List ℕ → ℕ → ℕ
 chosen cs number = get_or cs (number % length cs) 0
+
+-- the same, if there is one
+abbrev pub picked : List ℕ → ℕ → Option ℕ
+picked cs number = slice_get cs (number % length cs)

@@ -11,12 +11,7 @@ use Rattle.vst_base.specs.declared.step.Step.TheVariants as step
 use Rattle.vst_base.specs.declared.step.StepKind.{StepKind}
 use Rattle.vst_base.specs.declared.step.StepKind.TheVariants as kind
 use Rattle.schedule_make.specs.Candidates.{candidates, chosen, drawn_kind, made_kind}
-
--- the random words of one step: for its kind, for its node or packet, and for its input
-pub record Words : Type 0 where
-  pub kind : ℕ
-  pub number : ℕ
-  pub input : ℕ
+use Rattle.schedule_make.specs.declared.words.Words.{Words}
 
 -- the generator of a schedule, from its number
 abbrev pub generator : ℕ → Lcg

@@ -5,7 +5,9 @@
 mod examples;
 mod laws;
 mod rows;
+mod words;
 
 pub use examples::{worked, worked_inputs};
 pub use laws::made_schedules_are_allowed;
 pub use rows::{worked_backups, worked_clusters, worked_locks};
+pub use words::Words;
