@@ -1,0 +1,4 @@
+pub mod Examples
+pub mod MadeLines
+pub mod Sends
+pub mod Texts
