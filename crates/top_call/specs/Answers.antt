@@ -6,8 +6,11 @@ use Rattle.line_reader.specs.Lines.{whole_lines}
 use Rattle.schedule_text.specs.Printing.{as_line, numbered, refusal_line}
 use Rattle.command_line.specs.declared.command.Command.{Command}
 use Rattle.command_line.specs.declared.command.Command.TheVariants as command
+use Rattle.command_line.specs.declared.command.MadeSchedule.{MadeSchedule}
 use Rattle.command_line.specs.CommandSet.{command_of}
+use Rattle.made_schedules.specs.MadeTexts.{made_counts, made_text}
 use Rattle.schedule_replay.specs.Replaying.{Replayed}
+use Rattle.schedule_replay.specs.declared.done.Done.{Done}
 use Rattle.schedule_replay.specs.Replays.{replayed, replayed_so_far}
 use Rattle.stacks.specs.Checks.{checked, refused_so_far}
 use Rattle.claim_verdicts.specs.declared.verdict.Verdict.{Verdict}
@@ -52,11 +55,29 @@ answer_to_claim (Ok verdict.Yes) = record { status = 0; out = permitted_line; er
 answer_to_claim (Ok (verdict.No condition line)) = record { status = 1; out = []; err = condition_line condition line }
 answer_to_claim (Err r) = record { status = 3; out = []; err = refusal_line r.0 r.1 }
 
+-- the counts of a replay, a line each
+abbrev pub counts_text : Done → List ℕ
+counts_text d =
+    as_line (numbered (codes "events") d.events) ++ as_line (numbered (codes "inputs") d.inputs) ++ as_line (numbered (codes "outputs") d.outputs)
+    ++ as_line (numbered (codes "replies") d.replies) ++ as_line (numbered (codes "image") d.image)
+
+-- a command that reads nothing writes this text
+abbrev pub answer_with : List ℕ → Answer
+answer_with text = record { status = 0; out = text; err = [] }
+
+abbrev pub schedule_answer : MadeSchedule → Answer
+schedule_answer s = answer_with (made_text s.stack s.seed s.steps)
+
+abbrev pub summary_answer : MadeSchedule → Answer
+summary_answer s = answer_with (counts_text (made_counts s.stack s.seed s.steps))
+
 -- what a command does with its input, and where the words name none
 abbrev pub answer_by : Option Command → List ℕ → Answer
 answer_by None input = record { status = 2; out = []; err = usage_line }
 answer_by (Some command.Replay) input = answer_of (replayed input)
 answer_by (Some (command.Check s)) input = answer_to_claim (checked s input)
+answer_by (Some (command.Make s)) input = schedule_answer s
+answer_by (Some (command.Summarize s)) input = summary_answer s
 
 -- of an input that broke off: what a command has written for its whole lines, and the line of them that is refused, if one is
 pub record SoFar : Type 0 where
@@ -70,6 +91,8 @@ abbrev pub so_far_by : Option Command → List ℕ → SoFar
 so_far_by None given = record { out = []; refused = None }
 so_far_by (Some command.Replay) given = so_far_of (replayed_so_far given)
 so_far_by (Some (command.Check s)) given = record { out = []; refused = refused_so_far s (whole_lines given) }
+so_far_by (Some (command.Make s)) given = record { out = []; refused = None }
+so_far_by (Some (command.Summarize s)) given = record { out = []; refused = None }
 
 abbrev pub answered : List (List ℕ) → List ℕ → Answer
 answered words = answer_by (command_of words)
@@ -83,11 +106,15 @@ abbrev pub reads : Option Command → Bool
 reads None = false
 reads (Some command.Replay) = true
 reads (Some (command.Check s)) = true
+reads (Some (command.Make s)) = false
+reads (Some (command.Summarize s)) = false
 
 abbrev pub is_check : Option Command → Bool
 is_check None = false
 is_check (Some command.Replay) = false
 is_check (Some (command.Check s)) = true
+is_check (Some (command.Make s)) = false
+is_check (Some (command.Summarize s)) = false
 
 -- what a command answers to, where it is known: what its input has, where this is told; nothing, if it reads none
 abbrev pub input_of : Option Command → Option (List ℕ) → Option (List ℕ)

@@ -4,7 +4,10 @@ use Rattle.std.specs.Bool.{OnTrue}
 use Rattle.outside.specs.Counting.{Rose}
 use Rattle.command_line.specs.declared.command.Command.{Command}
 use Rattle.command_line.specs.declared.command.Command.TheVariants as command
+use Rattle.command_line.specs.declared.command.MadeSchedule.{MadeSchedule}
+use Rattle.made_schedules.specs.MadeTexts.{made_counts, made_text}
 use Rattle.schedule_replay.specs.Explained.{IsReplay}
+use Rattle.schedule_replay.specs.Replays.{replayed}
 use Rattle.stacks.specs.Checks.{IsNotPermitted, IsPermitted}
 use Rattle.top_call.specs.Answers.{Answer, answer_by, input_of, reads}
 use Rattle.top_call.specs.Seen.{Run}
@@ -27,15 +30,24 @@ IsReadToEnd command r = OnTrue (reads command) (IfSome r.before.input.left (λ b
 abbrev pub GainedReplay : Run → List ℕ → Type 0
 GainedReplay r bytes = IfSome r.before.out.written (λ held. (text : List ℕ) × (r.after.out.written ≡ Some (held ++ text)) × IsReplay bytes text)
 
+-- a replay takes the made schedule to its end, and comes to these counts
+pub record IsTaken (s : MadeSchedule) : Type 0 where
+  pub whole : (replayed (made_text s.stack s.seed s.steps)).refused ≡ None
+  pub counts : (replayed (made_text s.stack s.seed s.steps)).counts ≡ made_counts s.stack s.seed s.steps
+
 -- what a command that is done has shown: replay, that what out gained is a replay of the input; check, that the input is a claim
--- whose image explains its trace
+-- whose image explains its trace; a schedule that was made or summarized, that a replay takes it whole
 abbrev pub IsExplained : Option Command → Run → Type 0
 IsExplained None r = ⊥
 IsExplained (Some command.Replay) r = IfSome r.before.input.left (GainedReplay r)
 IsExplained (Some (command.Check stack)) r = IfSome r.before.input.left (IsPermitted stack)
+IsExplained (Some (command.Make s)) r = IsTaken s
+IsExplained (Some (command.Summarize s)) r = IsTaken s
 
 -- and what a check has shown at which a condition is false: the input is a claim whose image does not explain its trace
 abbrev pub IsRefuted : Option Command → Run → Type 0
 IsRefuted None r = ⊥
 IsRefuted (Some command.Replay) r = ⊥
 IsRefuted (Some (command.Check stack)) r = IfSome r.before.input.left (IsNotPermitted stack)
+IsRefuted (Some (command.Make s)) r = ⊥
+IsRefuted (Some (command.Summarize s)) r = ⊥

@@ -36,6 +36,13 @@ ran s o e input input' out out' err err' = record {
   after = record { input = source_seen s input'; out = sink_seen o out'; err = sink_seen e err' };
 }
 
+-- and one that left its input as this is
+abbrev pub ran_beside : {O E : Type 0} → OfSink O → OfSink E → SourceSeen → (out out' : O) (err err' : E) → Run
+ran_beside o e input out out' err err' = record {
+  before = record { input = input; out = sink_seen o out; err = sink_seen e err };
+  after = record { input = input; out = sink_seen o out'; err = sink_seen e err' };
+}
+
 -- no write of a sink failed or wanted memory
 pub record CountsNothing (before after : SinkSeen) : Type 0 where
   pub faults : after.faults ≡ before.faults

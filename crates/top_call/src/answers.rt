@@ -8,6 +8,7 @@ ghost use Rattle.top_call.specs.Statuses.{IsDenied, IsDone, IsLineRefused, IsOut
 
 use crate::Complaint;
 use crate::checking::run_check;
+use crate::making::{run_make, run_summary};
 use crate::replaying::run_replay;
 use crate::telling::tell;
 use command_line::{Command, read_words};
@@ -49,6 +50,8 @@ pub fn run<S: Source, O: Sink, E: Sink, D: Device>(
     match read_words(alloc, words) {
         Ok(Some(Command::Replay)) => run_replay(alloc, input, out, err),
         Ok(Some(Command::Check(stack))) => run_check(alloc, stack, input, out, err),
+        Ok(Some(Command::Make(schedule))) => run_make(alloc, schedule, out, err),
+        Ok(Some(Command::Summarize(schedule))) => run_summary(alloc, schedule, out, err),
         Ok(None) => tell(alloc, err, Complaint::Words),
         Err(AllocError) => tell(alloc, err, Complaint::Memory),
     }

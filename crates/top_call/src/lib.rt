@@ -5,6 +5,7 @@ mod answers;
 mod checking;
 mod complaint;
 mod examples;
+mod making;
 mod replaying;
 mod status;
 mod status_examples;
