@@ -19,6 +19,8 @@ pub use status_examples::{worked_complaints, worked_statuses};
 #[cfg(test)]
 mod check_tests;
 #[cfg(test)]
+mod make_tests;
+#[cfg(test)]
 mod steady_tests;
 #[cfg(test)]
 mod table_tests;
