@@ -1,23 +1,21 @@
 -- What a step does to the packets in flight, and that what is seen of it is what it does.
-use Rattle.std.proofs.Common.{◌≡◌, ◌≢◌, ℕ, zero, suc, ◌+◌, ◌-◌, ◌<◌, ◌≤◌, Bool, true, false, not, List, [], ◌∷◌, ◌++◌, length, map, get_or, Option, Some, None, refl, sym, ap, ◌∙◌, subst, arith, length-append, inl, inr}
-use Rattle.std.specs.Prelude.{◌==◌, nat_lt, if◌then◌else◌, is_none, slice_get, slice_set, IfSome, take}
+use Rattle.std.proofs.Common.{◌≡◌, ℕ, zero, suc, ◌+◌, ◌-◌, ◌<◌, ◌≤◌, Bool, true, false, not, List, [], ◌∷◌, ◌++◌, length, get_or, Option, Some, None, refl, sym, ap, ◌∙◌, arith, inl, inr}
+use Rattle.std.specs.Prelude.{◌==◌, nat_lt, if◌then◌else◌, is_none, slice_get, slice_set, take}
 use Rattle.std.proofs.lemmas.Bool.{and_from, and_parts, cases_eq, eq-eqb, lt-ltb, ltb-true, ne_eqb}
 use Rattle.std.proofs.lemmas.Grind.{get_or-set_at}
 use Rattle.std.proofs.lemmas.List.{get_or-set_other, length-set}
 use Rattle.std.specs.List.{list_all}
 use Rattle.handler_trait.specs.Handling.{Meaning, Recovery}
 use Rattle.flight_index.specs.Flights.{Flights, is_within}
-use Rattle.net_semantics.specs.Steps.{Event, after_event, after_network, crashed, delivery, event_of, fails, next, node_of, packet_of, refusal_of, rebooted, with_packets}
+use Rattle.net_semantics.specs.Steps.{Event, after_event, after_network, crashed, event_of, fails, next, node_of, packet_of, refusal_of, rebooted, with_packets}
 use Rattle.net_semantics.specs.Worlds.{Packet, World, change_at, copies, copies_of, ends_of, one_less, one_more, put, sent_by}
 use Rattle.vst_base.specs.Firsts.{first_of}
 use Rattle.vst_base.specs.Nets.{has_kind}
 use Rattle.vst_base.specs.declared.step.StepKind.TheVariants as kind
 use Rattle.vst_base.specs.declared.net.Net.{Net}
 use Rattle.vst_base.specs.declared.step.StepRefusal.TheVariants as refusal
-use Rattle.vst_base.specs.declared.node.TheConstants.{MAX_NODES}
 use Rattle.vst_base.specs.declared.step.Step.{Step}
 use Rattle.vst_base.specs.declared.step.Step.TheVariants as step
-use Rattle.schedule_make.specs.Candidates.{is_in_flight}
 use Rattle.schedule_make.specs.Flying.{AreInFlightFrom, IsWithin, KnowsFlights, flight_of, flights_of, seen}
 
 -- one copy more or less of a packet in flight

@@ -1,17 +1,15 @@
 -- A step that was made, taken and seen leaves a schedule in the making with one step more.
-use Rattle.std.proofs.Common.{◌≡◌, ℕ, ◌+◌, ◌<◌, ◌≤◌, true, List, [], ◌∷◌, ◌++◌, length, None, get_or, false, refl, sym, ap, subst, ◌∙◌, arith}
+use Rattle.std.proofs.Common.{◌≡◌, ℕ, ◌≤◌, true, List, [], ◌∷◌, ◌++◌, length, None, get_or, false, sym, ap, subst, ◌∙◌}
 use Rattle.std.specs.Prelude.{is_none, take}
 use Rattle.std.specs.List.{list_all}
 use Rattle.std.proofs.Math.Seq.{take-append_seam}
 use Rattle.flight_index.specs.Flights.{Flights, is_within}
 use Rattle.net_semantics.specs.RunLaws.{run_from-append}
 use Rattle.net_semantics.specs.Steps.{after_network, next, refusal_of}
-use Rattle.net_semantics.specs.Worlds.{World, first_world}
-use Rattle.vst_base.specs.declared.step.Item.{Item}
+use Rattle.net_semantics.specs.Worlds.{first_world}
 use Rattle.vst_base.specs.declared.step.Step.{Step}
-use Rattle.xform_stack.specs.Running.{HasRun, Progress, System, world_of}
+use Rattle.xform_stack.specs.Running.{Progress, System, world_of}
 use Rattle.schedule_make.specs.Flying.{AreInFlightFrom, KnowsFlights, flights_of, seen}
-use Rattle.schedule_make.specs.Making.{HasMade, MakingView}
 use Rattle.schedule_make.proofs.Following.{Fresh, fly-after, flights-append, length-flights, sees, step-fresh}
 
 module _ {R S K I O M G : Type 0} (sys : System S K I O M G) (follows : R → List (Step I) → Type 0) (progress : R → Progress I O) where

@@ -1,5 +1,5 @@
 -- What a schedule in the making knows of the packets in flight.
-use Rattle.std.specs.Prelude.{◌≡◌, ℕ, ◌<◌, ◌≤◌, ◌==◌, Bool, true, false, List, length, map, Option, Some, None, IfSome, is_none, get_or, slice_get, slice_set, if◌then◌else◌}
+use Rattle.std.specs.Prelude.{◌≡◌, ℕ, ◌<◌, ◌≤◌, ◌==◌, true, false, List, length, map, Option, Some, None, IfSome, is_none, get_or, slice_get, slice_set, if◌then◌else◌}
 use Rattle.std.specs.List.{list_all}
 use Rattle.flight_index.specs.Flights.{Flights, is_within}
 use Rattle.net_semantics.specs.Worlds.{Packet, World, copies}

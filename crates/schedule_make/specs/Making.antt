@@ -1,7 +1,8 @@
 -- A schedule in the making.
-use Rattle.std.specs.Prelude.{ℕ, List, length}
+use Rattle.std.specs.Prelude.{◌≡◌, List, length, None}
 use Rattle.flight_index.specs.Flights.{Flights}
 use Rattle.rand_pcg.specs.Lcg.{Lcg}
+use Rattle.net_semantics.specs.Steps.{refusal_of}
 use Rattle.vst_base.specs.declared.step.Item.{Item}
 use Rattle.vst_base.specs.declared.step.Step.{Step}
 use Rattle.xform_stack.specs.Running.{HasRun, Progress, System, world_of}
@@ -25,10 +26,11 @@ pub record HasMade {R S K I O M G : Type 0} (sys : System S K I O M G) (follows 
   pub ran : HasRun sys follows progress ss gone v.running
   pub flights : KnowsFlights v.flights (world_of sys ss)
 
--- some steps were
-pub record IsMade {R S K I O M G : Type 0} (sys : System S K I O M G) (follows : R → List (Step I) → Type 0) (progress : R → Progress I O) (v : MakingView R) : Type 0 where
+-- some steps were, and the network allows the one that is made next
+pub record CanStep {R S K I O M G : Type 0} (sys : System S K I O M G) (follows : R → List (Step I) → Type 0) (progress : R → Progress I O) (inputs : Inputs I) (v : MakingView R) : Type 0 where
   pub steps : List (Step I)
   pub made : HasMade sys follows progress steps v
+  pub allowed : refusal_of sys.net sys.meaning (world_of sys steps) (step_after sys inputs steps v.random) ≡ None
 
 -- what runs has followed some steps
 pub record HasSteps {R I : Type 0} (follows : R → List (Step I) → Type 0) (r : R) : Type 0 where

@@ -1,14 +1,13 @@
-ghost use Rattle.std.specs.Prelude.{◌≡◌, ◌≤◌, ◌<◌, List, [], ◌∷◌, ◌++◌, length, take, slice_set, None, true, IfOk, OnOk};
+ghost use Rattle.std.specs.Prelude.{◌≡◌, ◌≤◌, ◌<◌, List, [], ◌∷◌, ◌++◌, length, take, slice_set, true, IfOk, OnOk};
 ghost use Rattle.std.specs.List.{list_all};
 ghost use Rattle.flight_index.specs.Flights.{is_within};
-ghost use Rattle.net_semantics.specs.Steps.{refusal_of};
 ghost use Rattle.vst_base.specs.declared.node.TheConstants.{MAX_NODES};
 ghost use Rattle.vst_base.specs.declared.step.TheConstants.{MAX_STEPS};
 ghost use Rattle.vst_base.specs.declared.step.Step.{Step as SpecStep};
 ghost use Rattle.xform_stack.specs.Running.{HasRun, world_of};
 ghost use Rattle.schedule_make.specs.Flying.{AreInFlightFrom, IsWithin, flights_of, seen};
 ghost use Rattle.schedule_make.specs.Made.{after_words, generator, step_of};
-ghost use Rattle.schedule_make.specs.Making.{HasMade, HasSteps, IsMade, step_after};
+ghost use Rattle.schedule_make.specs.Making.{CanStep, HasMade, HasSteps, step_after};
 
 use crate::drawing::{drawn_kind, settled};
 use crate::inputs::MakesInputs;
@@ -75,9 +74,7 @@ impl<R: Explores> Making<R> {
         requires sound { R.sound self.old.running }
         requires few { (R.progress self.old.running).taken < MAX_STEPS }
         requires nodes { (R.system self.old.running).meaning.nodes ≤ MAX_NODES }
-        requires made { IsMade (R.system self.old.running) R.follows R.progress self.old }
-        requires allowed { (ss : List (SpecStep R.Input)) → HasMade (R.system self.old.running) R.follows R.progress ss self.old
-            → refusal_of (R.system self.old.running).net (R.system self.old.running).meaning (world_of (R.system self.old.running) ss) (step_after (R.system self.old.running) T.inputs ss self.old.random) ≡ None }
+        requires allowed { CanStep (R.system self.old.running) R.follows R.progress T.inputs self.old }
         ensures made { IfOk result (λ step. (ss : List (SpecStep R.Input)) → HasMade (R.system self.old.running) R.follows R.progress ss self.old
             → step ≡ step_after (R.system self.old.running) T.inputs ss self.old.random) }
         ensures next { IfOk result (λ step. (ss : List (SpecStep R.Input)) → HasMade (R.system self.old.running) R.follows R.progress ss self.old

@@ -1,4 +1,4 @@
-use Rattle.std.proofs.Common.{◌≡◌, ◌++◌, ◌∷◌, [], Bool, true, false, ℕ, sym, ap, ◌∙◌, append-nil}
+use Rattle.std.proofs.Common.{◌++◌, ◌∷◌, [], Bool, true, false, ℕ, sym, ap, ◌∙◌, append-nil}
 use Rattle.std.specs.List.{filter, range_with_len}
 use Rattle.xform_stack.specs.Running.{world_of}
 use Rattle.schedule_make.specs.Candidates.{may_act}

@@ -1,4 +1,4 @@
-use Rattle.std.proofs.Common.{◌≡◌, sym, ◌∙◌}
+use Rattle.std.proofs.Common.{sym, ◌∙◌}
 use Rattle.vst_base.specs.declared.step.StepKind.TheVariants as kind
 use Rattle.xform_stack.specs.Running.{world_of}
 use Rattle.schedule_make.proofs.Offers.{made_rest, offered_none}

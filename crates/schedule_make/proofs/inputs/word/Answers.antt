@@ -1,6 +1,5 @@
-use Rattle.std.proofs.Common.{◌≡◌, ◌<◌, ◌∷◌, ℕ, List, IsTrue, arith, sym, subst, ◌∙◌, ap, rules}
+use Rattle.std.proofs.Common.{◌≡◌, ◌∷◌, arith, rules}
 use Rattle.std.specs.Fmt.{decimal}
-use Rattle.vst_base.specs.Tokens.{is_token}
 use Rattle.schedule_make.proofs.Letters.{lettered-token}
 use Rattle.schedule_make.proofs.inputs.word.Goals as goal
 

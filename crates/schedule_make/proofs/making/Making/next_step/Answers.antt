@@ -1,4 +1,4 @@
-use Rattle.std.proofs.Common.{◌≡◌, List, length, ap, sym, subst, ◌∙◌}
+use Rattle.std.proofs.Common.{◌≡◌, List, length, ap, subst, ◌∙◌}
 use Rattle.vst_base.specs.declared.step.Step.{Step}
 use Rattle.xform_stack.specs.Running.{world_of}
 use Rattle.schedule_make.specs.Candidates.{candidates, chosen, drawn_kind, made_kind}

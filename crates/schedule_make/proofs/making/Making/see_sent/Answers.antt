@@ -1,4 +1,4 @@
-use Rattle.std.proofs.Common.{◌≡◌, ◌+◌, ◌++◌, ◌∷◌, ◌≤◌, [], List, ℕ, Some, length, take, true, refl, sym, ap, subst, ◌∙◌, arith, length-append}
+use Rattle.std.proofs.Common.{◌≡◌, ◌+◌, ◌++◌, ◌∷◌, ◌≤◌, [], List, ℕ, Some, length, true, refl, sym, ap, subst, ◌∙◌, arith, length-append}
 use Rattle.std.specs.Prelude.{ltb}
 use Rattle.std.specs.List.{list_all}
 use Rattle.std.proofs.lemmas.Bool.{and_from, lt-ltb}
@@ -7,7 +7,6 @@ use Rattle.flight_index.specs.Flights.{is_within}
 use Rattle.net_semantics.specs.Worlds.{ends}
 use Rattle.vst_base.specs.declared.step.Step.{Step}
 use Rattle.xform_stack.specs.Running.{world_of}
-use Rattle.schedule_make.specs.Flying.{flights_of}
 use Rattle.schedule_make.specs.Making.{MakingView}
 use Rattle.schedule_make.proofs.Following.{has-ends, next-flight}
 use Rattle.schedule_make.proofs.making.Making.see_sent.Goals as goal
