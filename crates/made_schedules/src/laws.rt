@@ -23,10 +23,10 @@ pub fn made_schedules_are_allowed()
 pub fn made_schedules_are_replayed()
     ensures { (i : SpecId) (seed steps : ℕ) → (row_of i).net ≢ net.One → steps ≤ MAX_STEPS
         → IfFound (stack_at (made_header i).net i) (λ e. replayed (made_text i seed steps)
-            ≡ record {
-              out = trace_lines (e.of (made_header i).nodes).stack.play ((e.of (made_header i).nodes).stack.made seed steps)
-                ++ image_lines (e.of (made_header i).nodes).stack.play ((e.of (made_header i).nodes).stack.made seed steps);
-              refused = None;
-              counts = counts_of (e.of (made_header i).nodes).stack.play ((e.of (made_header i).nodes).stack.made seed steps);
-            }) }
+        ≡ record {
+          out = trace_lines (e.of (made_header i).nodes).stack.play ((e.of (made_header i).nodes).stack.made seed steps)
+              ++ image_lines (e.of (made_header i).nodes).stack.play ((e.of (made_header i).nodes).stack.made seed steps);
+          refused = None;
+          counts = counts_of (e.of (made_header i).nodes).stack.play ((e.of (made_header i).nodes).stack.made seed steps);
+        }) }
 {}
