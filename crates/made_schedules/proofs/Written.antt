@@ -61,21 +61,21 @@ module _ {R S K I O M G : Type 0} (sys : System S K I O M G) (follows : R → Li
       let long : length (ss ++ s ∷ []) ≡ length ss + 1 = length-append ss (s ∷ []) in
       let tail = made_from sys.net sys.meaning sys.recovery inputs (next sys.meaning sys.recovery (world_of sys ss) s) (length ss + 1) (after_words v.random) n in
       let tail_is : made_from sys.net sys.meaning sys.recovery inputs (world_of sys (ss ++ s ∷ [])) (length (ss ++ s ∷ [])) v'.random n ≡ tail =
-        ap (λ x. made_from sys.net sys.meaning sys.recovery inputs x (length (ss ++ s ∷ [])) v'.random n) more
-        ∙ ap (λ k. made_from sys.net sys.meaning sys.recovery inputs (next sys.meaning sys.recovery (world_of sys ss) s) k v'.random n) long
-        ∙ ap (λ g. made_from sys.net sys.meaning sys.recovery inputs (next sys.meaning sys.recovery (world_of sys ss) s) (length ss + 1) g n) random in
+      ap (λ x. made_from sys.net sys.meaning sys.recovery inputs x (length (ss ++ s ∷ [])) v'.random n) more
+      ∙ ap (λ k. made_from sys.net sys.meaning sys.recovery inputs (next sys.meaning sys.recovery (world_of sys ss) s) k v'.random n) long
+      ∙ ap (λ g. made_from sys.net sys.meaning sys.recovery inputs (next sys.meaning sys.recovery (world_of sys ss) s) (length ss + 1) g n) random in
       let t = step_after sys inputs ss v.random in
       let from_t : made_from sys.net sys.meaning sys.recovery inputs (world_of sys ss) (length ss) v.random (suc n) ≡ s ∷ tail =
-        ap (λ x. x ∷ made_from sys.net sys.meaning sys.recovery inputs (next sys.meaning sys.recovery (world_of sys ss) x) (length ss + 1) (after_words v.random) n) (sym is) in
+      ap (λ x. x ∷ made_from sys.net sys.meaning sys.recovery inputs (next sys.meaning sys.recovery (world_of sys ss) x) (length ss + 1) (after_words v.random) n) (sym is) in
       let here : made_from sys.net sys.meaning sys.recovery inputs (world_of sys ss) (length ss) v.random left ≡ s ∷ tail =
-        ap (λ k. made_from sys.net sys.meaning sys.recovery inputs (world_of sys ss) (length ss) v.random k) e ∙ from_t in
+      ap (λ k. made_from sys.net sys.meaning sys.recovery inputs (world_of sys ss) (length ss) v.random k) e ∙ from_t in
       let allowed = place_and_why-none _ _ (subst (λ xs. first_refused_from sys.net sys.meaning sys.recovery (world_of sys ss) xs ≡ None) here w.allowed) in
       record {
         steps = ss ++ s ∷ [];
         made = made;
         whole = w.whole ∙ ap (λ xs. ss ++ xs) (here ∙ ap (λ xs. s ∷ xs) (sym tail_is)) ∙ sym (append_assoc ss (s ∷ []) (made_from sys.net sys.meaning sys.recovery inputs (world_of sys (ss ++ s ∷ [])) (length (ss ++ s ∷ [])) v'.random n));
         allowed = ap (λ xs. first_refused_from sys.net sys.meaning sys.recovery (world_of sys (ss ++ s ∷ [])) xs) tail_is
-          ∙ ap (λ x. first_refused_from sys.net sys.meaning sys.recovery x tail) more ∙ allowed.1;
+            ∙ ap (λ x. first_refused_from sys.net sys.meaning sys.recovery x tail) more ∙ allowed.1;
         written = subst (λ bs. Gained out out' bs) (sym (steps-more ss s)) (gained-more mid out' (steps_text input_text ss) (as_line (step_text input_text s)) w.written gained);
         counted = omega (arith, long, w.counted, e);
       }
@@ -112,8 +112,8 @@ module _ {R S K I O M G : Type 0} (sys : System S K I O M G) (follows : R → Li
       let ss = w.steps in
       let tail = made_from sys.net sys.meaning sys.recovery inputs (next sys.meaning sys.recovery (world_of sys ss) s) (length ss + 1) (after_words v.random) n in
       let here : made_from sys.net sys.meaning sys.recovery inputs (world_of sys ss) (length ss) v.random left ≡ s ∷ tail =
-        ap (λ k. made_from sys.net sys.meaning sys.recovery inputs (world_of sys ss) (length ss) v.random k) e
-        ∙ ap (λ x. x ∷ made_from sys.net sys.meaning sys.recovery inputs (next sys.meaning sys.recovery (world_of sys ss) x) (length ss + 1) (after_words v.random) n) (sym is) in
+      ap (λ k. made_from sys.net sys.meaning sys.recovery inputs (world_of sys ss) (length ss) v.random k) e
+      ∙ ap (λ x. x ∷ made_from sys.net sys.meaning sys.recovery inputs (next sys.meaning sys.recovery (world_of sys ss) x) (length ss + 1) (after_words v.random) n) (sym is) in
       subst (λ bs. GainedFront out out' bs) (sym (ap (steps_text input_text) (w.whole ∙ ap (λ xs. ss ++ xs) here) ∙ steps-append ss (s ∷ tail)))
       (front-more out mid out' (steps_text input_text ss) (as_line (step_text input_text s)) (steps_text input_text tail) w.written front)
 
