@@ -3,9 +3,9 @@
 
 mod fault;
 mod laws;
-mod make;
+mod making;
 mod writing;
 
 pub use fault::MakeFault;
 pub use laws::{made_schedules_are_allowed, made_schedules_are_replayed};
-pub use make::{make, summary};
+pub use making::{make, summary};

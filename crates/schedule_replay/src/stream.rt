@@ -7,7 +7,7 @@ use crate::rest::replay_rest;
 use crate::{Done, ReplayFault};
 use outside::{Sink, Source};
 use schedule_text::{MAX_LINES, Reader, read_header};
-use stacks::{OnStack, StackCode, on_stack};
+use stacks::{OnStack, StackCode, headers_have_stacks, on_stack};
 use std::alloc::Global;
 
 // Replays what stands after a header.
@@ -59,5 +59,6 @@ pub fn replay<S: Source, K: Sink>(
         Ok(header) => header,
         Err(fault) => return Err(replay_fault(fault)),
     };
+    headers_have_stacks();
     on_stack(&header, Replaying { alloc }, &mut reader, source, sink)
 }

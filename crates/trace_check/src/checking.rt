@@ -8,7 +8,7 @@ use check_text::read_claim;
 use claim_verdicts::Verdict;
 use outside::Source;
 use schedule_text::{Header, headers_follow_the_rows};
-use stacks::{OnStack, StackCode, on_stack};
+use stacks::{OnStack, StackCode, headers_have_stacks, on_stack};
 use std::alloc::Global;
 use vst_base::StackId;
 
@@ -55,6 +55,7 @@ pub fn check<S: Source>(
     ensures counts { S.faults source.old ≤ S.faults source.new }
 {
     headers_follow_the_rows();
+    headers_have_stacks();
     let row = stack.row();
     let nodes = row.most;
     let header = Header {

@@ -3,11 +3,15 @@ use Rattle.line_reader.specs.Readers.{ReaderView}
 use Rattle.schedule_text.specs.Streams.{ReadsHeader}
 use Rattle.schedule_text.specs.HeaderLaws.{header_of-row}
 use Rattle.stacks.specs.Table.{stack_at}
+use Rattle.stacks.proofs.Found.{weaker-found}
 use Rattle.schedule_replay.proofs.Openings.{found-comes, header-comes, header-then, fresh-rest, if-told, going-of}
 use Rattle.schedule_replay.proofs.stream.replay.Goals as goal
 
 pub on_stack-requires : goal.on_stack-requires
-on_stack-requires g c = record { known = header_of-row c.read_header.new.reader.line c.in-Ok.header c.in-Ok.ensures.header; ready = tt }
+on_stack-requires g c =
+    let h = c.in-Ok.header in
+    let known = header_of-row c.read_header.new.reader.line h c.in-Ok.ensures.header in
+    record { known = known; ready = weaker-found (stack_at h.net h.stack) _ _ (λ e row. tt) (c.headers_have_stacks.ensures h known) }
 
 pub returns-in-Err-clause-told : goal.returns-in-Err-clause-told
 returns-in-Err-clause-told g c =

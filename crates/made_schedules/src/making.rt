@@ -68,7 +68,13 @@ fn write_schedule<K: Sink>(
     let header = made_header(stack);
     let line = header_line(alloc, header)?;
     print_text(sink, &line)?;
-    on_stack(&header, Steps { alloc, seed, steps }, sink, &mut (), &mut ())
+    on_stack(
+        &header,
+        Steps { alloc, seed, steps },
+        sink,
+        &mut (),
+        &mut (),
+    )
 }
 
 /// Writes the schedule of a stack that is made from a number and has so many steps, each step as it is made. The stack's network has
@@ -100,12 +106,7 @@ pub fn make<K: Sink>(
 }
 
 /// The counts of a replay of what `make` writes, over memory.
-pub fn summary(
-    alloc: Global,
-    stack: StackId,
-    seed: u32,
-    steps: u32,
-) -> Result<Done, AllocError>
+pub fn summary(alloc: Global, stack: StackId, seed: u32, steps: u32) -> Result<Done, AllocError>
     requires sends { (row_of stack).net ≢ net.One }
     requires few { steps ≤ MAX_STEPS }
     ensures { IfOk result (λ done. done ≡ made_counts stack seed steps) }
