@@ -1,1 +1,4 @@
+pub mod Allowed
+pub mod Openings
+pub mod ReadBack
 pub mod Written

@@ -1,32 +1,38 @@
-ghost use Rattle.std.specs.Prelude.{◌≡◌, ◌≢◌, ◌≤◌, ◌++◌, ℕ, None, length};
-ghost use Rattle.schedule_replay.specs.Replaying.{counts_of, image_lines, trace_lines};
+ghost use Rattle.std.specs.Prelude.{◌≡◌, ◌≢◌, ◌≤◌, ℕ, None, [], length};
 ghost use Rattle.schedule_replay.specs.Replays.{replayed};
+ghost use Rattle.stacks.specs.ClaimTexts.{claim_by, claim_text};
 ghost use Rattle.stacks.specs.Stack.{IfFound};
 ghost use Rattle.stacks.specs.Table.{stack_at};
 ghost use Rattle.vst_base.specs.Stacks.{row_of};
 ghost use Rattle.vst_base.specs.declared.net.Net.TheVariants as net;
-ghost use Rattle.vst_base.specs.declared.stack.StackId.{StackId as SpecId};
+ghost use Rattle.vst_base.specs.declared.stack.StackId.{StackId};
 ghost use Rattle.vst_base.specs.declared.step.TheConstants.{MAX_STEPS};
-ghost use Rattle.made_schedules.specs.MadeTexts.{made_header, made_text};
+ghost use Rattle.made_schedules.specs.MadeTexts.{made_counts, made_header, made_text, with_made};
 
-/// The network of each stack that sends packets allows each step of each of its made schedules, which has as many steps as were
-/// asked for.
+use made_lines::each_stack_has_lines;
+
+/// A made schedule of any stack has as many steps as were asked for, and the network of each stack that sends packets allows all of
+/// them.
 pub fn made_schedules_are_allowed()
-    ensures steps { (i : SpecId) (seed steps : ℕ)
-        → IfFound (stack_at (made_header i).net i) (λ e. length ((e.of (made_header i).nodes).stack.made seed steps) ≡ steps) }
-    ensures allowed { (i : SpecId) (seed steps : ℕ) → (row_of i).net ≢ net.One
-        → IfFound (stack_at (made_header i).net i) (λ e. (e.of (made_header i).nodes).stack.play.refused ((e.of (made_header i).nodes).stack.made seed steps) ≡ None) }
+    ensures steps { (i : StackId) (seed steps : ℕ) → IfFound (stack_at (made_header i).net i) (λ e.
+        let stack = (e.of (made_header i).nodes).stack in
+        length (stack.made seed steps) ≡ steps) }
+    ensures allowed { (i : StackId) (seed steps : ℕ) → (row_of i).net ≢ net.One → IfFound (stack_at (made_header i).net i) (λ e.
+        let stack = (e.of (made_header i).nodes).stack in
+        stack.play.refused (stack.made seed steps) ≡ None) }
 {}
 
-/// A replay of the text of a made schedule comes to its end: no line of it is refused, and what it writes and counts is what the
-/// steps that were made come to.
+/// A replay of the text of a made schedule comes to its end: no line of it is refused, what is written is the text of the claim that
+/// the steps make, their trace and their image, and the counts are those of the steps.
 pub fn made_schedules_are_replayed()
-    ensures { (i : SpecId) (seed steps : ℕ) → (row_of i).net ≢ net.One → steps ≤ MAX_STEPS
-        → IfFound (stack_at (made_header i).net i) (λ e. replayed (made_text i seed steps)
-        ≡ record {
-          out = trace_lines (e.of (made_header i).nodes).stack.play ((e.of (made_header i).nodes).stack.made seed steps)
-              ++ image_lines (e.of (made_header i).nodes).stack.play ((e.of (made_header i).nodes).stack.made seed steps);
-          refused = None;
-          counts = counts_of (e.of (made_header i).nodes).stack.play ((e.of (made_header i).nodes).stack.made seed steps);
-        }) }
-{}
+    ensures taken { (i : StackId) (seed steps : ℕ) → (row_of i).net ≢ net.One → steps ≤ MAX_STEPS
+        → (replayed (made_text i seed steps)).refused ≡ None }
+    ensures written { (i : StackId) (seed steps : ℕ) → (row_of i).net ≢ net.One → steps ≤ MAX_STEPS
+        → (replayed (made_text i seed steps)).out
+        ≡ with_made [] (λ a. claim_text a.stack.play (claim_by a.stack.play (a.stack.made seed steps))) i }
+    ensures counts { (i : StackId) (seed steps : ℕ) → (row_of i).net ≢ net.One → steps ≤ MAX_STEPS
+        → (replayed (made_text i seed steps)).counts ≡ made_counts i seed steps }
+{
+    made_schedules_are_allowed();
+    each_stack_has_lines();
+}
