@@ -12,7 +12,13 @@ use Rattle.schedule_text.specs.Printing.{as_line, step_text, steps_text}
 use Rattle.vst_base.specs.declared.step.Item.{Item}
 use Rattle.vst_base.specs.declared.step.Step.{Step}
 use Rattle.xform_stack.specs.Running.{Progress, System, world_of}
-use Rattle.stacks.specs.Stack.{made_of}
+use Rattle.line_reader.specs.declared.fault.LineFault.{LineFault}
+use Rattle.line_reader.specs.declared.fault.LineFault.TheVariants as line
+use Rattle.schedule_text.specs.Sending.{HasWriteCause}
+use Rattle.stacks.specs.Stack.{Entry, Found, Here, IfFound, Nowhere, found_or, made_of}
+use Rattle.std.proofs.lemmas.Result.{on_err_weaker, on_ok_weaker}
+use Rattle.std.specs.Prelude.{IfErr, IsErrOf, OnErr, Result, Ok, Err}
+use Rattle.made_schedules.specs.Making.{WritesText}
 
 module _ {R S K I O M G : Type 0} (sys : System S K I O M G) (follows : R → List (Step I) → Type 0) (progress : R → Progress I O) (inputs : Inputs I) (input_text : I → List ℕ)
     (seed total : ℕ) (out : Option (List ℕ)) where
@@ -41,7 +47,7 @@ module _ {R S K I O M G : Type 0} (sys : System S K I O M G) (follows : R → Li
   pub few-taken : (left : ℕ) (v : MakingView R) (out' : Option (List ℕ)) → Written left v out' → 0 < left → (progress v.running).taken < total
   few-taken left v out' w some = omega (arith, w.made.ran.counted, w.counted, some)
 
-  gained-more : (o o' : Option (List ℕ)) (a b : List ℕ) → Gained out o a → Gained o o' b → Gained out o' (a ++ b)
+  pub gained-more : (o o' : Option (List ℕ)) (a b : List ℕ) → Gained out o a → Gained o o' b → Gained out o' (a ++ b)
   gained-more = go out where
     go : (x o o' : Option (List ℕ)) (a b : List ℕ) → Gained x o a → Gained o o' b → Gained x o' (a ++ b)
     go None o o' a b h k = tt
@@ -92,7 +98,7 @@ module _ {R S K I O M G : Type 0} (sys : System S K I O M G) (follows : R → Li
   take-front [] b n = (n, refl)
   take-front (x ∷ a) b n = let r = take-front a b n in (suc r.0, ap (λ bs. x ∷ bs) r.1)
 
-  front-more : (x o o' : Option (List ℕ)) (a b c : List ℕ) → Gained x o a → GainedFront o o' b → GainedFront x o' (a ++ (b ++ c))
+  pub front-more : (x o o' : Option (List ℕ)) (a b c : List ℕ) → Gained x o a → GainedFront o o' b → GainedFront x o' (a ++ (b ++ c))
   front-more None o o' a b c h k = tt
   front-more (Some held) o o' a b c h k =
       let got = subst (λ (p : Option (List ℕ)). GainedFront p o' b) h k in
@@ -132,3 +138,54 @@ module _ {R S K I O M G : Type 0} (sys : System S K I O M G) (follows : R → Li
       whole-front : (x o : Option (List ℕ)) (a b : List ℕ) → Gained x o a → GainedFront x o (a ++ b)
       whole-front None o a b h = tt
       whole-front (Some held) o a b h = (length a, h ∙ ap (λ bs. Some (held ++ bs)) (sym (take-same a b)))
+
+-- what stands after a text that was written is written after it
+module _ {A : Type 0} (a b : List ℕ) (out mid out' : Option (List ℕ)) (f f1 f2 w w1 w2 : ℕ) (r : Result A LineFault) (first : Gained out mid a) (fs : f1 ≡ f) (ws : w1 ≡ w) where
+  both : (x o o' : Option (List ℕ)) → Gained x o a → Gained o o' b → Gained x o' (a ++ b)
+  both None o o' h k = tt
+  both (Some held) o o' h k = (subst (λ (p : Option (List ℕ)). Gained p o' b) h k) ∙ ap Some (append_assoc held a b)
+
+  after-front : (xs ys : List ℕ) (n : ℕ) → (k : ℕ) × (xs ++ take n ys ≡ take k (xs ++ ys))
+  after-front [] ys n = (n, refl)
+  after-front (x ∷ xs) ys n = let t = after-front xs ys n in (suc t.0, ap (λ bs. x ∷ bs) t.1)
+
+  both-front : (x o o' : Option (List ℕ)) → Gained x o a → GainedFront o o' b → GainedFront x o' (a ++ b)
+  both-front None o o' h k = tt
+  both-front (Some held) o o' h k =
+      let got = subst (λ (p : Option (List ℕ)). GainedFront p o' b) h k in
+      let t = after-front a b got.0 in
+      (t.0, got.1 ∙ ap Some (append_assoc held a (take got.0 b)) ∙ ap (λ bs. Some (held ++ bs)) t.1)
+
+  pub then-writes : WritesText b mid out' f1 f2 w1 w2 r → WritesText (a ++ b) out out' f f2 w w2 r
+  then-writes s = record {
+    ok = on_ok_weaker r (λ k. both out mid out' first k) s.ok;
+    err = on_err_weaker r (λ k. both-front out mid out' first k) s.err;
+    fault = subst (λ n. IfErr r (HasWriteCause n f2)) fs s.fault;
+    unfailed = λ e. s.unfailed e ∙ fs;
+    unwanted = λ e. s.unwanted e ∙ ws;
+    quiet = on_ok_weaker r (λ k. (k.0 ∙ fs, k.1 ∙ ws)) s.quiet;
+    counts = omega (arith, s.counts, fs);
+  }
+
+-- what is said of the stack that was found is said of its text
+pub found-writes : {A : Type 0} (found : Found Entry) (text : Entry → List ℕ) (out out' : Option (List ℕ)) (f f' w w' : ℕ) (r : Result A LineFault)
+    → IfFound found (λ e. WritesText (text e) out out' f f' w w' r) → WritesText (found_or [] text found) out out' f f' w w' r
+found-writes Nowhere text out out' f f' w w' r none = absurd none
+found-writes (Here e) text out out' f f' w w' r is = is
+
+-- and where the first text breaks off, nothing stands after it
+within : (xs ys : List ℕ) (n : ℕ) → (k : ℕ) × (take n xs ≡ take k (xs ++ ys))
+within xs ys zero = (0, refl)
+within [] ys (suc n) = (0, refl)
+within (x ∷ xs) ys (suc n) = let t = within xs ys n in (suc t.0, ap (λ bs. x ∷ bs) t.1)
+
+longer : (a b : List ℕ) (x o : Option (List ℕ)) → GainedFront x o a → GainedFront x o (a ++ b)
+longer a b None o h = tt
+longer a b (Some held) o h = let t = within a b h.0 in (t.0, h.1 ∙ ap (λ bs. Some (held ++ bs)) t.1)
+
+module _ {A : Type 0} (a b : List ℕ) (out out' : Option (List ℕ)) (f f' w w' : ℕ) (y : LineFault) where
+  pub broken-writes : (r : Result A LineFault) → r ≡ Err y → OnErr r (GainedFront out out' a) → IfErr r (HasWriteCause f f') → (IsErrOf r line.Memory → f' ≡ f) → (IsErrOf r line.Write → w' ≡ w) → f ≤ f'
+      → WritesText (a ++ b) out out' f f' w w' r
+  broken-writes (Ok x) is err fault unfailed unwanted counts = cc is
+  broken-writes (Err z) is err fault unfailed unwanted counts =
+      record { ok = tt; err = longer a b out out' err; fault = fault; unfailed = unfailed; unwanted = unwanted; quiet = tt; counts = counts }

@@ -1,7 +1,7 @@
 -- What writing the steps of a made schedule comes to.
 use Rattle.std.specs.Prelude.{◌≡◌, ◌≤◌, ℕ, List, Option, Result, IfErr, IsErrOf, OnErr, OnOk}
 use Rattle.line_reader.specs.declared.fault.LineFault.{LineFault}
-use Rattle.line_reader.specs.declared.fault.LineFault.TheVariants as fault
+use Rattle.line_reader.specs.declared.fault.LineFault.TheVariants as line
 use Rattle.outside.specs.Wholes.{Gained, GainedFront}
 use Rattle.schedule_text.specs.Sending.{HasWriteCause}
 
@@ -10,7 +10,7 @@ pub record WritesText {A : Type 0} (text : List ℕ) (out out' : Option (List �
   pub ok : OnOk result (Gained out out' text)
   pub err : OnErr result (GainedFront out out' text)
   pub fault : IfErr result (HasWriteCause faults faults')
-  pub unfailed : IsErrOf result fault.Memory → faults' ≡ faults
-  pub unwanted : IsErrOf result fault.Write → wants' ≡ wants
+  pub unfailed : IsErrOf result line.Memory → faults' ≡ faults
+  pub unwanted : IsErrOf result line.Write → wants' ≡ wants
   pub quiet : OnOk result ((faults' ≡ faults) × (wants' ≡ wants))
   pub counts : faults ≤ faults'

@@ -10,7 +10,7 @@ ghost use Rattle.made_schedules.specs.MadeTexts.{made_counts, made_header, made_
 ghost use Rattle.made_schedules.specs.Making.{WritesText};
 
 use crate::MakeFault;
-use crate::laws::made_schedules_are_replayed;
+use crate::laws::{made_schedules_are_allowed, made_schedules_are_replayed};
 use crate::writing::Steps;
 use outside::Sink;
 use outside_mem::{SteadySink, SteadySource};
@@ -67,14 +67,17 @@ fn write_schedule<K: Sink>(
 {
     let header = made_header(stack);
     let line = header_line(alloc, header)?;
-    print_text(sink, &line)?;
-    on_stack(
-        &header,
-        Steps { alloc, seed, steps },
-        sink,
-        &mut (),
-        &mut (),
-    )
+    made_schedules_are_allowed();
+    match print_text(sink, &line) {
+        Ok(()) => on_stack(
+            &header,
+            Steps { alloc, seed, steps },
+            sink,
+            &mut (),
+            &mut (),
+        ),
+        Err(fault) => Err(fault),
+    }
 }
 
 /// Writes the schedule of a stack that is made from a number and has so many steps, each step as it is made. The stack's network has

@@ -1,8 +1,10 @@
-ghost use Rattle.std.specs.Prelude.{◌≡◌, ◌≤◌, ◌≢◌, ◌+◌, None, [], IfErr, OnOk};
+ghost use Rattle.std.specs.Prelude.{◌≡◌, ◌≤◌, None, [], IfErr, IsErrOf, OnErr, OnOk};
+ghost use Rattle.outside.specs.Wholes.{Gained, GainedFront};
 ghost use Rattle.net_semantics.specs.Runs.{first_refused};
 ghost use Rattle.schedule_make.specs.Made.{generator};
 ghost use Rattle.schedule_make.specs.Making.{HasMade};
 ghost use Rattle.schedule_text.specs.Printing.{steps_text};
+ghost use Rattle.schedule_text.specs.Sending.{HasWriteCause};
 ghost use Rattle.stacks.specs.Stack.{made_of};
 ghost use Rattle.vst_base.specs.declared.node.TheConstants.{MAX_NODES};
 ghost use Rattle.vst_base.specs.declared.step.TheConstants.{MAX_STEPS};
@@ -37,8 +39,15 @@ fn write_steps<
     requires few { steps ≤ MAX_STEPS }
     requires allowed { first_refused (R.system making.old.running).net (R.system making.old.running).meaning (R.system making.old.running).recovery
         (made_of (R.system making.old.running) T.inputs seed steps) ≡ None }
-    ensures { WritesText (steps_text A.input_text (made_of (R.system making.old.running) T.inputs seed steps))
-        (K.written sink.old) (K.written sink.new) (K.faults sink.old) (K.faults sink.new) (K.wants sink.old) (K.wants sink.new) result }
+    ensures ok { OnOk result (Gained (K.written sink.old) (K.written sink.new)
+        (steps_text A.input_text (made_of (R.system making.old.running) T.inputs seed steps))) }
+    ensures err { OnErr result (GainedFront (K.written sink.old) (K.written sink.new)
+        (steps_text A.input_text (made_of (R.system making.old.running) T.inputs seed steps))) }
+    ensures fault { IfErr result (HasWriteCause (K.faults sink.old) (K.faults sink.new)) }
+    ensures unfailed { IsErrOf result LineFault.Memory → K.faults sink.new ≡ K.faults sink.old }
+    ensures unwanted { IsErrOf result LineFault.Write → K.wants sink.new ≡ K.wants sink.old }
+    ensures quiet { OnOk result ((K.faults sink.new ≡ K.faults sink.old) × (K.wants sink.new ≡ K.wants sink.old)) }
+    ensures counts { K.faults sink.old ≤ K.faults sink.new }
 {
     for _ in 0..steps {
         let step = making.step::<T>()?;
@@ -69,6 +78,8 @@ impl<K: Sink> OnStack<K, (), ()> for Steps {
         _: &mut (),
         _: &mut (),
     ) -> Result<(), LineFault> {
+        // What it ensures besides is how the stack's inputs are spelled.
+        let _header = S::below(nodes);
         let running = S::start(self.alloc, nodes)?;
         let mut making = Making::new(self.alloc, running, self.seed);
         write_steps::<S::Running, S::Inputs, S::Text, K>(
