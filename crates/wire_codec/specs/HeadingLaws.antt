@@ -1,15 +1,15 @@
 -- Each heading has one spelling.
-use Rattle.std.proofs.Common.{◌≡◌, ◌<◌, ◌^◌, ℕ, List, [], ◌∷◌, ◌++◌, Option, Some, refl, sym, ap, subst, ◌∙◌, lit<}
+use Rattle.std.proofs.Common.{◌≡◌, ◌<◌, ◌^◌, ℕ, List, [], ◌∷◌, ◌++◌, length, Option, None, Some, refl, sym, ap, subst, ◌∙◌, lit<, arith, length-append}
 use Rattle.vst_base.specs.declared.stack.StackId.{StackId}
 use Rattle.vst_base.specs.declared.stack.StackId.TheVariants as stack
 use Rattle.wire_codec.specs.Headings.{read_mark, mark, HasByte, stack_byte, read_stack, stack_field, kind_byte, read_kind, kind_field, most_from, most_to, parties, heading_of, heading}
-use Rattle.wire_codec.specs.Linked.{linked, linked_is_format}
 use Rattle.wire_codec.specs.declared.kind.Kind.{Kind}
 use Rattle.wire_codec.specs.declared.kind.Kind.TheVariants as kind
 use Rattle.wire_fields.specs.FieldLaws.{by_byte, number_is_format, raw_is_format}
 use Rattle.wire_fields.specs.Fields.{name, number}
-use Rattle.wire_fields.specs.FormatLaws.{mapped_is_format, pair_is_format, same_answer}
-use Rattle.wire_fields.specs.Formats.{Format, IsFormat, IsSpelled, pair}
+use Rattle.wire_fields.specs.ByteLaws.{length-number_bytes}
+use Rattle.wire_fields.specs.FormatLaws.{linked_is_format, mapped_is_format, pair_is_format, same_answer, short_is_none}
+use Rattle.wire_fields.specs.Formats.{Format, IsFormat, IsSpelled, linked, pair}
 
 mark_one : (bs : List ℕ) (v : Unit) (rest : List ℕ) → read_mark bs ≡ Some (v, rest) → IsSpelled mark bs v rest
 mark_one [] v rest e = cc
@@ -95,3 +95,7 @@ heading_is_format =
     (pair mark (pair stack_field (linked kind_field parties))) (λ h. refl) (λ p. refl)
     (pair_is_format mark (pair stack_field (linked kind_field parties)) mark_is_format
     (pair_is_format stack_field (linked kind_field parties) stack_field_is_format (linked_is_format kind_field parties kind_field_is_format parties_is_format)))
+
+pub heading_short : (bs : List ℕ) → length bs < 22 → heading.read bs ≡ None
+heading_short = short_is_none heading 22 heading_is_format
+    (λ h fits. let size : length h.name ≡ 16 = fits.1.1.1.1.1.0 in simp (length-append, length-number_bytes) (omega arith))

@@ -1,14 +1,12 @@
 -- What stands before a datagram's message.
-use Rattle.std.specs.Prelude.{◌==◌, ℕ, List, [], ◌∷◌, ◌++◌, Option, None, Some, if◌then◌else◌}
+use Rattle.std.specs.Prelude.{◌==◌, ℕ, List, [], ◌∷◌, Option, None, Some, if◌then◌else◌}
 use Rattle.vst_base.specs.declared.stack.StackId.{StackId}
 use Rattle.vst_base.specs.declared.stack.StackId.TheVariants as stack
-use Rattle.wire_codec.specs.Linked.{linked}
 use Rattle.wire_codec.specs.declared.heading.Heading.{Heading}
 use Rattle.wire_codec.specs.declared.kind.Kind.{Kind}
 use Rattle.wire_codec.specs.declared.kind.Kind.TheVariants as kind
-use Rattle.wire_fields.specs.Bytes.{number_bytes}
 use Rattle.wire_fields.specs.Fields.{name, number}
-use Rattle.wire_fields.specs.Formats.{Format, mapped, pair}
+use Rattle.wire_fields.specs.Formats.{Format, linked, mapped, pair}
 
 -- the letter V, and the version
 abbrev pub read_mark : List ℕ → Option (Unit × List ℕ)
@@ -88,7 +86,3 @@ heading_of s k from to name = record { stack = s; kind = k; from = from; to = to
 abbrev pub heading : Format Heading
 heading = mapped (λ p. heading_of p.1.0 p.1.1.0 p.1.1.1.0 p.1.1.1.1.0 p.1.1.1.1.1) (λ h. (tt, (h.stack, (h.kind, (h.from, (h.to, h.name))))))
     (pair mark (pair stack_field (linked kind_field parties)))
-
--- what stands before the name
-abbrev pub spell_parties : Heading → List ℕ
-spell_parties h = (86 ∷ 2 ∷ stack_byte h.stack ∷ kind_byte h.kind ∷ []) ++ (number_bytes 1 h.from ++ number_bytes 1 h.to)

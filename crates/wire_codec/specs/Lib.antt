@@ -1,4 +1,3 @@
-pub mod Linked
 pub mod Headings
 pub mod HeadingLaws
 pub mod Bodies

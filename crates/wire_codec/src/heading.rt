@@ -1,11 +1,17 @@
 ghost use Rattle.std.specs.Prelude.{◌≡◌, ◌++◌, OnErr, OnOk};
-ghost use Rattle.wire_codec.specs.Headings.{heading, kind_field, mark, spell_parties, stack_byte, stack_field};
-ghost use Rattle.wire_fields.specs.Fields.{Reads, StandsBefore};
+ghost use Rattle.wire_codec.specs.Headings.{heading, kind_field, mark, stack_byte, stack_field};
+ghost use Rattle.wire_fields.specs.Fields.{Reads};
 
 use crate::Kind;
 use std::alloc::AllocError;
 use vst_base::StackId;
-use wire_fields::{Input, NAME_LEN, put_u8};
+use wire_fields::{Input, NAME_LEN};
+
+// How many bytes stand before the name.
+const PARTIES_LEN: usize = 6;
+
+// How many bytes a heading has.
+const HEADING_LEN: usize = PARTIES_LEN + NAME_LEN;
 
 /// What stands before a datagram's message: its stack and kind, the numbers of the node or client that sends it and
 /// of the one that it is sent to, and the name of the cluster.
@@ -74,6 +80,10 @@ impl Heading {
     pub fn read(input: &mut Input<'_>) -> Option<Heading>
         ensures { Reads heading input.old input.new result }
     {
+        // One test of the length stands for those of the fields.
+        if input.rest().len() < HEADING_LEN {
+            return None;
+        }
         read_mark(input)?;
         let stack = read_stack(input)?;
         let kind = read_kind(input)?;
@@ -89,23 +99,20 @@ impl Heading {
         })
     }
 
-    // Adds what stands before the name at the end, or a part of it.
-    fn put_parties(&self, out: &mut Vec<u8>) -> Result<(), AllocError>
-        ensures ok { OnOk result (out.new.items ≡ out.old.items ++ spell_parties self.now) }
-        ensures err { OnErr result (StandsBefore out.old.items out.new.items) }
-    {
-        out.extend_from_slice(&[b'V', 2, byte_of(self.stack), self.kind.byte()])?;
-        put_u8(out, self.from)?;
-        put_u8(out, self.to)
-    }
-
-    /// Adds the heading at the end, or a part of it.
-    #[tactic(auto, using(wire_fields::specs::Fronts::front_stays))]
+    /// Adds the heading at the end, or nothing.
+    #[tactic(auto, unfolding(wire_fields::specs::Bytes::number_bytes))]
     pub fn put(&self, out: &mut Vec<u8>) -> Result<(), AllocError>
         ensures ok { OnOk result (out.new.items ≡ out.old.items ++ heading.spell self.now) }
-        ensures err { OnErr result (StandsBefore out.old.items out.new.items) }
+        ensures err { OnErr result (out.new.items ≡ out.old.items) }
     {
-        self.put_parties(out)?;
-        out.extend_from_slice(&self.name)
+        let mut bytes = [0; HEADING_LEN];
+        bytes[0] = b'V';
+        bytes[1] = 2;
+        bytes[2] = byte_of(self.stack);
+        bytes[3] = self.kind.byte();
+        bytes[4] = self.from;
+        bytes[5] = self.to;
+        bytes[PARTIES_LEN..].copy_from_slice(&self.name);
+        out.extend_from_slice(&bytes)
     }
 }

@@ -1,8 +1,8 @@
 -- What is made of formats is a format.
-use Rattle.std.proofs.Common.{◌≡◌, ℕ, zero, suc, Bool, true, false, IsTrue, List, [], ◌∷◌, ◌++◌, length, All, Option, Some, None, if◌then◌else◌, refl, sym, ap, subst, ◌∙◌, append_assoc}
+use Rattle.std.proofs.Common.{◌≡◌, ◌≤◌, ◌<◌, ℕ, zero, suc, Bool, true, false, IsTrue, List, [], ◌∷◌, ◌++◌, length, All, Option, Some, None, if◌then◌else◌, refl, sym, ap, subst, ◌∙◌, append_assoc, arith, length-append}
 use Rattle.std.specs.List.{flat_map}
 use Rattle.std.proofs.lemmas.List.Elements.{All-cons, All-head, All-nil, All-tail}
-use Rattle.wire_fields.specs.Formats.{Format, IsSpelled, IsFormat, and_then, pair, mapped, keyed, tested, read_list, listed}
+use Rattle.wire_fields.specs.Formats.{Format, IsSpelled, IsFormat, and_then, pair, linked, mapped, keyed, tested, read_list, listed}
 
 -- both were read
 pub record AreRead {A B : Type 0} (first : Option (A × List ℕ)) (next : A → List ℕ → Option (B × List ℕ)) (b : B) (rest : List ℕ) : Type 0 where
@@ -22,30 +22,42 @@ same_answer {A} a b r s e =
     let is : ◌≡◌ {A = A × List ℕ} (a, r) (b, s) = cc in
     (ap (λ p. p.0) is, ap (λ p. p.1) is)
 
-pub pair_is_format : {A B : Type 0} (f : Format A) (g : Format B) → IsFormat f → IsFormat g → IsFormat (pair f g)
-pair_is_format {A} {B} f g is_f is_g = record { reads_back = back; one_spelling = one }
+-- no value stands in front of fewer bytes than each value takes
+pub short_is_none : {V : Type 0} (f : Format V) (n : ℕ) → IsFormat f → ((v : V) → f.Fits v → n ≤ length (f.spell v)) → (bs : List ℕ) → length bs < n → f.read bs ≡ None
+short_is_none {V} f n is_f takes bs less = by (f.read bs) refl
   where
-    back : (v : A × B) (rest : List ℕ) → f.Fits v.0 × g.Fits v.1
-        → and_then (f.read ((f.spell v.0 ++ g.spell v.1) ++ rest)) (λ a rest. and_then (g.read rest) (λ b end. Some ((a, b), end))) ≡ Some (v, rest)
-    back v rest fits =
-        ap (λ bs. and_then (f.read bs) (λ a rest. and_then (g.read rest) (λ b end. Some ((a, b), end)))) (append_assoc (f.spell v.0) (g.spell v.1) rest)
-        ∙ ap (λ o. and_then o (λ a rest. and_then (g.read rest) (λ b end. Some ((a, b), end)))) (is_f.reads_back v.0 (g.spell v.1 ++ rest) fits.0)
-        ∙ ap (λ o. and_then o (λ b end. Some ((v.0, b), end))) (is_g.reads_back v.1 rest fits.1)
+    by : (o : Option (V × List ℕ)) → f.read bs ≡ o → f.read bs ≡ None
+    by None e = e
+    by (Some p) e =
+        let spelled = is_f.one_spelling bs p.0 p.1 e in
+        let no : ⊥ = omega (arith, takes p.0 spelled.fits, ap length spelled.bytes, length-append (f.spell p.0) p.1) in
+        absurd no
 
-    one : (bs : List ℕ) (v : A × B) (rest : List ℕ) → (pair f g).read bs ≡ Some (v, rest) → IsSpelled (pair f g) bs v rest
+pub linked_is_format : {A B : Type 0} (f : Format A) (g : A → Format B) → IsFormat f → ((a : A) → IsFormat (g a)) → IsFormat (linked f g)
+linked_is_format {A} {B} f g is_f is_g = record { reads_back = back; one_spelling = one }
+  where
+    back : (v : A × B) (rest : List ℕ) → f.Fits v.0 × (g v.0).Fits v.1 → (linked f g).read ((f.spell v.0 ++ (g v.0).spell v.1) ++ rest) ≡ Some (v, rest)
+    back v rest fits =
+        let next : A → List ℕ → Option ((A × B) × List ℕ) = λ a rest. and_then ((g a).read rest) (λ b end. Some ((a, b), end)) in
+        ap (λ bs. and_then (f.read bs) next) (append_assoc (f.spell v.0) ((g v.0).spell v.1) rest)
+        ∙ ap (λ o. and_then o next) (is_f.reads_back v.0 ((g v.0).spell v.1 ++ rest) fits.0)
+        ∙ ap (λ o. and_then o (λ b end. Some ((v.0, b), end))) ((is_g v.0).reads_back v.1 rest fits.1)
+
+    one : (bs : List ℕ) (v : A × B) (rest : List ℕ) → (linked f g).read bs ≡ Some (v, rest) → IsSpelled (linked f g) bs v rest
     one bs v rest e =
-        let first = both_read (f.read bs) (λ a rest. and_then (g.read rest) (λ b end. Some ((a, b), end))) v rest e in
-        let second = both_read (g.read first.between) (λ b end. Some ((first.value, b), end)) v rest first.next_is in
+        let first = both_read (f.read bs) (λ a rest. and_then ((g a).read rest) (λ b end. Some ((a, b), end))) v rest e in
+        let second = both_read ((g first.value).read first.between) (λ b end. Some ((first.value, b), end)) v rest first.next_is in
         let is_first = is_f.one_spelling bs first.value first.between first.first_is in
-        let is_second = is_g.one_spelling first.between second.value second.between second.first_is in
+        let is_second = (is_g first.value).one_spelling first.between second.value second.between second.first_is in
         let same = same_answer (first.value, second.value) v second.between rest second.next_is in
-        let is : ◌≡◌ {A = A × B} (first.value, second.value) v = same.0 in
-        let end = same.1 in
-        let spelled : IsSpelled (pair f g) bs (first.value, second.value) second.between = record {
+        let spelled : IsSpelled (linked f g) bs (first.value, second.value) second.between = record {
           fits = (is_first.fits, is_second.fits);
-          bytes = is_first.bytes ∙ ap (λ more. f.spell first.value ++ more) is_second.bytes ∙ sym (append_assoc (f.spell first.value) (g.spell second.value) second.between);
+          bytes = is_first.bytes ∙ ap (λ more. f.spell first.value ++ more) is_second.bytes ∙ sym (append_assoc (f.spell first.value) ((g first.value).spell second.value) second.between);
         } in
-        subst (λ r. IsSpelled (pair f g) bs v r) end (subst (λ u. IsSpelled (pair f g) bs u second.between) is spelled)
+        subst (λ r. IsSpelled (linked f g) bs v r) same.1 (subst (λ u. IsSpelled (linked f g) bs u second.between) same.0 spelled)
+
+pub pair_is_format : {A B : Type 0} (f : Format A) (g : Format B) → IsFormat f → IsFormat g → IsFormat (pair f g)
+pair_is_format f g is_f is_g = linked_is_format f (λ _. g) is_f (λ _. is_g)
 
 pub mapped_is_format : {A V : Type 0} (to : A → V) (from : V → A) (f : Format A) → ((v : V) → to (from v) ≡ v) → ((a : A) → from (to a) ≡ a) → IsFormat f → IsFormat (mapped to from f)
 mapped_is_format {A} {V} to from f to-from from-to is_f = record { reads_back = back; one_spelling = one }

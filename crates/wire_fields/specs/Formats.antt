@@ -32,6 +32,14 @@ pair f g = record {
   read = λ bs. and_then (f.read bs) (λ a rest. and_then (g.read rest) (λ b end. Some ((a, b), end)));
 }
 
+-- one value, and then another whose format the first decides
+abbrev pub linked : {A B : Type 0} → Format A → (A → Format B) → Format (A × B)
+linked f g = record {
+  Fits = λ v. f.Fits v.0 × (g v.0).Fits v.1;
+  spell = λ v. f.spell v.0 ++ (g v.0).spell v.1;
+  read = λ bs. and_then (f.read bs) (λ a rest. and_then ((g a).read rest) (λ b end. Some ((a, b), end)));
+}
+
 -- a value that stands for another
 abbrev pub mapped : {A V : Type 0} → (A → V) → (V → A) → Format A → Format V
 mapped to from f = record {

@@ -9,7 +9,7 @@ use std::marker::Model;
 use vst_base::{MAX_KEY, MAX_VALUE, Token};
 
 /// Bytes that are read from their front. Contracts see those that are left. After a `None` what is left is not
-/// said.
+/// said. Its methods are inlined always, so what is left stands in registers all through a message.
 #[derive(Debug, Drop)]
 pub struct Input<'a> {
     rest: &'a [u8],
@@ -25,6 +25,7 @@ impl<'a> Model for Input<'a> {
 
 impl<'a> Input<'a> {
     /// All of these bytes.
+    #[inline(always)]
     pub fn new(bytes: &'a [u8]) -> Self
         ensures { result ≡ bytes.now }
     {
@@ -32,6 +33,7 @@ impl<'a> Input<'a> {
     }
 
     /// The bytes that are left.
+    #[inline(always)]
     pub fn rest(&self) -> &'a [u8]
         ensures { result.now ≡ self.now }
     {
@@ -39,6 +41,7 @@ impl<'a> Input<'a> {
     }
 
     /// The next byte. `None` comes exactly where none is left.
+    #[inline(always)]
     pub fn byte(&mut self) -> Option<u8>
         ensures { MatchOption result (self.old ≡ []) (λ b. self.old ≡ b ∷ self.new) }
     {
@@ -53,6 +56,7 @@ impl<'a> Input<'a> {
 
     /// A number of one byte, from `low` to `high`. `None` comes exactly where no byte is left or the number is out
     /// of range.
+    #[inline(always)]
     pub fn u8(&mut self, low: u8, high: u8) -> Option<u8>
         ensures value { Reads (number 1 low high) self.old self.new result }
         ensures in_range { IfSome result (λ x. (low ≤ x) × (x ≤ high)) }
@@ -64,6 +68,7 @@ impl<'a> Input<'a> {
 
     /// A number of two bytes, from `low` to `high`. `None` comes exactly where fewer bytes are left or the number is out
     /// of range.
+    #[inline(always)]
     pub fn u16(&mut self, low: u16, high: u16) -> Option<u16>
         ensures value { Reads (number 2 low high) self.old self.new result }
         ensures in_range { IfSome result (λ x. (low ≤ x) × (x ≤ high)) }
@@ -75,6 +80,7 @@ impl<'a> Input<'a> {
 
     /// A number of four bytes, from `low` to `high`. `None` comes exactly where fewer bytes are left or the number is out
     /// of range.
+    #[inline(always)]
     pub fn u32(&mut self, low: u32, high: u32) -> Option<u32>
         ensures value { Reads (number 4 low high) self.old self.new result }
         ensures in_range { IfSome result (λ x. (low ≤ x) × (x ≤ high)) }
@@ -86,6 +92,7 @@ impl<'a> Input<'a> {
 
     /// A number of eight bytes, from `low` to `high`. `None` comes exactly where fewer bytes are left or the number is out
     /// of range.
+    #[inline(always)]
     pub fn u64(&mut self, low: u64, high: u64) -> Option<u64>
         ensures value { Reads (number 8 low high) self.old self.new result }
         ensures in_range { IfSome result (λ x. (low ≤ x) × (x ≤ high)) }
@@ -96,6 +103,7 @@ impl<'a> Input<'a> {
     }
 
     /// The name of a cluster. `None` comes exactly where fewer bytes are left.
+    #[inline(always)]
     pub fn name(&mut self) -> Option<[u8; NAME_LEN]>
         ensures { Reads name self.old self.new result }
     {
@@ -105,6 +113,7 @@ impl<'a> Input<'a> {
     }
 
     /// No or yes, in one byte. `None` comes exactly where the next byte is neither 0 nor 1.
+    #[inline(always)]
     pub fn flag(&mut self) -> Option<bool>
         ensures { Reads flag self.old self.new result }
     {
@@ -122,6 +131,7 @@ impl<'a> Input<'a> {
     }
 
     // The next bytes, so many, where they are a token.
+    #[inline(always)]
     fn token<const MOST: usize>(&mut self, len: usize) -> Option<&'a [u8]>
         ensures token { Reads (token_of_length MOST len) self.old self.new (option_copied result) }
         ensures is_token { IfSome result (λ token. IsTrue (is_token MOST token.now)) }
@@ -135,6 +145,7 @@ impl<'a> Input<'a> {
     }
 
     /// A key after its length in one byte. `None` comes exactly where they are not whole or not a key.
+    #[inline(always)]
     pub fn key(&mut self) -> Option<&'a [u8]>
         ensures token { Reads key self.old self.new (option_copied result) }
         ensures is_key { IfSome result (λ token. IsTrue (is_key token.now)) }
@@ -144,6 +155,7 @@ impl<'a> Input<'a> {
     }
 
     /// A value after its length in two bytes. `None` comes exactly where they are not whole or not a value.
+    #[inline(always)]
     pub fn value(&mut self) -> Option<&'a [u8]>
         ensures token { Reads value self.old self.new (option_copied result) }
         ensures is_value { IfSome result (λ token. IsTrue (is_value token.now)) }
@@ -154,6 +166,7 @@ impl<'a> Input<'a> {
 
     /// A key that may be left out, after a flag that says whether it is there. `None` comes exactly where they are
     /// not whole, or the flag or the key is none.
+    #[inline(always)]
     pub fn optional_key(&mut self) -> Option<Option<&'a [u8]>>
         ensures token { Reads (optional key) self.old self.new (option_map (λ token. option_copied token) result) }
         ensures is_key { IfSome result (λ token. IfSome token (λ token. IsTrue (is_key token.now))) }
@@ -167,6 +180,7 @@ impl<'a> Input<'a> {
 
     /// A value that may be left out, after a flag that says whether it is there. `None` comes exactly where they are
     /// not whole, or the flag or the value is none.
+    #[inline(always)]
     pub fn optional_value(&mut self) -> Option<Option<&'a [u8]>>
         ensures token { Reads (optional value) self.old self.new (option_map (λ token. option_copied token) result) }
         ensures is_value { IfSome result (λ token. IfSome token (λ token. IsTrue (is_value token.now))) }

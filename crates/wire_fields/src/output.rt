@@ -67,6 +67,18 @@ pub fn put_key(out: &mut Vec<u8>, token: &Key) -> Result<(), AllocError>
     out.extend_from_slice(bytes)
 }
 
+/// Adds a byte that says what follows, and a key after its length, at the end, or a part of them.
+#[tactic(auto, unfolding(crate::specs::Bytes::number_bytes))]
+pub fn put_kind_and_key(out: &mut Vec<u8>, kind: u8, token: &Key) -> Result<(), AllocError>
+    ensures ok { OnOk result (out.new.items ≡ out.old.items ++ kind ∷ key.spell token.now) }
+    ensures err { OnErr result (StandsBefore out.old.items out.new.items) }
+    ensures fits { OnOk result (key.Fits token.now) }
+{
+    let bytes = token.as_bytes();
+    out.extend_from_slice(&[kind, bytes.len() as u8])?;
+    out.extend_from_slice(bytes)
+}
+
 /// Adds a value after its length at the end, or a part of them.
 pub fn put_value(out: &mut Vec<u8>, token: &Value) -> Result<(), AllocError>
     ensures ok { OnOk result (out.new.items ≡ out.old.items ++ value.spell token.now) }

@@ -1,10 +1,11 @@
 -- Each entry of a log has one spelling, now and as version 1 wrote it.
-use Rattle.std.proofs.Common.{◌≡◌, ℕ, List, [], ◌∷◌, ◌++◌, Some, refl, lit<, subst}
+use Rattle.std.proofs.Common.{◌≡◌, ◌≤◌, ◌<◌, ℕ, List, [], ◌∷◌, ◌++◌, length, None, Some, refl, lit<, subst, arith, length-append}
 use Rattle.vst_base.specs.declared.entry.TheConstants.{MAX_TERM}
 use Rattle.vst_base.specs.declared.what.What.{What}
 use Rattle.vst_base.specs.declared.what.What.TheVariants.{Noop, Request}
 use Rattle.wire_fields.specs.FieldLaws.{by_byte, number_is_format}
-use Rattle.wire_fields.specs.FormatLaws.{both_read, mapped_is_format, pair_is_format, same_answer}
+use Rattle.wire_fields.specs.ByteLaws.{length-number_bytes}
+use Rattle.wire_fields.specs.FormatLaws.{both_read, mapped_is_format, pair_is_format, same_answer, short_is_none}
 use Rattle.wire_fields.specs.Formats.{Format, IsFormat, IsSpelled, pair}
 use Rattle.wire_messages.specs.EntryBytes.{election_term, origin, asked, request_of, asked_of, WhatFits, spell_what, read_what, held, entry_of, entry, OldWhatFits, spell_old_what, old_held, old_entry}
 use Rattle.wire_messages.specs.PeerByteLaws.{any_number_is_format}
@@ -42,6 +43,13 @@ module _ {C : Type 0} (f : Format C) (is_f : IsFormat f) where
 
   pub entry_is_format : IsFormat (entry f)
   entry_is_format = mapped_is_format (λ p. entry_of p.0 p.1) (λ e. (e.term, e.what)) (pair election_term (held f)) (λ e. refl) (λ p. refl) (pair_is_format election_term (held f) election_term_is_format held_is_format)
+
+  what_takes_a_byte : (w : What C) → 1 ≤ length (spell_what f w)
+  what_takes_a_byte Noop = omega arith
+  what_takes_a_byte (Request client request origin cmd) = omega arith
+
+  pub entry_short : (bs : List ℕ) → length bs < 9 → (entry f).read bs ≡ None
+  entry_short = short_is_none (entry f) 9 entry_is_format (λ e fits. simp (length-append, length-number_bytes) (omega (arith, what_takes_a_byte e.what)))
 
   old_back : (w : What C) (rest : List ℕ) → OldWhatFits f w → read_as request_of (asked f) (spell_old_what f w ++ rest) ≡ Some (w, rest)
   old_back Noop rest fits = absurd fits

@@ -1,9 +1,10 @@
 -- The bytes of the entries of logs, as they are now and as nodes of version 1 wrote them.
-use Rattle.std.specs.Prelude.{◌==◌, ℕ, List, [], ◌∷◌, Option, None, if◌then◌else◌}
+use Rattle.std.specs.Prelude.{◌==◌, ℕ, List, [], ◌∷◌, ◌++◌, Option, None, if◌then◌else◌}
 use Rattle.vst_base.specs.Entries.{EntryView}
 use Rattle.vst_base.specs.declared.entry.TheConstants.{MAX_TERM}
 use Rattle.vst_base.specs.declared.what.What.{What}
 use Rattle.vst_base.specs.declared.what.What.TheVariants.{Noop, Request}
+use Rattle.wire_fields.specs.Bytes.{number_bytes}
 use Rattle.wire_fields.specs.Fields.{number}
 use Rattle.wire_fields.specs.Formats.{Format, mapped, pair}
 use Rattle.wire_messages.specs.PeerBytes.{any_number}
@@ -52,6 +53,11 @@ entry_of term what = record { term = term; what = what }
 
 abbrev pub entry : {C : Type 0} → Format C → Format (EntryView C)
 entry f = mapped (λ p. entry_of p.0 p.1) (λ e. (e.term, e.what)) (pair election_term (held f))
+
+-- what stands before the command of an entry with a request: the term, the byte that says that it holds one, the client, its
+-- number of the request, and the node that took it
+abbrev pub request_front : ℕ → ℕ → ℕ → ℕ → List ℕ
+request_front term client request origin = number_bytes 8 term ++ (1 ∷ (number_bytes 8 client ++ (number_bytes 8 request ++ number_bytes 1 origin)))
 
 -- version 1 had requests alone, and no byte that says so
 abbrev pub OldWhatFits : {C : Type 0} → Format C → What C → Type 0

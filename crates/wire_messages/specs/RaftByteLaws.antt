@@ -1,22 +1,23 @@
 -- Each message between the nodes of a Raft cluster has one spelling.
-use Rattle.std.proofs.Common.{◌≡◌, ℕ, ◌+◌, nat_le, List, [], ◌∷◌, ◌++◌, length, Some, refl, lit<}
+use Rattle.std.proofs.Common.{◌≡◌, ◌<◌, ℕ, ◌+◌, nat_le, List, [], ◌∷◌, ◌++◌, length, None, Some, refl, lit<, arith, length-append}
 use Rattle.raft_types.specs.declared.limits.TheConstants.{MAX_INDEX}
 use Rattle.raft_types.specs.declared.msg.RaftMsg.{RaftMsg}
 use Rattle.raft_types.specs.declared.msg.RaftMsg.TheVariants.{RequestVote, Vote, Append, Appended}
 use Rattle.vst_base.specs.declared.entry.TheConstants.{MAX_TERM}
 use Rattle.wire_fields.specs.FieldLaws.{by_byte, flag_is_format, number_is_format}
 use Rattle.wire_fields.specs.Fields.{flag, number}
-use Rattle.wire_fields.specs.FormatLaws.{keyed_is_format, listed_is_format, mapped_is_format, pair_is_format, tested_is_format}
+use Rattle.wire_fields.specs.ByteLaws.{length-number_bytes}
+use Rattle.wire_fields.specs.FormatLaws.{keyed_is_format, listed_is_format, mapped_is_format, pair_is_format, short_is_none, tested_is_format}
 use Rattle.wire_fields.specs.Formats.{Format, IsFormat, IsSpelled, listed, mapped, pair}
 use Rattle.wire_messages.specs.EntryByteLaws.{election_term_is_format, entry_is_format}
 use Rattle.wire_messages.specs.EntryBytes.{election_term, entry}
 use Rattle.wire_messages.specs.RaftBytes.{any_term, log_index, request_vote, vote, appended, entries, append_of, append, RaftFits, spell_raft, read_raft, raft_message}
 use Rattle.wire_messages.specs.TaggedLaws.{read_back, read_one}
 
-any_term_is_format : IsFormat any_term
+pub any_term_is_format : IsFormat any_term
 any_term_is_format = number_is_format 8 0 MAX_TERM (lit< tt)
 
-log_index_is_format : IsFormat log_index
+pub log_index_is_format : IsFormat log_index
 log_index_is_format = number_is_format 4 0 MAX_INDEX (lit< tt)
 
 pub request_vote_is_format : IsFormat request_vote
@@ -49,6 +50,9 @@ module _ {C : Type 0} (f : Format C) (is_f : IsFormat f) where
       tested_is_format (λ a. nat_le (a.prev_index + length a.entries) MAX_INDEX)
       (mapped (λ p. append_of p.0 p.1.0 p.1.1.0 p.1.1.1.0 p.1.1.1.1) (λ a. (a.term, (a.prev_index, (a.prev_term, (a.commit, a.entries))))) parts)
       (mapped_is_format (λ p. append_of p.0 p.1.0 p.1.1.0 p.1.1.1.0 p.1.1.1.1) (λ a. (a.term, (a.prev_index, (a.prev_term, (a.commit, a.entries))))) parts (λ a. refl) (λ p. refl) are_parts)
+
+  pub append_short : (bs : List ℕ) → length bs < 25 → (append f).read bs ≡ None
+  append_short = short_is_none (append f) 25 append_is_format (λ a fits. simp (length-append, length-number_bytes) (omega arith))
 
   raft_back : (m : RaftMsg C) (rest : List ℕ) → RaftFits f m → read_raft f (spell_raft f m ++ rest) ≡ Some (m, rest)
   raft_back (RequestVote m) rest fits = read_back request_vote request_vote_is_format (λ m. RequestVote m) m rest fits

@@ -1,11 +1,12 @@
 -- The bytes of the messages between the nodes of a Raft cluster.
-use Rattle.std.specs.Prelude.{◌==◌, ℕ, ◌+◌, nat_le, ◌≡◌, List, [], ◌∷◌, length, Option, None, Some, if◌then◌else◌}
+use Rattle.std.specs.Prelude.{◌==◌, ℕ, ◌+◌, nat_le, ◌≡◌, List, [], ◌∷◌, ◌++◌, length, Option, None, Some, if◌then◌else◌}
 use Rattle.raft_types.specs.Messages.{AppendView, AppendedView, RequestVoteView, VoteView}
 use Rattle.raft_types.specs.declared.limits.TheConstants.{MAX_INDEX}
 use Rattle.raft_types.specs.declared.msg.RaftMsg.{RaftMsg}
 use Rattle.raft_types.specs.declared.msg.RaftMsg.TheVariants.{RequestVote, Vote, Append, Appended}
 use Rattle.vst_base.specs.Entries.{EntryView}
 use Rattle.vst_base.specs.declared.entry.TheConstants.{MAX_TERM}
+use Rattle.wire_fields.specs.Bytes.{number_bytes}
 use Rattle.wire_fields.specs.Fields.{flag, number}
 use Rattle.wire_fields.specs.Formats.{Format, keyed, listed, mapped, pair, tested}
 use Rattle.wire_messages.specs.EntryBytes.{election_term, entry}
@@ -41,6 +42,11 @@ abbrev pub append : {C : Type 0} → Format C → Format (AppendView C)
 append f = tested (λ a. nat_le (a.prev_index + length a.entries) MAX_INDEX)
     (mapped (λ p. append_of p.0 p.1.0 p.1.1.0 p.1.1.1.0 p.1.1.1.1) (λ a. (a.term, (a.prev_index, (a.prev_term, (a.commit, a.entries)))))
     (pair election_term (pair log_index (pair any_term (pair log_index (entries f))))))
+
+-- what stands before the entries, the last of it their number
+abbrev pub append_front : ℕ → ℕ → ℕ → ℕ → ℕ → List ℕ
+append_front term prev_index prev_term commit count =
+    number_bytes 8 term ++ (number_bytes 4 prev_index ++ (number_bytes 8 prev_term ++ (number_bytes 4 commit ++ number_bytes 1 count)))
 
 abbrev pub RaftFits : {C : Type 0} → Format C → RaftMsg C → Type 0
 RaftFits f (RequestVote m) = request_vote.Fits m

@@ -1,23 +1,54 @@
-ghost use Rattle.wire_messages.specs.RaftBytes.{append};
+ghost use Rattle.std.specs.Prelude.{◌≡◌, ◌++◌, OnErr, OnOk};
+ghost use Rattle.wire_messages.specs.RaftBytes.{append, append_front};
 ghost use Rattle.wire_messages.specs.RaftByteLaws.{append_is_format};
 
 use crate::Wire;
-use crate::entries::{put_entries, skip_entries, take_entries};
+use crate::entries::{put_each, skip_entries, take_entries};
+use byteorder::{ByteOrder, NetworkEndian};
 use raft_types::{Append, MAX_INDEX};
 use std::alloc::{AllocError, Global};
 use vst_base::MAX_TERM;
-use wire_fields::{Input, put_u32, put_u64};
+use wire_fields::Input;
+
+// How many bytes stand before the entries.
+const FRONT_LEN: usize = 25;
+
+// Adds what stands before the entries at the end, or nothing.
+#[tactic(auto, unfolding(wire_fields::specs::Bytes::number_bytes))]
+fn put_append_front(
+    out: &mut Vec<u8>,
+    term: u64,
+    prev_index: u32,
+    prev_term: u64,
+    commit: u32,
+    count: u8,
+) -> Result<(), AllocError>
+    ensures ok { OnOk result (out.new.items ≡ out.old.items ++ append_front term prev_index prev_term commit count) }
+    ensures err { OnErr result (out.new.items ≡ out.old.items) }
+{
+    let mut front = [0; FRONT_LEN];
+    NetworkEndian::write_u64(&mut front, term);
+    NetworkEndian::write_u32(&mut front[8..], prev_index);
+    NetworkEndian::write_u64(&mut front[12..], prev_term);
+    NetworkEndian::write_u32(&mut front[20..], commit);
+    front[24] = count;
+    out.extend_from_slice(&front)
+}
 
 impl<C: Wire> Wire for Append<C> {
     ghost format = { append C.format };
 
     #[tactic(auto, using(wire_fields::specs::Fronts::front_stays))]
     fn put(&self, out: &mut Vec<u8>) -> Result<(), AllocError> {
-        put_u64(out, self.term())?;
-        put_u32(out, self.prev_index())?;
-        put_u64(out, self.prev_term())?;
-        put_u32(out, self.commit())?;
-        put_entries(out, self.entries())
+        put_append_front(
+            out,
+            self.term(),
+            self.prev_index(),
+            self.prev_term(),
+            self.commit(),
+            self.entries().len() as u8,
+        )?;
+        put_each(out, self.entries())
     }
 
     fn take(alloc: Global, input: &mut Input<'_>) -> Result<Option<Append<C>>, AllocError> {
@@ -43,7 +74,12 @@ impl<C: Wire> Wire for Append<C> {
         Ok(Some(Append::new(term, prev_index, prev_term, commit, entries)))
     }
 
+    #[inline(always)]
     fn skip(input: &mut Input<'_>) -> Option<()> {
+        // One test of the length stands for those of the five numbers.
+        if input.rest().len() < FRONT_LEN {
+            return None;
+        }
         input.u64(1, MAX_TERM)?;
         let prev_index = input.u32(0, MAX_INDEX)?;
         input.u64(0, MAX_TERM)?;

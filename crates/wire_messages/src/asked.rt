@@ -1,13 +1,12 @@
-ghost use Rattle.std.specs.Prelude.{◌≡◌, ◌++◌, IfOk, IfSome, OnErr, OnOk};
+ghost use Rattle.std.specs.Prelude.{IfOk, IfSome};
 ghost use Rattle.vst_base.specs.Entries.{IsOrigin};
-ghost use Rattle.wire_fields.specs.Fields.{StandsBefore};
-ghost use Rattle.wire_messages.specs.EntryBytes.{asked, asked_of};
+ghost use Rattle.wire_messages.specs.EntryBytes.{asked};
 ghost use Rattle.wire_messages.specs.Wires.{Skips, Takes};
 
 use crate::Wire;
 use std::alloc::{AllocError, Global};
 use vst_base::{ClientId, MAX_NODES, Node, ReqId};
-use wire_fields::{Input, put_u8, put_u64};
+use wire_fields::Input;
 
 /// What an entry says of a request: the client, its number of the request, the node that took it from the client,
 /// and the command.
@@ -17,26 +16,6 @@ pub struct Asked<C> {
     pub request: ReqId,
     pub origin: Node,
     pub cmd: C,
-}
-
-/// Adds a request at the end, or a part of its bytes.
-#[tactic(auto, using(wire_fields::specs::Fronts::front_stays))]
-pub fn put_asked<C: Wire>(
-    out: &mut Vec<u8>,
-    client: ClientId,
-    request: ReqId,
-    origin: Node,
-    cmd: &C,
-) -> Result<(), AllocError>
-    requires { IsOrigin origin }
-    ensures ok { OnOk result (out.new.items ≡ out.old.items ++ (asked C.format).spell (asked_of client request origin cmd.now)) }
-    ensures fits { OnOk result ((asked C.format).Fits (asked_of client request origin cmd.now)) }
-    ensures err { OnErr result (StandsBefore out.old.items out.new.items) }
-{
-    put_u64(out, client.number())?;
-    put_u64(out, request.number())?;
-    put_u8(out, origin.index())?;
-    cmd.put(out)
 }
 
 /// The request that stands in front.
@@ -71,6 +50,7 @@ pub fn take_asked<C: Wire>(
 }
 
 /// Passes over the request that stands in front.
+#[inline(always)]
 pub fn skip_asked<C: Wire>(input: &mut Input<'_>) -> Option<()>
     ensures { Skips (asked C.format) input.old input.new result }
 {

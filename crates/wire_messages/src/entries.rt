@@ -10,11 +10,11 @@ use crate::Wire;
 use raft_types::Entries;
 use std::alloc::{AllocError, Global};
 use vst_base::Entry;
-use wire_fields::{Input, put_u8};
+use wire_fields::Input;
 
-// Adds each entry at the end, or a part of their bytes.
+/// Adds each entry at the end, or a part of their bytes.
 #[tactic(auto, using(wire_fields::specs::Fronts::front_stays))]
-fn put_each<C: Wire>(out: &mut Vec<u8>, items: &[Entry<C>]) -> Result<(), AllocError>
+pub fn put_each<C: Wire>(out: &mut Vec<u8>, items: &[Entry<C>]) -> Result<(), AllocError>
     ensures ok { OnOk result (out.new.items ≡ out.old.items ++ flat_map (entry C.format).spell items.now) }
     ensures fits { OnOk result (All (entry C.format).Fits items.now) }
     ensures err { OnErr result (StandsBefore out.old.items out.new.items) }
@@ -23,18 +23,6 @@ fn put_each<C: Wire>(out: &mut Vec<u8>, items: &[Entry<C>]) -> Result<(), AllocE
         item.put(out)?;
     }
     Ok(())
-}
-
-/// Adds at most eight entries after their number at the end, or a part of their bytes.
-#[tactic(auto, using(wire_fields::specs::Fronts::front_stays))]
-pub fn put_entries<C: Wire>(out: &mut Vec<u8>, items: &[Entry<C>]) -> Result<(), AllocError>
-    requires { length items.now ≤ 8 }
-    ensures ok { OnOk result (out.new.items ≡ out.old.items ++ (entries C.format).spell items.now) }
-    ensures fits { OnOk result ((entries C.format).Fits items.now) }
-    ensures err { OnErr result (StandsBefore out.old.items out.new.items) }
-{
-    put_u8(out, items.len() as u8)?;
-    put_each(out, items)
 }
 
 // So many entries.
@@ -75,6 +63,7 @@ pub fn take_entries<C: Wire>(
 }
 
 // Passes over so many entries.
+#[inline(always)]
 #[tactic(auto, using(crate::specs::Lists::rest_next, crate::specs::Lists::rest_stops))]
 fn skip_each<C: Wire>(input: &mut Input<'_>, count: u8) -> Option<()>
     ensures { Skips (listed (entry C.format) count) input.old input.new result }
@@ -86,6 +75,7 @@ fn skip_each<C: Wire>(input: &mut Input<'_>, count: u8) -> Option<()>
 }
 
 /// Passes over the entries that stand in front after their number, and says how many they are.
+#[inline(always)]
 pub fn skip_entries<C: Wire>(input: &mut Input<'_>) -> Option<u8>
     ensures { SkipsEntries C.format input.old input.new result }
 {

@@ -1,36 +1,41 @@
 ghost use Rattle.std.specs.Prelude.{◌≡◌, ◌++◌, IfOk, IfSome, OnErr, OnOk};
 ghost use Rattle.vst_base.specs.Entries.{HasOrigin};
-ghost use Rattle.wire_fields.specs.Fields.{StandsBefore};
-ghost use Rattle.wire_messages.specs.EntryBytes.{entry, held, old_entry};
+ghost use Rattle.wire_messages.specs.EntryBytes.{entry, held, old_entry, request_front};
 ghost use Rattle.wire_messages.specs.EntryByteLaws.{entry_is_format};
 ghost use Rattle.wire_messages.specs.Wires.{Skips, Takes};
 
 use crate::Wire;
-use crate::asked::{put_asked, skip_asked, take_asked};
+use crate::asked::{skip_asked, take_asked};
+use byteorder::{ByteOrder, NetworkEndian};
 use std::alloc::{AllocError, Global};
 use vst_base::{Entry, MAX_TERM, What};
 use wire_fields::{Input, put_u64};
 
-// Adds what an entry holds at the end, or a part of its bytes.
-#[tactic(auto, using(wire_fields::specs::Fronts::front_stays))]
-fn put_what<C: Wire>(out: &mut Vec<u8>, what: &What<C>) -> Result<(), AllocError>
-    requires { HasOrigin what.now }
-    ensures ok { OnOk result (out.new.items ≡ out.old.items ++ (held C.format).spell what.now) }
-    ensures fits { OnOk result ((held C.format).Fits what.now) }
-    ensures err { OnErr result (StandsBefore out.old.items out.new.items) }
+// How many bytes the term and the byte after it take, which says what the entry holds.
+const FRONT_LEN: usize = 9;
+
+// How many bytes stand before the command of an entry with a request.
+const REQUEST_FRONT_LEN: usize = 26;
+
+// Adds what stands before the command of an entry with a request at the end, or nothing.
+#[tactic(auto, unfolding(wire_fields::specs::Bytes::number_bytes))]
+fn put_request_front(
+    out: &mut Vec<u8>,
+    term: u64,
+    client: u64,
+    request: u64,
+    origin: u8,
+) -> Result<(), AllocError>
+    ensures ok { OnOk result (out.new.items ≡ out.old.items ++ request_front term client request origin) }
+    ensures err { OnErr result (out.new.items ≡ out.old.items) }
 {
-    match what {
-        What::Noop => Ok(out.push(0)?),
-        What::Request {
-            client,
-            request,
-            origin,
-            cmd,
-        } => {
-            out.push(1)?;
-            put_asked(out, *client, *request, *origin, cmd)
-        }
-    }
+    let mut front = [0; REQUEST_FRONT_LEN];
+    NetworkEndian::write_u64(&mut front, term);
+    front[8] = 1;
+    NetworkEndian::write_u64(&mut front[9..], client);
+    NetworkEndian::write_u64(&mut front[17..], request);
+    front[25] = origin;
+    out.extend_from_slice(&front)
 }
 
 // What the entry that stands in front holds.
@@ -56,6 +61,7 @@ fn take_what<C: Wire>(alloc: Global, input: &mut Input<'_>) -> Result<Option<Wha
 }
 
 // Passes over what an entry holds.
+#[inline(always)]
 fn skip_what<C: Wire>(input: &mut Input<'_>) -> Option<()>
     ensures { Skips (held C.format) input.old input.new result }
 {
@@ -71,8 +77,22 @@ impl<C: Wire> Wire for Entry<C> {
 
     #[tactic(auto, using(wire_fields::specs::Fronts::front_stays))]
     fn put(&self, out: &mut Vec<u8>) -> Result<(), AllocError> {
-        put_u64(out, self.term())?;
-        put_what(out, self.what())
+        let term = self.term();
+        match self.what() {
+            What::Noop => {
+                put_u64(out, term)?;
+                Ok(out.push(0)?)
+            }
+            What::Request {
+                client,
+                request,
+                origin,
+                cmd,
+            } => {
+                put_request_front(out, term, client.number(), request.number(), origin.index())?;
+                cmd.put(out)
+            }
+        }
     }
 
     fn take(alloc: Global, input: &mut Input<'_>) -> Result<Option<Entry<C>>, AllocError> {
@@ -85,7 +105,12 @@ impl<C: Wire> Wire for Entry<C> {
         Ok(Some(Entry::new(term, what)))
     }
 
+    #[inline(always)]
     fn skip(input: &mut Input<'_>) -> Option<()> {
+        // One test of the length stands for those of the term and of the byte after it.
+        if input.rest().len() < FRONT_LEN {
+            return None;
+        }
         input.u64(1, MAX_TERM)?;
         skip_what::<C>(input)
     }

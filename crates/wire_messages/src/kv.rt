@@ -6,7 +6,7 @@ use crate::kv_borrowed::{command, own_value};
 use kv_machine::{KvCmd, KvOut};
 use std::alloc::{AllocError, Global};
 use vst_base::Key;
-use wire_fields::{Input, put_key, put_optional_value, put_value};
+use wire_fields::{Input, put_key, put_kind_and_key, put_optional_value, put_value};
 
 impl Wire for KvCmd {
     ghost format = { kv_command };
@@ -14,28 +14,19 @@ impl Wire for KvCmd {
     #[tactic(auto, using(wire_fields::specs::Fronts::front_stays))]
     fn put(&self, out: &mut Vec<u8>) -> Result<(), AllocError> {
         match self {
-            KvCmd::Get(key) => {
-                out.push(1)?;
-                put_key(out, key)
-            }
+            KvCmd::Get(key) => put_kind_and_key(out, 1, key),
             KvCmd::Put(key, value) => {
-                out.push(2)?;
-                put_key(out, key)?;
+                put_kind_and_key(out, 2, key)?;
                 put_value(out, value)
             }
-            KvCmd::Del(key) => {
-                out.push(3)?;
-                put_key(out, key)
-            }
+            KvCmd::Del(key) => put_kind_and_key(out, 3, key),
             KvCmd::Cas(key, expected, value) => {
-                out.push(4)?;
-                put_key(out, key)?;
+                put_kind_and_key(out, 4, key)?;
                 put_optional_value(out, expected)?;
                 put_value(out, value)
             }
             KvCmd::Cad(key, value) => {
-                out.push(5)?;
-                put_key(out, key)?;
+                put_kind_and_key(out, 5, key)?;
                 put_value(out, value)
             }
         }
@@ -48,6 +39,7 @@ impl Wire for KvCmd {
         Ok(Some(command.own(alloc)?))
     }
 
+    #[inline(always)]
     fn skip(input: &mut Input<'_>) -> Option<()> {
         command(input)?;
         Some(())

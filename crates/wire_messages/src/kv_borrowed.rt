@@ -47,6 +47,7 @@ impl Borrowed<'_> {
 }
 
 /// The command that stands in front. `None` comes exactly where none does.
+#[inline(always)]
 pub fn command<'a>(input: &mut Input<'a>) -> Option<Borrowed<'a>>
     ensures command { Reads kv_command input.old input.new (option_map (λ borrowed. command_of borrowed) result) }
     ensures are_tokens { IfSome result (λ borrowed. AreTokens borrowed) }

@@ -20,6 +20,7 @@ mod whole;
 mod wire;
 
 pub use client::{Answer, ClientReply, ClientRequest};
+pub use entries::put_each;
 pub use entry::take_old_entry;
 pub use whole::{from_bytes, is_message, old_entries_have_one_spelling};
 pub use wire::Wire;

@@ -53,6 +53,7 @@ impl<C: Wire> Wire for RaftMsg<C> {
         }
     }
 
+    #[inline(always)]
     fn skip(input: &mut Input<'_>) -> Option<()> {
         match input.byte()? {
             1 => RequestVote::skip(input),

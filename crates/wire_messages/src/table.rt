@@ -7,7 +7,7 @@ use crate::table_borrowed::command;
 use lock_table::{TableCmd, TableOut};
 use std::alloc::{AllocError, Global};
 use vst_base::Key;
-use wire_fields::{Input, put_flag, put_key, put_optional_key};
+use wire_fields::{Input, put_flag, put_key, put_kind_and_key, put_optional_key};
 
 impl Wire for TableCmd {
     ghost format = { table_command };
@@ -16,19 +16,14 @@ impl Wire for TableCmd {
     fn put(&self, out: &mut Vec<u8>) -> Result<(), AllocError> {
         match self {
             TableCmd::Acquire(name, owner) => {
-                out.push(1)?;
-                put_key(out, name)?;
+                put_kind_and_key(out, 1, name)?;
                 put_key(out, owner)
             }
             TableCmd::Release(name, owner) => {
-                out.push(2)?;
-                put_key(out, name)?;
+                put_kind_and_key(out, 2, name)?;
                 put_key(out, owner)
             }
-            TableCmd::Holder(name) => {
-                out.push(3)?;
-                put_key(out, name)
-            }
+            TableCmd::Holder(name) => put_kind_and_key(out, 3, name),
         }
     }
 
@@ -39,6 +34,7 @@ impl Wire for TableCmd {
         Ok(Some(command.own(alloc)?))
     }
 
+    #[inline(always)]
     fn skip(input: &mut Input<'_>) -> Option<()> {
         command(input)?;
         Some(())

@@ -22,7 +22,8 @@ pub trait Wire: Drop {
     fn take(alloc: Global, input: &mut Input<'_>) -> Result<Option<Self>, AllocError>
         ensures { Takes format input.old input.new result };
 
-    /// Passes over the bytes of a value, which takes no memory. `None` comes exactly where none stands in front.
+    /// Passes over the bytes of a value, which takes no memory. `None` comes exactly where none stands in front. Where
+    /// entries of a log are read it is inlined always, as `Input`'s methods are.
     fn skip(input: &mut Input<'_>) -> Option<()>
         ensures { Skips format input.old input.new result };
 
