@@ -1,0 +1,74 @@
+-- What holds of any disk.
+use Rattle.std.specs.Prelude.{◌≡◌, ◌↔◌, ℕ, ◌<◌, true, false, List, [], ◌∷◌, length, take, slice_get, ◌⊎◌}
+use Rattle.disk.specs.Acts.{StoreCall, ReadAt, WriteAt, CutTo, Sync, Act, Wrote, Cut, Synced, StoreFailed}
+use Rattle.disk.specs.Areas.{area_at}
+use Rattle.disk.specs.Disk.{Area, Disk, Image, contents, NothingPending, failed, effect, after, is_pending, is_one_of, may_become, may_hold, may_leave}
+
+-- The areas as they read are always one of the images.
+abbrev pub ReadsAreAnImage : Type 0
+ReadsAreAnImage = (disk : Disk) → may_hold disk (contents disk) ≡ true
+
+-- With nothing pending they are the only one.
+abbrev pub SettledStays : Type 0
+SettledStays = (disk : Disk) (image : Image) → NothingPending disk → may_hold disk image ≡ true → image ≡ contents disk
+
+-- A sync permits nothing new.
+abbrev pub SyncOnlyTakesAway : Type 0
+SyncOnlyTakesAway =
+    (area : ℕ) (disk : Disk) (image : Image) → may_hold (effect (Synced area) disk) image ≡ true → may_hold disk image ≡ true
+
+-- an image's length is one that the area has or had, and each byte that is not pending is the one that a read gives
+pub record Permits (area : Area) (image : List ℕ) : Type 0 where
+  pub size : is_one_of (length image) (length area.bytes ∷ area.lengths) ≡ true
+  pub bytes : (i : ℕ) → i < length image → is_pending area i ≡ false → slice_get image i ≡ slice_get area.bytes i
+
+-- The test says just that.
+abbrev pub TestSays : Type 0
+TestSays = (area : Area) (image : List ℕ) → (may_become area image ≡ true) ↔ Permits area image
+
+abbrev pub IsNoSync : Act → Type 0
+IsNoSync (Synced area) = ⊥
+IsNoSync act = Unit {0}
+
+abbrev pub Every : {T : Type 0} → (T → Type 0) → List T → Type 0
+Every P [] = Unit {0}
+Every P (x ∷ xs) = P x × Every P xs
+
+-- A byte that is not pending is as it was before the pending acts.
+abbrev pub OthersAreAsBefore : Type 0
+OthersAreAsBefore =
+    (disk : Disk) (acts : List Act) (area i : ℕ) → Every IsNoSync acts → is_pending (area_at (after disk acts) area) i ≡ false →
+    slice_get (area_at (after disk acts) area).bytes i ≡ slice_get (area_at disk area).bytes i
+
+-- The acts of a run, of which the last may have failed: a store call of it, or a read at any place.
+abbrev pub Fails : Act → Act → Type 0
+Fails (Wrote area at bytes) act = act ≡ StoreFailed (WriteAt area at bytes)
+Fails (Cut area len) act = act ≡ StoreFailed (CutTo area len)
+Fails (Synced area) act = act ≡ StoreFailed (Sync area)
+Fails other act = ⊥
+
+abbrev pub IsReadFault : Act → Type 0
+IsReadFault (StoreFailed (ReadAt area at room)) = Unit {0}
+IsReadFault act = ⊥
+
+-- a beginning of these acts, or one and then the failure of the next or of a read
+abbrev pub IsCutShort : List Act → List Act → Type 0
+IsCutShort acts [] = Unit {0}
+IsCutShort [] (did ∷ more) = IsReadFault did × (more ≡ [])
+IsCutShort (act ∷ acts) (did ∷ more) = ((did ≡ act) × IsCutShort acts more) ⊎ ((Fails act did ⊎ IsReadFault did) × (more ≡ []))
+
+-- What a crash leaves after acts that were cut short, the whole acts may leave at some moment.
+abbrev pub FaultsAddNothing : Type 0
+FaultsAddNothing =
+    (disk : Disk) (acts did : List Act) (image : Image) → IsCutShort acts did → may_leave disk did image ≡ true →
+    (n : ℕ) × (may_leave disk (take n acts) image ≡ true)
+
+-- A call that failed may have done nothing.
+abbrev pub FailureMayDoNothing : Type 0
+FailureMayDoNothing =
+    (call : StoreCall) (disk : Disk) (image : Image) → may_hold disk image ≡ true → may_hold (failed call disk) image ≡ true
+
+-- An act that is no sync takes no image away. So what stood at the last sync is an image until the next.
+abbrev pub ActsOnlyAdd : Type 0
+ActsOnlyAdd =
+    (disk : Disk) (acts : List Act) (image : Image) → Every IsNoSync acts → may_hold disk image ≡ true → may_leave disk acts image ≡ true

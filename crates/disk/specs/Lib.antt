@@ -1,0 +1,6 @@
+pub mod Acts
+pub mod Areas
+pub mod Disk
+pub mod DiskLaws
+pub mod Images
+pub mod Examples

@@ -1,0 +1,82 @@
+ghost use Rattle.std.specs.Prelude.{◌≡◌, ◌-◌, ◌^◌, true, false, [], ◌∷◌, None};
+ghost use Rattle.disk.specs.Acts.{ReadAt, WriteAt, Sync, Began, BeginFailed, Quiet, Took, ReceiveFailed, SendFailed, Wrote, Synced, StoreFailed};
+ghost use Rattle.disk.specs.Disk.{settled, written};
+ghost use Rattle.node_device.specs.Faults.{BeginCounts, ReceiveCounts, ReadCounts, StoreCounts};
+ghost use Rattle.node_device.specs.Telling.{StoppedIn};
+ghost use Rattle.node_device.specs.Outcomes.{Begins, Reads, Receives, Sends, Stores};
+ghost use Rattle.node_device.specs.Examples.{tells, shows, holds, counts, node_at};
+
+use crate::{AreaRead, Received, Shipped, Stored};
+use outside::Begun;
+
+/// Counts of faults: a failure raises that of its kind alone, and nothing else raises one.
+pub fn worked_counts()
+    ensures store_failed { StoreCounts (counts 2 5) (counts 2 6) Stored.Failed }
+    ensures uncounted { StoreCounts (counts 2 5) (counts 2 5) Stored.Failed → ⊥ }
+    ensures counted_as_another { StoreCounts (counts 2 5) (counts 3 5) Stored.Failed → ⊥ }
+    ensures counted_twice { StoreCounts (counts 2 5) (counts 3 6) Stored.Failed → ⊥ }
+    ensures swallowed { StoreCounts (counts 2 5) (counts 2 6) Stored.Done → ⊥ }
+    ensures swallowed_by_want { StoreCounts (counts 2 5) (counts 2 6) Stored.Memory → ⊥ }
+    ensures swallowed_by_quiet { ReceiveCounts (counts 2 5) (counts 3 5) Received.Quiet → ⊥ }
+    ensures read_failed { ReadCounts (counts 2 5) (counts 2 6) AreaRead.Failed }
+    ensures at_the_greatest { StoreCounts (counts 0 (2 ^ 64 - 1)) (counts 0 (2 ^ 64 - 1)) Stored.Failed }
+    ensures no_beginning_counted { BeginCounts (counts 2 5) (counts 2 5) Begun.Failed → ⊥ }
+{}
+
+/// Beginnings, receives and sends, with the acts that they add to the record.
+pub fn worked_messages()
+    ensures begins { Begins false true (tells []) (tells (Began (node_at 7000) [] ∷ [])) (node_at 7000) [] Begun.Ready }
+    ensures begins_unrecorded { Begins false true (tells []) (tells []) (node_at 7000) [] Begun.Ready → ⊥ }
+    ensures cannot_begin { Begins false false (tells []) (tells (BeginFailed (node_at 7000) [] ∷ [])) (node_at 7000) [] Begun.Failed }
+    ensures begun_though_it_failed { Begins false true (tells []) (tells (BeginFailed (node_at 7000) [] ∷ []))
+        (node_at 7000) [] Begun.Failed → ⊥ }
+    ensures took { Receives 300 (4 ∷ 5 ∷ 0 ∷ []) (tells []) (tells (Took 300 (node_at 7001) (4 ∷ 5 ∷ []) ∷ []))
+        (Received.Datagram (node_at 7001) 2) }
+    ensures took_other_bytes { Receives 300 (4 ∷ 5 ∷ 0 ∷ []) (tells []) (tells (Took 300 (node_at 7001) (4 ∷ 6 ∷ []) ∷ []))
+        (Received.Datagram (node_at 7001) 2) → ⊥ }
+    ensures took_more_than_fits { Receives 300 (4 ∷ []) (tells []) (tells (Took 300 (node_at 7001) (4 ∷ []) ∷ []))
+        (Received.Datagram (node_at 7001) 2) → ⊥ }
+    ensures quiet { Receives 300 (4 ∷ []) (tells []) (tells (Quiet 300 ∷ [])) Received.Quiet }
+    ensures waited_otherwise { Receives 300 (4 ∷ []) (tells []) (tells (Quiet 200 ∷ [])) Received.Quiet → ⊥ }
+    ensures receive_failed { Receives 300 (4 ∷ []) (tells []) (tells (ReceiveFailed 300 ∷ [])) Received.Failed }
+    ensures lost { Sends (node_at 7001) (4 ∷ []) (tells []) (tells (SendFailed (node_at 7001) (4 ∷ []) ∷ [])) Shipped.Failed }
+    ensures untold { Sends (node_at 7001) (4 ∷ []) None None Shipped.Sent }
+    ensures begins_to_tell { Sends (node_at 7001) (4 ∷ []) None (tells []) Shipped.Sent → ⊥ }
+{}
+
+/// Writes and syncs of slot 0. One that failed may have been done, or not.
+pub fn worked_stores()
+    ensures wrote { Stores (WriteAt 0 0 (9 ∷ [])) (Wrote 0 0 (9 ∷ [])) (holds (1 ∷ []))
+        (shows (Wrote 0 0 (9 ∷ []) ∷ []) (written 0 (9 ∷ []) (settled (1 ∷ [])))) Stored.Done }
+    ensures nothing_pending { Stores (WriteAt 0 0 (9 ∷ [])) (Wrote 0 0 (9 ∷ [])) (holds (1 ∷ []))
+        (shows (Wrote 0 0 (9 ∷ []) ∷ []) (settled (9 ∷ []))) Stored.Done → ⊥ }
+    ensures synced { Stores (Sync 0) (Synced 0) (shows [] (written 0 (9 ∷ []) (settled (1 ∷ []))))
+        (shows (Synced 0 ∷ []) (settled (9 ∷ []))) Stored.Done }
+    ensures want_recorded { Stores (Sync 0) (Synced 0) (tells []) (tells (Synced 0 ∷ [])) Stored.Memory → ⊥ }
+    ensures failed_done { Stores (WriteAt 0 0 (9 ∷ [])) (Wrote 0 0 (9 ∷ [])) (holds (1 ∷ 2 ∷ []))
+        (shows (StoreFailed (WriteAt 0 0 (9 ∷ [])) ∷ []) (written 0 (9 ∷ []) (settled (1 ∷ 2 ∷ [])))) Stored.Failed }
+    ensures failed_undone { Stores (WriteAt 0 0 (9 ∷ [])) (Wrote 0 0 (9 ∷ [])) (holds (1 ∷ 2 ∷ []))
+        (shows (StoreFailed (WriteAt 0 0 (9 ∷ [])) ∷ []) (settled (1 ∷ 2 ∷ []))) Stored.Failed }
+    ensures failed_elsewhere { Stores (WriteAt 0 0 (9 ∷ [])) (Wrote 0 0 (9 ∷ [])) (holds (1 ∷ 2 ∷ []))
+        (shows (StoreFailed (WriteAt 0 0 (9 ∷ [])) ∷ []) (settled (1 ∷ 5 ∷ []))) Stored.Failed → ⊥ }
+    ensures failed_unrecorded { Stores (Sync 0) (Synced 0) (tells []) (tells []) Stored.Failed → ⊥ }
+{}
+
+/// Reads of slot 0, which holds three bytes.
+pub fn worked_reads()
+    ensures two_of_three { Reads 0 1 (holds (1 ∷ 2 ∷ 3 ∷ [])) (holds (1 ∷ 2 ∷ 3 ∷ [])) (0 ∷ 0 ∷ []) (2 ∷ 3 ∷ []) (AreaRead.Got 2) }
+    ensures other_bytes { Reads 0 1 (holds (1 ∷ 2 ∷ 3 ∷ [])) (holds (1 ∷ 2 ∷ 3 ∷ [])) (0 ∷ 0 ∷ []) (1 ∷ 2 ∷ []) (AreaRead.Got 2) → ⊥ }
+    ensures end_too_early { Reads 0 1 (holds (1 ∷ 2 ∷ 3 ∷ [])) (holds (1 ∷ 2 ∷ 3 ∷ [])) (0 ∷ []) (0 ∷ []) (AreaRead.Got 0) → ⊥ }
+    ensures at_the_end { Reads 0 3 (holds (1 ∷ 2 ∷ 3 ∷ [])) (holds (1 ∷ 2 ∷ 3 ∷ [])) (0 ∷ []) (0 ∷ []) (AreaRead.Got 0) }
+    ensures failed { Reads 2 0 (tells []) (tells (StoreFailed (ReadAt 2 0 1) ∷ [])) (0 ∷ []) (7 ∷ []) AreaRead.Failed }
+    ensures failed_unrecorded { Reads 2 0 (tells []) (tells []) (0 ∷ []) (0 ∷ []) AreaRead.Failed → ⊥ }
+{}
+
+/// Calls that were cut short: what was done stands in the record.
+pub fn worked_stops()
+    ensures before_the_first { StoppedIn (tells []) (tells []) (Synced 0 ∷ Synced 1 ∷ []) }
+    ensures between { StoppedIn (tells []) (tells (Synced 0 ∷ [])) (Synced 0 ∷ Synced 1 ∷ []) }
+    ensures at_a_fault { StoppedIn (tells []) (tells (Synced 0 ∷ StoreFailed (Sync 1) ∷ [])) (Synced 0 ∷ Synced 1 ∷ []) }
+    ensures untold { StoppedIn None None (Synced 0 ∷ []) }
+    ensures another_record { StoppedIn (tells []) (tells (Quiet 5 ∷ [])) (Synced 0 ∷ Synced 1 ∷ []) → ⊥ }
+{}

@@ -1,0 +1,9 @@
+//! What a node runs on, as a trait: a socket, a directory of three areas and a clock. A device counts its faults by kind, and may tell
+//! the record of its acts and its disk; a real one tells neither. It knows nothing of what the areas hold.
+#![tactic(auto)]
+
+mod device;
+mod examples;
+
+pub use device::{AreaRead, Device, Received, Shipped, Stored};
+pub use examples::{worked_counts, worked_messages, worked_stops, worked_stores};

@@ -1,0 +1,10 @@
+use Rattle.std.proofs.Common.{◌≡◌, rules}
+use Rattle.disk.specs.Acts.{WriteAt, StoreFailed}
+use Rattle.node_device_mem.specs.Devices.{steady_told, noted}
+use Rattle.node_device_mem.proofs.Failed.{failed_and_noted}
+use Rattle.node_device_mem.proofs.memory.MemoryDeviceDevice.write_at.Goals as goal
+
+pub returns-clause-outcome : goal.returns-clause-outcome
+returns-clause-outcome c =
+    let e : steady_told c.note.new.self ≡ noted (StoreFailed (WriteAt c.args.area c.args.at c.args.bytes.now)) (steady_told c.args.self.now.steady) = search rules in
+    failed_and_noted _ _ _ e

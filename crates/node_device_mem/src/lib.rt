@@ -1,0 +1,17 @@
+//! A node's device over memory, for tests and theorems: it tells its acts and its disk, and follows scripts of failing calls, of
+//! datagrams that arrive and of clock values; a steady form of it never fails. Of each moment it gives images that a crash may leave.
+#![tactic(auto)]
+
+mod area;
+mod history;
+mod memory;
+mod memory_disk;
+mod past;
+mod script;
+mod steady;
+mod trail;
+
+pub use memory::{Counts, MemoryDevice};
+pub use memory_disk::{Areas, MemoryDisk};
+pub use past::{Past, PastAct};
+pub use steady::{Arrival, SteadyDevice};

@@ -1,0 +1,249 @@
+ghost use Rattle.std.specs.Prelude.{◌≡◌, ℕ, List, ◌-◌, ◌^◌, min, ◌≤◌, ◌<◌, true, false, [], ◌∷◌, length, Some, OnSome, OnOk, OnErr, IfOk, IfSome, option_map, take};
+ghost use Rattle.outside.specs.declared.device.Address.{Address};
+ghost use Rattle.disk.specs.Areas.{area_at};
+ghost use Rattle.disk.specs.Disk.{contents, may_leave};
+ghost use Rattle.disk.specs.Images.{image_by_word};
+ghost use Rattle.node_device.specs.Faults.{Faults, NoFewer, ReceiveCounts};
+ghost use Rattle.node_device.specs.Telling.{Told, Did};
+ghost use Rattle.node_device.specs.Outcomes.{Receives};
+ghost use Rattle.node_device_mem.specs.MemoryDisks.{image_of, disk_of};
+ghost use Rattle.node_device_mem.specs.Histories.{act_of};
+ghost use Rattle.node_device_mem.specs.Devices.{steady_told, no_faults, noted, first_disk};
+ghost use Rattle.node_device_mem.specs.Scripts.{TakesNext, next_arrival, cut_to};
+
+use crate::history::History;
+use crate::memory_disk::{Areas, MemoryDisk};
+use crate::past::{Past, PastAct};
+use node_device::{AreaRead, Device, Received, Shipped, Stored};
+use outside::{Address, Begun};
+use std::alloc::{AllocError, Global};
+
+/// What a receive is to find.
+#[derive(Drop)]
+pub enum Arrival {
+    Datagram { from: Address, bytes: Vec<u8> },
+    /// No datagram in time.
+    Quiet,
+}
+
+/// A device over memory that never fails: it tells its acts and its disk, receives what a script says, and its clock follows a
+/// script. It wants memory where an act or its bytes cannot be kept.
+#[derive(Drop)]
+pub struct SteadyDevice {
+    alloc: Global,
+    // the areas as they were at first, and as they are
+    first: MemoryDisk,
+    disk: MemoryDisk,
+    history: History,
+    arrivals: Vec<Arrival>,
+    // how many of these were received
+    received: usize,
+    begun: bool,
+}
+
+impl SteadyDevice {
+    /// A device with these areas. After the last arrival all is quiet, and after the last clock value it comes again, or 0 where
+    /// there is none.
+    pub fn new(
+        alloc: Global,
+        disk: MemoryDisk,
+        arrivals: Vec<Arrival>,
+        clock: Vec<u64>,
+    ) -> Result<Self, AllocError>
+        ensures told { IfOk result (λ device. steady_told device ≡ Some (record { acts = []; disk = disk_of disk })) }
+        ensures first { IfOk result (λ device. first_disk device ≡ disk_of disk) }
+        ensures begun { IfOk result (λ device. device.begun ≡ false) }
+        ensures arrivals { IfOk result (λ device. (device.arrivals.items ≡ arrivals.items) × (device.received ≡ 0)) }
+        ensures clock { IfOk result (λ device. device.history.clock.items ≡ clock.items) }
+    {
+        Ok(SteadyDevice {
+            alloc,
+            first: disk.copy(alloc)?,
+            disk,
+            history: History::new(alloc, clock),
+            arrivals,
+            received: 0,
+            begun: false,
+        })
+    }
+
+    /// What a read of a whole area gives. A number above 2 names area 2.
+    pub fn area(&self, area: u8) -> &[u8]
+        ensures { IfSome (steady_told self.now) (λ told. result.now ≡ area_at (contents told.disk) area) }
+    {
+        self.disk.area(area)
+    }
+
+    /// The acts so far, each with the number of clock values before it.
+    pub fn past(&self) -> &[Past]
+        ensures { result.now ≡ self.now.history.past.items }
+    {
+        self.history.past()
+    }
+
+    /// How many acts there are, clock values among them. It stops at the greatest `u64`.
+    pub fn acts(&self) -> u64
+        ensures { IfSome (steady_told self.now) (λ told. result ≡ min (length told.acts) (2 ^ 64 - 1)) }
+    {
+        self.history.acts()
+    }
+
+    // Its record.
+    pub(crate) fn history(&self) -> &History
+        ensures { result.now ≡ self.now.history }
+    {
+        &self.history
+    }
+
+    /// What a crash may leave after so many acts, by the word modulo 4: 0 what stood at the last syncs, 1 what a read gives, 2 and 3
+    /// the present lengths with `FF` or `00` in each place that is pending. A write or cut that failed counts as done.
+    pub fn image(&self, acts: u64, word: u32) -> Result<Areas, AllocError>
+        ensures image { IfOk result (λ areas. IfSome (steady_told self.now)
+            (λ told. image_of areas ≡ image_by_word (first_disk self.now) (take acts told.acts) word)) }
+        ensures left { IfOk result (λ areas. IfSome (steady_told self.now)
+            (λ told. may_leave (first_disk self.now) (take acts told.acts) (image_of areas) ≡ true)) }
+    {
+        let trail = self.history.trail(self.alloc, &self.first, acts)?;
+        trail.image(self.alloc, word % 4)
+    }
+
+    // Puts an act into the record, and leaves the areas.
+    pub(crate) fn note(&mut self, act: PastAct) -> Result<(), AllocError>
+        ensures ok { OnOk result (steady_told self.new ≡ noted (act_of act) (steady_told self.old)) }
+        ensures err { OnErr result (steady_told self.new ≡ steady_told self.old) }
+        ensures begun { self.new.begun ≡ self.old.begun }
+        ensures received { self.new.received ≡ self.old.received }
+    {
+        self.history.note(act)
+    }
+
+    // A copy of the datagram that arrives next, if one does, cut to so many bytes.
+    fn next_datagram(&self, room: usize) -> Result<Option<(Address, Vec<u8>)>, AllocError>
+        ensures { IfOk result (λ next. option_map {U = Address × List ℕ} (λ datagram. (datagram.0, datagram.1.items)) next
+            ≡ cut_to room (next_arrival self.now.arrivals.items self.now.received)) }
+    {
+        match self.arrivals.get(self.received) {
+            Some(Arrival::Datagram { from, bytes }) => {
+                let front = &bytes[..bytes.len().min(room)];
+                Ok(Some((*from, self.copy_of(front)?)))
+            }
+            Some(Arrival::Quiet) => Ok(None),
+            None => Ok(None),
+        }
+    }
+
+    // A copy of these bytes, to be kept.
+    pub(crate) fn copy_of(&self, bytes: &[u8]) -> Result<Vec<u8>, AllocError>
+        ensures { IfOk result (λ copy. copy.items ≡ bytes.now) }
+    {
+        Vec::from_slice(self.alloc, bytes)
+    }
+}
+
+impl Device for SteadyDevice {
+    ghost told = { λ device. steady_told device };
+
+    ghost begun = { λ device. device.begun };
+
+    ghost faults = { λ _. no_faults };
+
+    fn begin(&mut self, at: Address, dir: &str) -> Begun {
+        let Ok(copy) = self.copy_of(dir.as_bytes()) else {
+            return Begun::Memory;
+        };
+        if self.note(PastAct::Began(at, copy)).is_err() {
+            return Begun::Memory;
+        }
+        self.begun = true;
+        Begun::Ready
+    }
+
+    fn now(&mut self) -> u64 {
+        self.history.now()
+    }
+
+    fn receive(&mut self, wait_ms: u32, buf: &mut [u8]) -> Received
+        requires { self.old.begun ≡ true }
+        ensures outcome { Receives wait_ms buf.new (steady_told self.old) (steady_told self.new) result }
+        ensures begun { self.new.begun ≡ true }
+        ensures causes { ReceiveCounts no_faults no_faults result }
+        ensures counts { NoFewer no_faults no_faults }
+        ensures scripted { TakesNext self.old.arrivals.items self.old.received self.new.received buf.new result }
+    {
+        if self.history.reserve().is_err() {
+            return Received::Memory;
+        }
+        let Ok(next) = self.next_datagram(buf.len()) else {
+            return Received::Memory;
+        };
+        let Some((from, bytes)) = next else {
+            // there is room for it
+            if self.history.note(PastAct::Quiet(wait_ms)).is_err() {
+                return Received::Memory;
+            }
+            self.received = self.received.saturating_add(1);
+            return Received::Quiet;
+        };
+        let len = bytes.len();
+        buf[..len].copy_from_slice(&bytes);
+        // there is room for it
+        if self
+            .history
+            .note(PastAct::Took(wait_ms, from, bytes))
+            .is_err()
+        {
+            return Received::Memory;
+        }
+        self.received = self.received.saturating_add(1);
+        Received::Datagram { from, len }
+    }
+
+    fn send(&mut self, to: Address, bytes: &[u8]) -> Shipped {
+        let Ok(copy) = self.copy_of(bytes) else {
+            return Shipped::Memory;
+        };
+        if self.note(PastAct::Sent(to, copy)).is_err() {
+            return Shipped::Memory;
+        }
+        Shipped::Sent
+    }
+
+    fn read_at(&mut self, area: u8, at: u64, buf: &mut [u8]) -> AreaRead {
+        AreaRead::Got(self.disk.read(area, at, buf))
+    }
+
+    fn write_at(&mut self, area: u8, at: u64, bytes: &[u8]) -> Stored {
+        let Ok(copy) = self.copy_of(bytes) else {
+            return Stored::Memory;
+        };
+        if self.history.reserve().is_err()
+            || self.disk.write(self.alloc, area, at, bytes).is_err()
+        {
+            return Stored::Memory;
+        }
+        // there is room for it
+        if self.history.note(PastAct::Wrote(area, at, copy)).is_err() {
+            return Stored::Memory;
+        }
+        Stored::Done
+    }
+
+    fn cut(&mut self, area: u8, len: u64) -> Stored {
+        if self.history.reserve().is_err() || self.disk.cut(self.alloc, area, len).is_err() {
+            return Stored::Memory;
+        }
+        // there is room for it
+        if self.history.note(PastAct::Cut(area, len)).is_err() {
+            return Stored::Memory;
+        }
+        Stored::Done
+    }
+
+    fn sync(&mut self, area: u8) -> Stored {
+        if self.history.note(PastAct::Synced(area)).is_err() {
+            return Stored::Memory;
+        }
+        self.disk.sync(area);
+        Stored::Done
+    }
+}

@@ -1,0 +1,6 @@
+pub mod Elsewhere
+pub mod Images
+pub mod Saves
+pub mod Opens
+pub mod Turning
+pub mod Patching

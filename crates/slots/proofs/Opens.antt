@@ -1,0 +1,187 @@
+-- Each moment of an opening.
+use Rattle.std.proofs.Common.{◌≡◌, ◌≢◌, ℕ, zero, suc, ◌<◌, ◌≤◌, true, List, [], ◌∷◌, ◌++◌, length, take, refl, ap, subst, ◌∙◌, arith, ◌⊎◌, inl, inr}
+use Rattle.std.proofs.lemmas.List.{take-append-le}
+use Rattle.disk.specs.Acts.{Act, Synced}
+use Rattle.disk.specs.Areas.{area_at, each}
+use Rattle.disk.specs.Disk.{Area, Disk, Image, contents, settled, IsSettled, NothingPending, synced, effect, after, may_hold, may_leave}
+use Rattle.disk.proofs.Disks.{settled_stays, sync_takes_away}
+use Rattle.slots.specs.Opening.{Found, Is, Fresh, Held, opening, by_selector, OpensAs}
+use Rattle.slots.specs.Saving.{slot_acts, flip_acts, save_acts, sync_acts, fresh_acts, open_acts, move_acts}
+use Rattle.slots.specs.SavingLaws.{Rests, Opens, Moves}
+use Rattle.slots.proofs.Elsewhere.{Apart}
+use Rattle.slots.proofs.Images.{selector_apart, either, held_from, image_settled, pending_from}
+use Rattle.slots.proofs.Saves.{saves, slot_done, slot_else, slot_else_done, flip_else, flip_done, flip_length, settled_from}
+
+begins : (bytes first : List ℕ) → take 3 (open_acts bytes first) ≡ sync_acts
+begins [] first = refl
+begins (s ∷ rest) first = refl
+
+-- only syncs
+only_syncs : (disk : Disk) (image : Image) (n : ℕ) → n ≤ 3 → may_leave disk (take n sync_acts) image ≡ true → may_hold disk image ≡ true
+only_syncs disk image zero h m = m
+only_syncs disk image (suc zero) h m = sync_takes_away 0 disk image m
+only_syncs disk image (suc (suc zero)) h m = sync_takes_away 0 disk image (sync_takes_away 1 (effect (Synced 0) disk) image m)
+only_syncs disk image (suc (suc (suc zero))) h m =
+    sync_takes_away 0 disk image (sync_takes_away 1 (effect (Synced 0) disk) image (sync_takes_away 2 (effect (Synced 1) (effect (Synced 0) disk)) image m))
+only_syncs disk image (suc (suc (suc (suc n)))) h m = absurd (omega arith)
+
+syncing : (disk : Disk) (bytes first : List ℕ) (n : ℕ) (image : Image) → n ≤ 3 → may_leave disk (take n (open_acts bytes first)) image ≡ true → may_hold disk image ≡ true
+syncing disk bytes first n image h m = only_syncs disk image n h (subst (λ (a : List Act). may_leave disk a image ≡ true) (early bytes n h) m)
+  where
+    early : (bytes : List ℕ) (n : ℕ) → n ≤ 3 → take n (open_acts bytes first) ≡ take n sync_acts
+    early [] n h = take-append-le n sync_acts (fresh_acts first) h
+    early (s ∷ rest) n h = refl
+
+calm : (disk : Disk) → NothingPending (each synced disk)
+calm disk = pending_from (each synced disk) at
+  where
+    at : (n : ℕ) → IsSettled (area_at (each synced disk) n)
+    at zero = record { ranges = refl; lengths = refl }
+    at (suc zero) = record { ranges = refl; lengths = refl }
+    at (suc (suc n)) = record { ranges = refl; lengths = refl }
+
+-- the acts on a directory whose selector is empty
+
+blank : {K : Type 0} (found : List ℕ → Found K) (image : Image) → image.selector ≡ [] → opening found image ≡ Fresh
+blank found image e = ap (by_selector found image) e
+
+one_or_none : {K : Type 0} (found : List ℕ → Found K) (first : K) (image : Image) → length image.selector ≤ 1 → found image.slot0 ≡ Is first → found image.slot1 ≡ Is first →
+    (opening found image ≡ Fresh) ⊎ OpensAs found first image
+one_or_none found first image l e f = go image.selector refl l
+  where
+    go : (bytes : List ℕ) → image.selector ≡ bytes → length bytes ≤ 1 → (opening found image ≡ Fresh) ⊎ OpensAs found first image
+    go [] is h = inl (blank found image is)
+    go (v ∷ []) is h = inr (v, held_from found image first v is (either (λ n. found (area_at image n) ≡ Is first) 0 v e f))
+    go (v ∷ w ∷ rest) is h = absurd (omega arith)
+
+slots01 : (slot : ℕ) → slot < 2 → Apart 2 slot
+slots01 slot h = selector_apart slot h
+
+slot_blank : {K : Type 0} (found : List ℕ → Found K) (disk : Disk) (slot n : ℕ) (bytes : List ℕ) (image : Image) → slot < 2 → disk.selector ≡ settled [] →
+    may_leave disk (take n (slot_acts slot bytes)) image ≡ true → opening found image ≡ Fresh
+slot_blank found disk slot n bytes image h e m =
+    blank found image (image_settled _ image m 2 [] (slot_else slot 2 n bytes disk (slots01 slot h) ∙ e))
+
+abbrev first_done : List ℕ → Disk → Disk
+first_done bytes disk = after disk (slot_acts 0 bytes)
+
+abbrev both_done : List ℕ → Disk → Disk
+both_done bytes disk = after (first_done bytes disk) (slot_acts 1 bytes)
+
+both_slot0 : (bytes : List ℕ) (disk : Disk) → area_at (both_done bytes disk) 0 ≡ settled bytes
+both_slot0 bytes disk = slot_else_done 1 0 bytes (first_done bytes disk) ((λ e. omega arith), inl (omega arith)) ∙ slot_done 0 bytes disk
+
+both_slot1 : (bytes : List ℕ) (disk : Disk) → area_at (both_done bytes disk) 1 ≡ settled bytes
+both_slot1 bytes disk = slot_done 1 bytes (first_done bytes disk)
+
+first_selector : (bytes : List ℕ) (disk : Disk) → disk.selector ≡ settled [] → (first_done bytes disk).selector ≡ settled []
+first_selector bytes disk e = slot_else_done 0 2 bytes disk (slots01 0 (omega arith)) ∙ e
+
+both_selector : (bytes : List ℕ) (disk : Disk) → disk.selector ≡ settled [] → (both_done bytes disk).selector ≡ settled []
+both_selector bytes disk e = slot_else_done 1 2 bytes (first_done bytes disk) (slots01 1 (omega arith)) ∙ first_selector bytes disk e
+
+flipping : {K : Type 0} (found : List ℕ → Found K) (first : K) (disk : Disk) (n : ℕ) (bytes : List ℕ) (image : Image) → found bytes ≡ Is first → disk.selector ≡ settled [] →
+    may_leave (both_done bytes disk) (take n (flip_acts 0)) image ≡ true → (opening found image ≡ Fresh) ⊎ OpensAs found first image
+flipping found first disk n bytes image f e m =
+    one_or_none found first image
+    (flip_length (λ l. l ≤ 1) 0 n (both_done bytes disk) image [] (both_selector bytes disk e) (omega arith) (omega arith) (omega arith) m)
+    (ap found (image_settled later image m 0 bytes (flip_else 0 0 n (both_done bytes disk) (omega arith) ∙ both_slot0 bytes disk)) ∙ f)
+    (ap found (image_settled later image m 1 bytes (flip_else 0 1 n (both_done bytes disk) (omega arith) ∙ both_slot1 bytes disk)) ∙ f)
+  where
+    later : Disk
+    later = after (both_done bytes disk) (take n (flip_acts 0))
+
+second_moment : {K : Type 0} (found : List ℕ → Found K) (first : K) (disk : Disk) (bytes : List ℕ) (image : Image) → found bytes ≡ Is first → disk.selector ≡ settled [] → (n : ℕ) →
+    may_leave (first_done bytes disk) (take n (slot_acts 1 bytes ++ flip_acts 0)) image ≡ true → (opening found image ≡ Fresh) ⊎ OpensAs found first image
+second_moment found first disk bytes image f e zero m = inl (slot_blank found (first_done bytes disk) 1 0 bytes image (omega arith) (first_selector bytes disk e) m)
+second_moment found first disk bytes image f e (suc zero) m = inl (slot_blank found (first_done bytes disk) 1 1 bytes image (omega arith) (first_selector bytes disk e) m)
+second_moment found first disk bytes image f e (suc (suc zero)) m = inl (slot_blank found (first_done bytes disk) 1 2 bytes image (omega arith) (first_selector bytes disk e) m)
+second_moment found first disk bytes image f e (suc (suc (suc n))) m = flipping found first disk n bytes image f e m
+
+fresh_moment : {K : Type 0} (found : List ℕ → Found K) (first : K) (disk : Disk) (bytes : List ℕ) (image : Image) → found bytes ≡ Is first → disk.selector ≡ settled [] → (n : ℕ) →
+    may_leave disk (take n (fresh_acts bytes)) image ≡ true → (opening found image ≡ Fresh) ⊎ OpensAs found first image
+fresh_moment found first disk bytes image f e zero m = inl (slot_blank found disk 0 0 bytes image (omega arith) e m)
+fresh_moment found first disk bytes image f e (suc zero) m = inl (slot_blank found disk 0 1 bytes image (omega arith) e m)
+fresh_moment found first disk bytes image f e (suc (suc zero)) m = inl (slot_blank found disk 0 2 bytes image (omega arith) e m)
+fresh_moment found first disk bytes image f e (suc (suc (suc n))) m = second_moment found first disk bytes image f e n m
+
+fresh_end : {K : Type 0} (found : List ℕ → Found K) (first : K) (disk : Disk) (bytes : List ℕ) → found bytes ≡ Is first → disk.selector ≡ settled [] →
+    Rests found first 0 (after (both_done bytes disk) (flip_acts 0))
+fresh_end found first disk bytes f e = record {
+  pending = settled_from end 0 bytes bytes (0 ∷ []) zeroth oneth sel;
+  opens = held_from found (contents end) first 0 (ap (λ (x : Area). x.bytes) sel) (ap found (ap (λ (x : Area). x.bytes) zeroth) ∙ f);
+}
+  where
+    end : Disk
+    end = after (both_done bytes disk) (flip_acts 0)
+
+    zeroth : area_at end 0 ≡ settled bytes
+    zeroth = flip_else 0 0 2 (both_done bytes disk) (omega arith) ∙ both_slot0 bytes disk
+
+    oneth : area_at end 1 ≡ settled bytes
+    oneth = flip_else 0 1 2 (both_done bytes disk) (omega arith) ∙ both_slot1 bytes disk
+
+    sel : end.selector ≡ settled (0 ∷ [])
+    sel = flip_done 0 (both_done bytes disk) (rw (both_selector bytes disk e) (omega arith))
+
+-- by what area 2 reads as
+
+found_moment : (disk : Disk) (first : List ℕ) (bytes : List ℕ) → bytes ≢ [] → (n : ℕ) (image : Image) → 3 ≤ n → may_leave disk (take n (open_acts bytes first)) image ≡ true →
+    image ≡ contents disk
+found_moment disk first [] ne n image h m = absurd (ne refl)
+found_moment disk first (s ∷ rest) ne zero image h m = absurd (omega arith)
+found_moment disk first (s ∷ rest) ne (suc zero) image h m = absurd (omega arith)
+found_moment disk first (s ∷ rest) ne (suc (suc zero)) image h m = absurd (omega arith)
+found_moment disk first (s ∷ rest) ne (suc (suc (suc zero))) image h m = settled_stays (each synced disk) image (calm disk) m
+found_moment disk first (s ∷ rest) ne (suc (suc (suc (suc n)))) image h m = settled_stays (each synced disk) image (calm disk) m
+
+found_end : {K : Type 0} (found : List ℕ → Found K) (disk : Disk) (first bytes : List ℕ) (kept : K) (s : ℕ) → disk.selector.bytes ≡ bytes → opening found (contents disk) ≡ Held kept s →
+    Rests found kept s (after disk (open_acts bytes first))
+found_end found disk first [] kept s is e = absurd (cc (blank found (contents disk) is, e))
+found_end found disk first (t ∷ rest) kept s is e = record { pending = calm disk; opens = e }
+
+opening_fresh : {K : Type 0} (found : List ℕ → Found K) (first : K) (disk : Disk) (slot bytes : List ℕ) → found slot ≡ Is first → disk.selector.bytes ≡ bytes → bytes ≡ [] →
+    (n : ℕ) (image : Image) → 3 ≤ n → may_leave disk (take n (open_acts bytes slot)) image ≡ true → (opening found image ≡ Fresh) ⊎ OpensAs found first image
+opening_fresh found first disk slot (s ∷ rest) f is e n image h m = absurd (cc e)
+opening_fresh found first disk slot [] f is e zero image h m = absurd (omega arith)
+opening_fresh found first disk slot [] f is e (suc zero) image h m = absurd (omega arith)
+opening_fresh found first disk slot [] f is e (suc (suc zero)) image h m = absurd (omega arith)
+opening_fresh found first disk slot [] f is e (suc (suc (suc n))) image h m = fresh_moment found first (each synced disk) slot image f (ap settled is) n m
+
+opening_end : {K : Type 0} (found : List ℕ → Found K) (first : K) (disk : Disk) (slot bytes : List ℕ) → found slot ≡ Is first → disk.selector.bytes ≡ bytes → bytes ≡ [] →
+    Rests found first 0 (after disk (open_acts bytes slot))
+opening_end found first disk slot (s ∷ rest) f is e = absurd (cc e)
+opening_end found first disk slot [] f is e = fresh_end found first (each synced disk) slot f (ap settled is)
+
+pub opens : {K : Type 0} (found : List ℕ → Found K) (disk : Disk) (first : K) (slot : List ℕ) → (disk.selector.bytes ≡ [] → found slot ≡ Is first) →
+    Opens found first (open_acts disk.selector.bytes slot) disk
+opens found disk first slot f = record {
+  syncs = begins disk.selector.bytes slot;
+  before = λ n image h m. syncing disk disk.selector.bytes slot n image h m;
+  found_stays = found_moment disk slot disk.selector.bytes;
+  found_done = λ kept s e. found_end found disk slot disk.selector.bytes kept s refl e;
+  fresh = λ e. opening_fresh found first disk slot disk.selector.bytes (f e) refl e;
+  fresh_done = λ e. opening_end found first disk slot disk.selector.bytes (f e) refl e;
+}
+
+-- a slot of an older form
+
+still : {K : Type 0} (found : List ℕ → Found K) (disk : Disk) (s : ℕ) (kept : K) → opening found (contents disk) ≡ Held kept s → Rests found kept s (each synced disk)
+still found disk s kept h = record { pending = calm disk; opens = h }
+
+move_moment : {K : Type 0} (found : List ℕ → Found K) (disk : Disk) (s : ℕ) (kept : K) (bytes : List ℕ) → opening found (contents disk) ≡ Held kept s → found bytes ≡ Is kept →
+    (n : ℕ) (image : Image) → 3 ≤ n → may_leave disk (take n (move_acts s bytes)) image ≡ true → OpensAs found kept image
+move_moment found disk s kept bytes h f zero image l m = absurd (omega arith)
+move_moment found disk s kept bytes h f (suc zero) image l m = absurd (omega arith)
+move_moment found disk s kept bytes h f (suc (suc zero)) image l m = absurd (omega arith)
+move_moment found disk s kept bytes h f (suc (suc (suc n))) image l m =
+    elim ((saves found (each synced disk) s kept kept bytes (still found disk s kept h) f).flip n image m) [ inl o ↦ o | inr o ↦ o ]
+
+pub moves : {K : Type 0} (found : List ℕ → Found K) (disk : Disk) (s : ℕ) (kept : K) (bytes : List ℕ) → opening found (contents disk) ≡ Held kept s → found bytes ≡ Is kept →
+    Moves found kept s (move_acts s bytes) disk
+moves found disk s kept bytes h f = record {
+  syncs = refl;
+  before = λ n image l m. only_syncs disk image n l (subst (λ (a : List Act). may_leave disk a image ≡ true) (take-append-le n sync_acts (save_acts s bytes) l) m);
+  stays = move_moment found disk s kept bytes h f;
+  done = (saves found (each synced disk) s kept kept bytes (still found disk s kept h) f).done;
+}

@@ -1,0 +1,12 @@
+use Rattle.slots.proofs.Saves.{saves, save_done, rests_is_ready}
+use Rattle.slots.proofs.Opens.{opens, moves}
+use Rattle.slots.proofs.saving.laws.Goals as goal
+
+pub returns : goal.returns
+returns g c = record {
+  saves = saves;
+  saved = save_done;
+  ready = rests_is_ready;
+  opens = opens;
+  moves = moves;
+}

@@ -1,0 +1,60 @@
+-- Slots that are easily computed, and turns, for examples.
+use Rattle.std.specs.Prelude.{ℕ, ◌%◌, ◌==◌, Bool, if◌then◌else◌, List, [], ◌∷◌, take, length}
+use Rattle.outside.specs.declared.device.Address.{Address}
+use Rattle.disk.specs.Acts.{Act, Took, Quiet, Sent, SendFailed, Wrote, Cut, Synced}
+use Rattle.disk.specs.Disk.{Image, settled, may_leave}
+use Rattle.slots.specs.Opening.{Found, Is, Not, BadSlot, BadJournal, Opening, opening}
+use Rattle.slots.specs.Saving.{save_acts}
+use Rattle.slots.specs.Turns.{Turn, Idle, Event}
+
+-- a slot is how many bytes its state has, these bytes, and nothing else
+abbrev pub counted_found : List ℕ → Found (List ℕ)
+counted_found [] = Not BadSlot
+counted_found (n ∷ kept) = if length kept == n then Is kept else Not BadSlot
+
+abbrev pub slot : List ℕ → List ℕ
+slot kept = length kept ∷ kept
+
+abbrev pub image_of : List ℕ → List ℕ → List ℕ → Image
+image_of slot0 slot1 selector = record { slot0 = slot0; slot1 = slot1; selector = selector }
+
+abbrev pub opened_as : List ℕ → List ℕ → List ℕ → Opening (List ℕ)
+opened_as slot0 slot1 selector = opening counted_found (image_of slot0 slot1 selector)
+
+-- whether a crash after these acts may leave this image, where slot 0 held this at first, slot 1 the state 1, and the selector 0
+abbrev pub leaves : List ℕ → List Act → List ℕ → List ℕ → List ℕ → Bool
+leaves first acts slot0 slot1 selector =
+    may_leave (record { slot0 = settled first; slot1 = settled (slot (1 ∷ [])); selector = settled (0 ∷ []) }) acts
+    (image_of slot0 slot1 selector)
+
+-- whether a crash after so many acts of saving the state 2, 2 may leave these in slot 1 and in the selector, and slot 0 as it was
+abbrev pub save_leaves : ℕ → List ℕ → List ℕ → Bool
+save_leaves n slot1 selector =
+    leaves (slot (1 ∷ [])) (take n (save_acts 0 (slot (2 ∷ 2 ∷ [])))) (slot (1 ∷ [])) slot1 selector
+
+-- a save whose selector is written before its slot is synced
+abbrev pub hasty_acts : List ℕ → List Act
+hasty_acts bytes = Wrote 1 0 bytes ∷ Cut 1 (length bytes) ∷ Wrote 2 0 (1 ∷ []) ∷ Synced 1 ∷ Synced 2 ∷ []
+
+-- A slot with a journal: a state of one byte, and then gates, each with a state after it. An even gate is closed, and what stands
+-- after it does not count.
+abbrev pub journal : ℕ → List ℕ → Found ℕ
+journal kept [] = Is kept
+journal kept (gate ∷ []) = if gate % 2 == 0 then Is kept else Not BadJournal
+journal kept (gate ∷ next ∷ rest) = if gate % 2 == 0 then Is kept else journal next rest
+
+abbrev pub gated_found : List ℕ → Found ℕ
+gated_found [] = Not BadSlot
+gated_found (kept ∷ rest) = journal kept rest
+
+-- a node of this computer
+abbrev pub node_at : ℕ → Address
+node_at port = record { ip = 127 ∷ 0 ∷ 0 ∷ 1 ∷ []; port = port }
+
+-- a turn without an event, one with a datagram and its answer, and one whose answer is lost
+abbrev pub three_turns : List (Turn (List ℕ))
+three_turns =
+    Idle 5 (Quiet 300 ∷ [])
+    ∷ Event 305 (Took 100 (node_at 7001) (8 ∷ []) ∷ []) (save_acts 0 (slot (2 ∷ []))) (2 ∷ []) 1 (Sent (node_at 7001) (9 ∷ []) ∷ [])
+    ∷ Event 405 [] (save_acts 1 (slot (3 ∷ []))) (3 ∷ []) 2 (SendFailed (node_at 7002) (7 ∷ []) ∷ [])
+    ∷ []

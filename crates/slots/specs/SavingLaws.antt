@@ -1,0 +1,75 @@
+-- What a crash leaves, at each moment of a save and of an opening.
+use Rattle.std.specs.Prelude.{◌≡◌, ◌≢◌, ℕ, ◌≤◌, true, List, [], ◌∷◌, take, ◌⊎◌}
+use Rattle.disk.specs.Acts.{Act}
+use Rattle.disk.specs.Disk.{Disk, Image, contents, NothingPending, after, may_hold, may_leave}
+use Rattle.disk.specs.DiskLaws.{IsCutShort}
+use Rattle.slots.specs.Opening.{Found, Is, Fresh, Held, opening, OpensAs}
+use Rattle.slots.specs.Saving.{next, save_acts, sync_acts, open_acts, move_acts}
+
+-- nothing is pending, and the areas open as this state under this selector
+pub record Rests {K : Type 0} (found : List ℕ → Found K) (kept : K) (s : ℕ) (disk : Disk) : Type 0 where
+  pub pending : NothingPending disk
+  pub opens : opening found (contents disk) ≡ Held kept s
+
+pub record Saved {K : Type 0} (found : List ℕ → Found K) (old new : K) (s : ℕ) (acts : List Act) (disk : Disk) : Type 0 where
+  -- while the other slot is written, cut and synced: as before
+  pub slot : (n : ℕ) (image : Image) → n ≤ 3 → may_leave disk (take n acts) image ≡ true → opening found image ≡ Held old s
+  -- from then on, while the selector's byte may be torn: as either
+  pub flip : (n : ℕ) (image : Image) → may_leave disk (take n acts) image ≡ true → OpensAs found old image ⊎ OpensAs found new image
+  -- the same where a fault cuts the save short
+  pub short : (did : List Act) (image : Image) → IsCutShort acts did → may_leave disk did image ≡ true →
+      OpensAs found old image ⊎ OpensAs found new image
+  -- in the end as the new one, for good
+  pub done : Rests found new (next s) (after disk acts)
+
+abbrev pub SaveKeeps : Type 0 → Type 0
+SaveKeeps K =
+    (found : List ℕ → Found K) (disk : Disk) (s : ℕ) (old new : K) (bytes : List ℕ) → Rests found old s disk → found bytes ≡ Is new →
+    Saved found old new s (save_acts s bytes) disk
+
+-- nothing is pending, and area 2 holds this selector
+pub record Ready (s : ℕ) (disk : Disk) : Type 0 where
+  pub pending : NothingPending disk
+  pub selector : disk.selector.bytes ≡ s ∷ []
+
+-- What opened as a state, at rest, is ready for a save.
+abbrev pub RestsIsReady : Type 0 → Type 0
+RestsIsReady K = (found : List ℕ → Found K) (kept : K) (s : ℕ) (disk : Disk) → Rests found kept s disk → Ready s disk
+
+-- After a save the areas open as what was saved, whatever the slots held before.
+abbrev pub SaveDone : Type 0 → Type 0
+SaveDone K =
+    (found : List ℕ → Found K) (disk : Disk) (s : ℕ) (new : K) (bytes : List ℕ) → Ready s disk → found bytes ≡ Is new →
+    Rests found new (next s) (after disk (save_acts s bytes))
+
+-- Opening, whatever is pending at first.
+pub record Opens {K : Type 0} (found : List ℕ → Found K) (first : K) (acts : List Act) (disk : Disk) : Type 0 where
+  -- before the third sync has succeeded nothing is written or cut, and there is no new image
+  pub syncs : take 3 acts ≡ sync_acts
+  pub before : (n : ℕ) (image : Image) → n ≤ 3 → may_leave disk (take n acts) image ≡ true → may_hold disk image ≡ true
+  -- from then on each image is what was read
+  pub found_stays : disk.selector.bytes ≢ [] → (n : ℕ) (image : Image) → 3 ≤ n → may_leave disk (take n acts) image ≡ true →
+      image ≡ contents disk
+  pub found_done : (kept : K) (s : ℕ) → opening found (contents disk) ≡ Held kept s → Rests found kept s (after disk acts)
+  -- where area 2 was empty, each opens as fresh or as the first state
+  pub fresh : disk.selector.bytes ≡ [] → (n : ℕ) (image : Image) → 3 ≤ n → may_leave disk (take n acts) image ≡ true →
+      (opening found image ≡ Fresh) ⊎ OpensAs found first image
+  pub fresh_done : disk.selector.bytes ≡ [] → Rests found first 0 (after disk acts)
+
+abbrev pub OpenKeeps : Type 0 → Type 0
+OpenKeeps K =
+    (found : List ℕ → Found K) (disk : Disk) (first : K) (bytes : List ℕ) → (disk.selector.bytes ≡ [] → found bytes ≡ Is first) →
+    Opens found first (open_acts disk.selector.bytes bytes) disk
+
+-- Opening a slot of an older form.
+pub record Moves {K : Type 0} (found : List ℕ → Found K) (kept : K) (s : ℕ) (acts : List Act) (disk : Disk) : Type 0 where
+  pub syncs : take 3 acts ≡ sync_acts
+  pub before : (n : ℕ) (image : Image) → n ≤ 3 → may_leave disk (take n acts) image ≡ true → may_hold disk image ≡ true
+  -- from the third sync on each image opens as what was found
+  pub stays : (n : ℕ) (image : Image) → 3 ≤ n → may_leave disk (take n acts) image ≡ true → OpensAs found kept image
+  pub done : Rests found kept (next s) (after disk acts)
+
+abbrev pub MoveKeeps : Type 0 → Type 0
+MoveKeeps K =
+    (found : List ℕ → Found K) (disk : Disk) (s : ℕ) (kept : K) (bytes : List ℕ) → opening found (contents disk) ≡ Held kept s →
+    found bytes ≡ Is kept → Moves found kept s (move_acts s bytes) disk

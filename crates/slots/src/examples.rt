@@ -1,0 +1,86 @@
+ghost use Rattle.std.specs.Prelude.{◌≡◌, true, false, [], ◌∷◌, ◌++◌, take, length};
+ghost use Rattle.disk.specs.Acts.{Wrote, Cut, Synced, Now, Quiet, Took};
+ghost use Rattle.disk.specs.Disk.{overwritten};
+ghost use Rattle.slots.specs.Opening.{Is, Not, BadSelector, BadSlot, BadJournal, Fresh, Held, Refused};
+ghost use Rattle.slots.specs.Saving.{next, save_acts, open_acts, move_acts, sync_acts, fresh_acts};
+ghost use Rattle.slots.specs.PatchLaws.{patch_acts, TornIsEither};
+ghost use Rattle.slots.specs.Turns.{record_of, heard_events, events, kept_after, last_selector, datagrams, said_first};
+ghost use Rattle.slots.specs.Examples.{counted_found, gated_found, slot, opened_as, leaves, save_leaves, hasty_acts, node_at, three_turns};
+
+/// What areas open as: the selector's parity names the slot, and the other slot may be anything.
+pub fn worked_openings()
+    ensures even { opened_as (slot (1 ∷ [])) (slot (2 ∷ [])) (0 ∷ []) ≡ Held (1 ∷ []) 0 }
+    ensures odd { opened_as (slot (1 ∷ [])) (slot (2 ∷ [])) (3 ∷ []) ≡ Held (2 ∷ []) 3 }
+    ensures other_is_anything { opened_as (slot (1 ∷ [])) (9 ∷ []) (2 ∷ []) ≡ Held (1 ∷ []) 2 }
+    ensures fresh { opened_as [] [] [] ≡ Fresh }
+    ensures fresh_whatever_the_slots_hold { opened_as (9 ∷ []) (slot (2 ∷ [])) [] ≡ Fresh }
+    ensures two_selectors { opened_as (slot (1 ∷ [])) (slot (2 ∷ [])) (0 ∷ 0 ∷ []) ≡ Refused BadSelector }
+    ensures no_slot { opened_as (slot (1 ∷ [])) [] (1 ∷ []) ≡ Refused BadSlot }
+    ensures short_slot { opened_as (2 ∷ 1 ∷ []) (slot (2 ∷ [])) (0 ∷ []) ≡ Refused BadSlot }
+{}
+
+/// The acts of saves and openings.
+pub fn worked_acts()
+    ensures save { save_acts 0 (slot (2 ∷ [])) ≡ Wrote 1 0 (1 ∷ 2 ∷ []) ∷ Cut 1 2 ∷ Synced 1 ∷ Wrote 2 0 (1 ∷ []) ∷ Synced 2 ∷ [] }
+    ensures save_odd { take 4 (save_acts 3 (slot [])) ≡ Wrote 0 0 (0 ∷ []) ∷ Cut 0 1 ∷ Synced 0 ∷ Wrote 2 0 (4 ∷ []) ∷ [] }
+    ensures wraps { next 255 ≡ 0 }
+    ensures open_held { open_acts (3 ∷ []) (slot []) ≡ Synced 0 ∷ Synced 1 ∷ Synced 2 ∷ [] }
+    ensures open_fresh { open_acts [] (slot []) ≡ sync_acts ++ fresh_acts (slot []) }
+    ensures first_slots { take 3 (fresh_acts (slot [])) ≡ Wrote 0 0 (0 ∷ []) ∷ Cut 0 1 ∷ Synced 0 ∷ [] }
+    ensures first_selector { length (fresh_acts (slot [])) ≡ 8 }
+    ensures moved { take 4 (move_acts 0 (slot [])) ≡ Synced 0 ∷ Synced 1 ∷ Synced 2 ∷ Wrote 1 0 (0 ∷ []) ∷ [] }
+{}
+
+/// What a crash leaves of a save: a torn slot is one that the selector does not name yet, and a torn selector names a whole slot.
+pub fn worked_saves()
+    ensures torn_slot { save_leaves 2 (9 ∷ 9 ∷ 9 ∷ []) (0 ∷ []) ≡ true }
+    ensures torn_early { save_leaves 2 (slot (2 ∷ 2 ∷ [])) (1 ∷ []) ≡ false }
+    ensures torn_selector { save_leaves 4 (slot (2 ∷ 2 ∷ [])) (127 ∷ []) ≡ true }
+    ensures torn_late { save_leaves 4 (9 ∷ 9 ∷ 9 ∷ []) (1 ∷ []) ≡ false }
+    ensures in_the_end { save_leaves 5 (slot (2 ∷ 2 ∷ [])) (1 ∷ []) ≡ true }
+    ensures not_as_before { save_leaves 5 (slot (2 ∷ 2 ∷ [])) (0 ∷ []) ≡ false }
+{}
+
+/// A patch of a slot with a journal: a record after a closed gate, and then its gate, which is one byte.
+pub fn worked_journals()
+    ensures closed { gated_found (1 ∷ 0 ∷ 9 ∷ 9 ∷ []) ≡ Is 1 }
+    ensures opened { gated_found (1 ∷ 1 ∷ 2 ∷ 0 ∷ []) ≡ Is 2 }
+    ensures no_record { gated_found (1 ∷ 1 ∷ []) ≡ Not BadJournal }
+    ensures acts { patch_acts 0 1 (1 ∷ []) ≡ Wrote 0 1 (1 ∷ []) ∷ Synced 0 ∷ [] }
+    ensures torn_record { leaves (1 ∷ 0 ∷ []) (take 1 (patch_acts 0 2 (2 ∷ 0 ∷ []))) (1 ∷ 0 ∷ 9 ∷ 9 ∷ []) (slot (1 ∷ [])) (0 ∷ []) ≡ true }
+    ensures torn_gate { leaves (1 ∷ 0 ∷ 2 ∷ 0 ∷ []) (take 1 (patch_acts 0 1 (1 ∷ [])))
+        (1 ∷ 77 ∷ 2 ∷ 0 ∷ []) (slot (1 ∷ [])) (0 ∷ []) ≡ true }
+    ensures any_gate { TornIsEither gated_found 1 2 (1 ∷ 0 ∷ 2 ∷ 0 ∷ []) 1 (1 ∷ []) }
+{}
+
+/// In another order a crash may leave what opens as neither the old state nor the new one: with a selector before its slot's sync,
+/// a slot that was not cut, a gate before its record's sync, and both in one write.
+pub fn worked_wrong_orders()
+    ensures hasty { leaves (slot (1 ∷ [])) (take 3 (hasty_acts (slot (2 ∷ 2 ∷ [])))) (slot (1 ∷ [])) (9 ∷ 9 ∷ 9 ∷ []) (1 ∷ []) ≡ true }
+    ensures hasty_lost { opened_as (slot (1 ∷ [])) (9 ∷ 9 ∷ 9 ∷ []) (1 ∷ []) ≡ Refused BadSlot }
+    ensures uncut_lost { counted_found (overwritten (slot (1 ∷ 1 ∷ 1 ∷ [])) 0 (slot (2 ∷ []))) ≡ Not BadSlot }
+    ensures gate_first { leaves (1 ∷ 0 ∷ []) (Wrote 0 2 (2 ∷ 0 ∷ []) ∷ Wrote 0 1 (1 ∷ []) ∷ [])
+        (1 ∷ 1 ∷ 9 ∷ 9 ∷ []) (slot (1 ∷ [])) (0 ∷ []) ≡ true }
+    ensures gate_first_lost { gated_found (1 ∷ 1 ∷ 9 ∷ 9 ∷ []) ≡ Not BadJournal }
+    ensures in_one { leaves (1 ∷ 0 ∷ []) (Wrote 0 1 (1 ∷ 2 ∷ 0 ∷ []) ∷ []) (1 ∷ 1 ∷ 9 ∷ 0 ∷ []) (slot (1 ∷ [])) (0 ∷ []) ≡ true }
+    ensures in_one_other { gated_found (1 ∷ 1 ∷ 9 ∷ 0 ∷ []) ≡ Is 9 }
+{}
+
+/// A turn without an event, one with a datagram and its answer, and one whose answer is lost.
+pub fn worked_turns()
+    ensures acts { take 5 (record_of three_turns) ≡
+        Now 5 ∷ Quiet 300 ∷ Now 305 ∷ Took 100 (node_at 7001) (8 ∷ []) ∷ Wrote 1 0 (1 ∷ 2 ∷ []) ∷ [] }
+    ensures all_acts { length (record_of three_turns) ≡ 17 }
+    ensures none_heard { heard_events three_turns 3 ≡ 0 }
+    ensures one_heard { heard_events three_turns 4 ≡ 1 }
+    ensures still_one { heard_events three_turns 10 ≡ 1 }
+    ensures two_heard { heard_events three_turns 11 ≡ 2 }
+    ensures two_events { events three_turns ≡ 2 }
+    ensures kept_at_first { kept_after three_turns (1 ∷ []) 0 ≡ 1 ∷ [] }
+    ensures kept_after_one { kept_after three_turns (1 ∷ []) 1 ≡ 2 ∷ [] }
+    ensures kept_in_the_end { kept_after three_turns (1 ∷ []) 2 ≡ 3 ∷ [] }
+    ensures selector { last_selector three_turns 0 ≡ 2 }
+    ensures said_at_first { said_first three_turns 0 ≡ [] }
+    ensures said_after_one { said_first three_turns 1 ≡ (node_at 7001, 9 ∷ []) ∷ [] }
+    ensures sent { datagrams (record_of three_turns) ≡ (node_at 7001, 9 ∷ []) ∷ (node_at 7002, 7 ∷ []) ∷ [] }
+{}

@@ -1,0 +1,15 @@
+//! A state in two slots and a selector: what three areas open as, the acts that open, save and patch them, and what a crash leaves at
+//! each moment of these and of a node's whole run. It knows nothing of what a slot is made of, nor of devices.
+#![tactic(auto)]
+
+mod examples;
+mod patch;
+mod running;
+mod saving;
+
+pub use examples::{
+    worked_acts, worked_journals, worked_openings, worked_saves, worked_turns, worked_wrong_orders,
+};
+pub use patch::patches;
+pub use running::{runs, ways_to_keep};
+pub use saving::laws;

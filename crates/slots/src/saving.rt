@@ -1,0 +1,19 @@
+ghost use Rattle.slots.specs.SavingLaws.{MoveKeeps, OpenKeeps, RestsIsReady, SaveDone, SaveKeeps};
+
+/// What holds of opening and saving states of any type, whatever a slot is made of.
+pub fn laws<K>()
+    // At each moment of a save a crash leaves the state from before it or the new one, and after it the new one.
+    ensures saves { SaveKeeps K }
+
+    // What was saved is what the areas open as, whatever the slots held.
+    ensures saved { SaveDone K }
+
+    // What opened is ready for a save.
+    ensures ready { RestsIsReady K }
+
+    // Opening leaves what it finds, whatever was pending before; where nothing was saved yet, the first state or nothing.
+    ensures opens { OpenKeeps K }
+
+    // Opening a slot of an older form leaves the state that it finds, and saves it in the present form.
+    ensures moves { MoveKeeps K }
+{}
