@@ -1,0 +1,24 @@
+use Rattle.std.proofs.Common.{◌≤◌, arith, subst}
+use Rattle.std.proofs.lemmas.Result.{on_ok_weaker}
+use Rattle.node_body.specs.Bodies.{log}
+use Rattle.node_body.specs.BodyLaws.{body_fits}
+use Rattle.vst_base.specs.declared.entry.TheConstants.{MAX_TERM}
+use Rattle.wire_fields.specs.Fronts.{front_stays}
+use Rattle.wire_messages.specs.EntryBytes.{entry}
+use Rattle.node_body.proofs.body.put_body.Goals as goal
+
+pub returns-clause-fits : goal.returns-clause-fits
+returns-clause-fits g c =
+    let term : c.args.kept.now.term ≤ MAX_TERM = omega (arith, c.term.ensures.value, c.term.ensures.in_range) in
+    on_ok_weaker c.put_log.result
+    (λ entries. body_fits g.C.Commands.stack g.C.Wire.format c.args.who.now c.args.kept.now c.requires.stack c.requires.nodes c.requires.me c.in_ok-put_owner.ensures.fits term c.requires.voted
+    (subst (log (entry g.C.Wire.format)).Fits c.log.ensures.value entries))
+    c.put_log.ensures.fits
+
+pub returns-clause-err : goal.returns-clause-err
+returns-clause-err g c =
+    let result = c.put_log.result in
+    let new = c.put_log.new.out.items in
+    front_stays result c.args.out.now.items _ c.put_owner.new.out.items new c.in_ok-put_owner.ensures.ok
+    (front_stays result c.put_owner.new.out.items _ c.put_u64.new.out.items new c.in_ok-put_u64.ensures.ok
+    (front_stays result c.put_u64.new.out.items _ c.put_vote.new.out.items new c.in_ok-put_vote.ensures.ok c.put_log.ensures.err))

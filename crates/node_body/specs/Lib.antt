@@ -1,0 +1,14 @@
+pub mod Bodies
+pub mod BodyLaws
+pub mod Journals
+pub mod JournalLaws
+pub mod Steps
+pub mod Slots
+pub mod SlotLaws
+pub mod FoundLaws
+pub mod GateLaws
+pub mod WhyLaws
+pub mod VoteLaws
+pub mod CommandLengths
+pub mod BaseLaws
+pub mod Examples

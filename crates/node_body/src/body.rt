@@ -1,0 +1,184 @@
+ghost use Rattle.std.specs.Prelude.{◌≡◌, ◌<◌, ◌∷◌, ◌++◌, IfOk, IfSome, OnErr, OnOk, Some};
+ghost use Rattle.node_body.specs.Bodies.{NameFits, VoteAmong, body, body_of, label, mark, owner, owner_of, read_body};
+ghost use Rattle.node_body.specs.VoteLaws.{MayKeep};
+ghost use Rattle.raft_types.specs.Ranges.{IsClusterSize};
+ghost use Rattle.wire_codec.specs.Headings.{stack_byte};
+ghost use Rattle.wire_fields.specs.Bytes.{number_bytes};
+ghost use Rattle.wire_fields.specs.Fields.{Reads, StandsBefore};
+ghost use Rattle.wire_messages.specs.Wires.{Takes, read_whole};
+
+use crate::kept::take_kept;
+use crate::log::put_log;
+use crate::vote::put_vote;
+use crate::{Commands, Owner, Version, Who};
+use raft_types::Kept;
+use std::alloc::{AllocError, Global};
+use wire_fields::{Input, NAME_LEN, put_u8, put_u64};
+
+/// A node's state as its bytes say it: the version that they are spelled in, whose it is, and what the node keeps.
+#[derive(Debug, Drop)]
+pub struct Body<C> {
+    pub version: Version,
+    pub owner: Owner,
+    pub kept: Kept<C>,
+}
+
+fn read_mark(input: &mut Input<'_>) -> Option<Version>
+    ensures { Reads mark input.old input.new result }
+{
+    match (input.byte()?, input.byte()?) {
+        (b'S', 1) => Some(Version::One),
+        (b'S', 2) => Some(Version::Two),
+        _ => None,
+    }
+}
+
+// The name of the cluster, where the version has one.
+fn read_label(input: &mut Input<'_>, version: Version) -> Option<Option<[u8; NAME_LEN]>>
+    ensures { Reads (label version) input.old input.new result }
+{
+    match version {
+        Version::One => Some(None),
+        Version::Two => Some(Some(input.name()?)),
+    }
+}
+
+// Whose state it is, where it is one of the stack.
+fn read_owner<C: Commands>(input: &mut Input<'_>, version: Version) -> Option<Owner>
+    ensures { Reads (owner C.stack version) input.old input.new result }
+{
+    if input.byte()? != C::byte() {
+        return None;
+    }
+    let me = input.u8(0, 255)?;
+    let nodes = input.u8(1, version.most_nodes())?;
+    let name = read_label(input, version)?;
+    if me >= nodes {
+        return None;
+    }
+    Some(Owner {
+        stack: C::stack(),
+        me,
+        nodes,
+        name,
+    })
+}
+
+// The body that stands in front.
+fn take_front<C: Commands>(
+    alloc: Global,
+    input: &mut Input<'_>,
+) -> Result<Option<Body<C>>, AllocError>
+    ensures { Takes (body C.stack C.format) input.old input.new result }
+{
+    let Some(version) = read_mark(input) else {
+        return Ok(None);
+    };
+    let Some(owner) = read_owner::<C>(input, version) else {
+        return Ok(None);
+    };
+    let Some(kept) = take_kept(alloc, input, version, owner.nodes)? else {
+        return Ok(None);
+    };
+    Ok(Some(Body {
+        version,
+        owner,
+        kept,
+    }))
+}
+
+/// The body of either version that all of the bytes are. `None` comes exactly where they are no body of the stack of
+/// these commands, or its node is not one of its nodes.
+pub fn take_any_body<C: Commands>(
+    alloc: Global,
+    bytes: &[u8],
+) -> Result<Option<Body<C>>, AllocError>
+    ensures { IfOk result (λ found. found ≡ read_whole (body C.stack C.format) bytes.now) }
+{
+    let mut input = Input::new(bytes);
+    let Some(found) = take_front(alloc, &mut input)? else {
+        return Ok(None);
+    };
+    match input.rest() {
+        [] => Ok(Some(found)),
+        [_, ..] => Ok(None),
+    }
+}
+
+// Whose state all of the bytes are in version 2, and the state. That these are in range follows.
+fn take_named<C: Commands>(
+    alloc: Global,
+    bytes: &[u8],
+) -> Result<Option<(Who, Kept<C>)>, AllocError>
+    ensures { IfOk result (λ found. found ≡ read_body C.stack C.format bytes.now) }
+{
+    let Some(found) = take_any_body::<C>(alloc, bytes)? else {
+        return Ok(None);
+    };
+    let Some(name) = found.owner.name else {
+        return Ok(None);
+    };
+    Ok(Some((found.owner.named(name), found.kept)))
+}
+
+/// Whose state all of the bytes are, and the state. `None` comes exactly where they are no body of version 2 of the stack
+/// of these commands, or its node is not one of its nodes.
+pub fn take_body<C: Commands>(
+    alloc: Global,
+    bytes: &[u8],
+) -> Result<Option<(Who, Kept<C>)>, AllocError>
+    ensures found { IfOk result (λ found. found ≡ read_body C.stack C.format bytes.now) }
+    ensures keeps { IfOk result (λ found. IfSome found (λ p. MayKeep C.stack p.0 p.1)) }
+{
+    take_named(alloc, bytes)
+}
+
+// Adds the name of a cluster at the end, or nothing.
+fn put_name(out: &mut Vec<u8>, name: &[u8; NAME_LEN]) -> Result<(), AllocError>
+    ensures ok { OnOk result (out.new.items ≡ out.old.items ++ name.now) }
+    ensures fits { OnOk result (NameFits (Some name.now)) }
+    ensures err { OnErr result (out.new.items ≡ out.old.items) }
+{
+    out.extend_from_slice(name)
+}
+
+// Adds the mark and the node at the end, or a part of it.
+#[tactic(auto, using(wire_fields::specs::Fronts::front_stays))]
+fn put_node<C: Commands>(out: &mut Vec<u8>, me: u8, nodes: u8) -> Result<(), AllocError>
+    ensures ok { OnOk result (out.new.items ≡ out.old.items
+        ++ (mark.spell Version.Two ++ (stack_byte C.stack ∷ (number_bytes 1 me ++ number_bytes 1 nodes)))) }
+    ensures err { OnErr result (StandsBefore out.old.items out.new.items) }
+{
+    out.extend_from_slice(&[b'S', 2, C::byte()])?;
+    put_u8(out, me)?;
+    put_u8(out, nodes)
+}
+
+// Adds what stands before the state at the end, or a part of it.
+#[tactic(auto, using(wire_fields::specs::Fronts::front_stays))]
+fn put_owner<C: Commands>(out: &mut Vec<u8>, who: &Who) -> Result<(), AllocError>
+    ensures ok { OnOk result (out.new.items ≡ out.old.items
+        ++ (mark.spell Version.Two ++ (owner C.stack Version.Two).spell (owner_of who.now))) }
+    ensures fits { OnOk result (NameFits (Some who.now.name)) }
+    ensures err { OnErr result (StandsBefore out.old.items out.new.items) }
+{
+    put_node::<C>(out, who.me, who.nodes)?;
+    put_name(out, &who.name)
+}
+
+/// Adds the body of version 2 of a node that keeps this at the end, or a part of it.
+#[tactic(auto, using(wire_fields::specs::Fronts::front_stays))]
+pub fn put_body<C: Commands>(out: &mut Vec<u8>, who: &Who, kept: &Kept<C>) -> Result<(), AllocError>
+    requires stack { who.now.stack ≡ C.stack }
+    requires nodes { IsClusterSize who.now.nodes }
+    requires me { who.now.me < who.now.nodes }
+    requires voted { VoteAmong who.now.nodes kept.now.voted }
+    ensures ok { OnOk result (out.new.items ≡ out.old.items ++ (body C.stack C.format).spell (body_of who.now kept.now)) }
+    ensures fits { OnOk result ((body C.stack C.format).Fits (body_of who.now kept.now)) }
+    ensures err { OnErr result (StandsBefore out.old.items out.new.items) }
+{
+    put_owner::<C>(out, who)?;
+    put_u64(out, kept.term())?;
+    put_vote(out, kept.voted())?;
+    put_log(out, kept.log())
+}

@@ -1,0 +1,94 @@
+ghost use Rattle.std.specs.Prelude.{◌≡◌, ◌∷◌, ◌++◌, [], None, Some, Ok, Err, codes, take, drop};
+ghost use Rattle.kv_machine.specs.declared.cmd.KvCmd.TheVariants as command;
+ghost use Rattle.node_body.specs.Bodies.{body, body_of, kept_as, read_body};
+ghost use Rattle.node_body.specs.Examples.{cluster, first_kept, first_slot, first_state, found, found_by, journal_left, new_body, new_held, no_op, no_op_record, number_of_eight, number_of_four, old_body, old_first, old_held, old_put, old_voted, one_entry, other_cluster, slot, table_put, vote_record, voted_kept, voted_slot, voted_state, who_as};
+ghost use Rattle.node_body.specs.Journals.{journal_as};
+ghost use Rattle.node_body.specs.declared.why.Why.TheVariants as why;
+ghost use Rattle.vst_base.specs.declared.stack.StackId.TheVariants as stack;
+ghost use Rattle.vst_base.specs.declared.what.What.TheVariants as what;
+ghost use Rattle.wire_messages.specs.KvBytes.{kv_command};
+
+/// Bodies are put and taken.
+#[tactic(auto, unfolding(wire_fields::specs::Bytes::number_bytes, wire_fields::specs::Bytes::number_in, wire_fields::specs::Bytes::has_bytes, wire_fields::specs::Bytes::read_number, crate::specs::Journals::from_gate))]
+pub fn worked_bodies()
+    ensures put { (body stack.KvRaft kv_command).spell (body_of (who_as 0 3 cluster) voted_kept) ≡ new_body 5 0 3 voted_state }
+    ensures taken { read_body stack.KvRaft kv_command (new_body 5 0 3 voted_state) ≡ Some (who_as 0 3 cluster, voted_kept) }
+    ensures a_no_op { read_body stack.KvRaft kv_command (new_body 5 0 3 (one_entry no_op))
+        ≡ Some (who_as 0 3 cluster, kept_as 1 (Some 1) (record { term = 1; what = what.Noop } ∷ [])) }
+    ensures of_version_one { read_body stack.KvRaft kv_command (old_body 5 0 3 voted_state) ≡ None }
+    ensures a_byte_after { read_body stack.KvRaft kv_command (new_body 5 0 3 voted_state ++ 0 ∷ []) ≡ None }
+    ensures no_request_without_its_byte { read_body stack.KvRaft kv_command (new_body 5 0 3 (one_entry old_put)) ≡ None }
+{}
+
+/// What slots are for node 0 of 3.
+#[tactic(auto, unfolding(wire_fields::specs::Bytes::number_bytes, wire_fields::specs::Bytes::number_in, wire_fields::specs::Bytes::has_bytes, wire_fields::specs::Bytes::read_number, crate::specs::Journals::from_gate))]
+pub fn worked_slots()
+    ensures old_first { found old_first ≡ Ok (old_held first_kept 0 0) }
+    ensures old_voted { found old_voted ≡ Ok (old_held voted_kept 0 0) }
+    ensures old_put { found (slot 49 (old_body 5 0 3 (one_entry old_put)))
+        ≡ Ok (old_held (kept_as 1 (Some 1)
+        (record { term = 1; what = what.Request 7 1 0 (command.Put (codes "a") (codes "x")) } ∷ [])) 0 0) }
+    ensures first { found (first_slot ++ 0 ∷ []) ≡ Ok (new_held first_kept 1000 0) }
+    ensures voted { found (voted_slot ++ 0 ∷ []) ≡ Ok (new_held voted_kept 1000 0) }
+    ensures without_a_gate { found voted_slot ≡ Ok (new_held voted_kept 0 0) }
+{}
+
+/// What stands after a body.
+#[tactic(auto, unfolding(wire_fields::specs::Bytes::number_bytes, wire_fields::specs::Bytes::number_in, wire_fields::specs::Bytes::has_bytes, wire_fields::specs::Bytes::read_number, crate::specs::Journals::from_gate))]
+pub fn worked_journals()
+    ensures one_record { found (first_slot ++ 1 ∷ (vote_record ++ 0 ∷ [])) ≡ Ok (new_held voted_kept 999 0) }
+    ensures two_records { found (first_slot ++ 1 ∷ (vote_record ++ 1 ∷ (no_op_record 0 ++ 0 ∷ [])))
+        ≡ Ok (new_held (kept_as 1 (Some 1) (record { term = 1; what = what.Noop } ∷ [])) 998 0) }
+    ensures cuts_the_log { found (slot 43 (new_body 5 0 3 (one_entry no_op)) ++ 1 ∷ (vote_record ++ 0 ∷ [])) ≡ Ok (new_held voted_kept 999 0) }
+    ensures adds_to_the_log { found (slot 43 (new_body 5 0 3 (one_entry no_op)) ++ 1 ∷ (no_op_record 1 ++ 0 ∷ []))
+        ≡ Ok (new_held (kept_as 1 (Some 1) (record { term = 1; what = what.Noop } ∷ record { term = 1; what = what.Noop } ∷ [])) 999 0) }
+    ensures of_an_old_slot { found (old_first ++ 1 ∷ (vote_record ++ 0 ∷ [])) ≡ Ok (old_held voted_kept 999 0) }
+
+    // An even gate hides what stands after it.
+    ensures hidden { found (old_first ++ 2 ∷ 255 ∷ 255 ∷ []) ≡ Ok (old_held first_kept 1000 2) }
+    ensures hidden_record { found (first_slot ++ 0 ∷ (vote_record ++ 0 ∷ [])) ≡ Ok (new_held first_kept 1000 18) }
+    ensures hidden_part { found (first_slot ++ 0 ∷ take 9 vote_record) ≡ Ok (new_held first_kept 1000 9) }
+
+    // A gate that is torn is even or odd.
+    ensures torn_even { found (first_slot ++ 126 ∷ (vote_record ++ 0 ∷ [])) ≡ Ok (new_held first_kept 1000 18) }
+    ensures torn_odd { found (first_slot ++ 127 ∷ (vote_record ++ 0 ∷ [])) ≡ Ok (new_held voted_kept 999 0) }
+
+    // An odd gate needs a whole record in its ranges, and a gate after it.
+    ensures no_record { found (old_first ++ 1 ∷ []) ≡ Err why.Journal }
+    ensures part_of_a_record { found (first_slot ++ 1 ∷ take 16 vote_record) ≡ Err why.Journal }
+    ensures no_gate_after { found (first_slot ++ 1 ∷ vote_record) ≡ Err why.Journal }
+    ensures more_kept_than_there_is { found (first_slot ++ 1 ∷ (no_op_record 1 ++ 0 ∷ [])) ≡ Err why.Journal }
+    ensures no_op_in_an_old_slot { found (old_first ++ 1 ∷ (no_op_record 0 ++ 0 ∷ [])) ≡ Err why.Journal }
+    ensures the_last_record { journal_left 1 (1 ∷ (vote_record ++ 0 ∷ [])) ≡ Some (journal_as voted_kept 0 0) }
+    ensures a_record_too_many { journal_left 0 (1 ∷ (vote_record ++ 0 ∷ [])) ≡ None }
+{}
+
+/// Each why, and that the first is given.
+#[tactic(auto, unfolding(wire_fields::specs::Bytes::number_bytes, wire_fields::specs::Bytes::number_in, wire_fields::specs::Bytes::has_bytes, wire_fields::specs::Bytes::read_number, crate::specs::Journals::from_gate))]
+pub fn worked_refusals()
+    ensures no_bytes { found [] ≡ Err why.Slot }
+    ensures part_of_a_length { found (0 ∷ 0 ∷ 0 ∷ []) ≡ Err why.Slot }
+    ensures cut_short { found (take 21 old_voted) ≡ Err why.Slot }
+    ensures another_letter { found (slot 18 (84 ∷ drop 1 (old_body 5 0 3 first_state))) ≡ Err why.Body }
+    ensures version_three { found (slot 34 (83 ∷ 3 ∷ drop 2 (new_body 5 0 3 first_state))) ≡ Err why.Body }
+    ensures a_byte_more { found (slot 19 (old_body 5 0 3 first_state ++ 0 ∷ [])) ≡ Err why.Body }
+    ensures another_stack_of_packets { found (slot 18 (old_body 4 0 3 first_state)) ≡ Err why.Body }
+    ensures no_such_node { found (slot 34 (new_body 5 3 3 first_state)) ≡ Err why.Body }
+    ensures six_old_nodes { found (slot 18 (old_body 5 0 6 first_state)) ≡ Err why.Body }
+    ensures ten_nodes { found (slot 34 (new_body 5 0 10 first_state)) ≡ Err why.Body }
+    ensures vote_for_no_such_node { found (slot 34 (new_body 5 0 3 (number_of_eight 0 ++ (3 ∷ number_of_four 0)))) ≡ Err why.Body }
+    ensures term_past_the_greatest { found (slot 34 (new_body 5 0 3 (128 ∷ drop 1 first_state))) ≡ Err why.Body }
+    ensures another_stack { found (slot 34 (new_body 7 0 3 first_state)) ≡ Err (why.Stack 7 5) }
+    ensures with_its_commands { found (slot 48 (old_body 7 0 3 (one_entry table_put))) ≡ Err (why.Stack 7 5) }
+    ensures with_others { found (slot 49 (old_body 7 0 3 (one_entry old_put))) ≡ Err why.Body }
+    ensures another_node { found (slot 34 (new_body 5 1 3 first_state)) ≡ Err (why.Node 1 0) }
+    ensures another_size { found (slot 34 (new_body 5 0 5 first_state)) ≡ Err (why.Cluster 5 3) }
+    ensures another_name { found_by (who_as 0 3 other_cluster) (voted_slot ++ 0 ∷ []) ≡ Err (why.Name cluster other_cluster) }
+    ensures no_name { found_by (who_as 0 3 other_cluster) old_voted ≡ Ok (old_held voted_kept 0 0) }
+
+    // The first that applies.
+    ensures journal_before_stack { found (slot 34 (new_body 7 0 3 first_state) ++ 1 ∷ []) ≡ Err why.Journal }
+    ensures stack_before_node { found (slot 34 (new_body 7 1 5 first_state)) ≡ Err (why.Stack 7 5) }
+    ensures node_before_size { found (slot 34 (new_body 5 1 5 first_state)) ≡ Err (why.Node 1 0) }
+    ensures size_before_name { found_by (who_as 0 5 other_cluster) voted_slot ≡ Err (why.Cluster 3 5) }
+{}

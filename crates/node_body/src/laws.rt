@@ -1,0 +1,45 @@
+ghost use Rattle.std.specs.Prelude.{◌≡◌, ℕ, List, Some, Err};
+ghost use Rattle.node_body.specs.BaseLaws.{BaseIsFound};
+ghost use Rattle.node_body.specs.Bodies.{IsBodyOf, body, read_body};
+ghost use Rattle.node_body.specs.FoundLaws.{ClosedGateHides, GateIsEither, OpenGateAdds, RecordIsHarmless};
+ghost use Rattle.node_body.specs.GateLaws.{LastGateStands};
+ghost use Rattle.node_body.specs.Slots.{sized, slot_found};
+ghost use Rattle.node_body.specs.WhyLaws.{HasNoBody};
+ghost use Rattle.node_body.specs.declared.who.Who.{Who};
+ghost use Rattle.raft_types.specs.Keeping.{KeptView};
+ghost use Rattle.wire_fields.specs.Formats.{IsFormat};
+
+use crate::{Commands, Why};
+
+/// Each body has one spelling in its version; what is put reads back, and what is taken has no other bytes.
+pub fn bodies_have_one_spelling<C: Commands>()
+    ensures bodies { IsFormat (body C.stack C.format) }
+    ensures slots { IsFormat sized }
+    ensures reads_back { (bs : List ℕ) (who : Who) (k : KeptView C) → IsBodyOf C.stack C.format who k bs
+        → read_body C.stack C.format bs ≡ Some (who, k) }
+    ensures one_spelling { (bs : List ℕ) (who : Who) (k : KeptView C) → read_body C.stack C.format bs ≡ Some (who, k)
+        → IsBodyOf C.stack C.format who k bs }
+{}
+
+/// Which bytes are no body to a node, and that it finds the state in its base.
+pub fn bodies_are_found<C: Commands, D: Commands>()
+    ensures bases { BaseIsFound C.stack C.format D.stack D.format }
+    ensures none { (who : Who) (bs : List ℕ) → HasNoBody C.stack C.format D.stack D.format bs
+        → slot_found C.stack C.format D.stack D.format who bs ≡ Err Why.Body }
+    ensures none_alone { (who : Who) (bs : List ℕ) → slot_found C.stack C.format D.stack D.format who bs ≡ Err Why.Body
+        → HasNoBody C.stack C.format D.stack D.format bs }
+{}
+
+/// What a node finds in a slot, whatever a crash makes of what is written from its last gate on.
+pub fn gates_are_exact<C: Commands, D: Commands>()
+    // Where a record may follow there is a gate, and what it hides has no part in the state.
+    ensures stands { LastGateStands C.stack C.format D.stack D.format }
+    // What stands after a closed gate is not read.
+    ensures hides { ClosedGateHides C.stack C.format D.stack D.format }
+    // A record counts as soon as its gate is open, and whole.
+    ensures adds { OpenGateAdds C.stack C.format D.stack D.format }
+    // A record that is torn after a closed gate changes nothing.
+    ensures harmless { RecordIsHarmless C.stack C.format D.stack D.format }
+    // A gate that is torn leaves the state before the record or the one after it.
+    ensures either { GateIsEither C.stack C.format D.stack D.format }
+{}

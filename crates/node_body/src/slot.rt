@@ -1,0 +1,116 @@
+ghost use Rattle.std.specs.Prelude.{◌≡◌, IfOk, MatchOption, Some, None};
+ghost use Rattle.node_body.specs.Bodies.{VoteAmong};
+ghost use Rattle.node_body.specs.Slots.{difference, of_own, read_slot, sized, slot_found};
+
+use crate::{Commands, Journal, Owner, Version, Who, Why, read_journal, take_any_body};
+use std::alloc::{AllocError, Global};
+use wire_fields::Input;
+
+/// What a slot holds: whose state it is, the version that it is spelled in, and the state after its records.
+#[derive(Debug, Drop)]
+pub struct Held<C> {
+    pub version: Version,
+    pub owner: Owner,
+    pub journal: Journal<C>,
+}
+
+// The bytes whose number stands in front, and what stands after them.
+#[tactic(auto, using(crate::proofs::Parts::part_there, crate::proofs::Parts::part_short))]
+fn split(bytes: &[u8]) -> Option<(&[u8], &[u8])>
+    ensures { MatchOption result (sized.read bytes.now ≡ None) (λ p. sized.read bytes.now ≡ Some (p.0.now, p.1.now)) }
+{
+    let mut input = Input::new(bytes);
+    let len = input.u32(0, u32::MAX)? as usize;
+    let rest = input.rest();
+    if rest.len() < len {
+        return None;
+    }
+    Some((&rest[..len], &rest[len..]))
+}
+
+/// What a slot of the stack of these commands holds, or the first why of `Slot`, `Body` and `Journal` that applies.
+pub fn read_slot<C: Commands>(
+    alloc: Global,
+    bytes: &[u8],
+) -> Result<Result<Held<C>, Why>, AllocError>
+    ensures { IfOk result (λ slot. slot ≡ read_slot C.stack C.format bytes.now) }
+{
+    let Some((body, rest)) = split(bytes) else {
+        return Ok(Err(Why::Slot));
+    };
+    let Some(body) = take_any_body::<C>(alloc, body)? else {
+        return Ok(Err(Why::Body));
+    };
+    let version = body.version;
+    let owner = body.owner;
+    let Some(journal) = read_journal(alloc, rest, version, owner.nodes, body.kept)? else {
+        return Ok(Err(Why::Journal));
+    };
+    Ok(Ok(Held {
+        version,
+        owner,
+        journal,
+    }))
+}
+
+// The first in which the owner differs from the node that asks.
+fn difference(who: &Who, owner: &Owner) -> Option<Why>
+    ensures { result ≡ difference who.now owner.now }
+{
+    if owner.me != who.me {
+        return Some(Why::Node {
+            kept: owner.me,
+            configured: who.me,
+        });
+    }
+    if owner.nodes != who.nodes {
+        return Some(Why::Cluster {
+            kept: owner.nodes,
+            configured: who.nodes,
+        });
+    }
+    match owner.name {
+        Some(name) if name != who.name => Some(Why::Name {
+            kept: name,
+            configured: who.name,
+        }),
+        _ => None,
+    }
+}
+
+// What a slot is for a node that asks. That its vote is in range follows.
+fn slot_for<C: Commands, D: Commands>(
+    alloc: Global,
+    who: &Who,
+    bytes: &[u8],
+) -> Result<Result<Held<C>, Why>, AllocError>
+    ensures { IfOk result (λ slot. slot ≡ slot_found C.stack C.format D.stack D.format who.now bytes.now) }
+{
+    match read_slot::<C>(alloc, bytes)? {
+        Ok(held) => match difference(who, &held.owner) {
+            None => Ok(Ok(held)),
+            Some(why) => Ok(Err(why)),
+        },
+        Err(Why::Body) => match read_slot::<D>(alloc, bytes)? {
+            Ok(_other) => Ok(Err(Why::Stack {
+                kept: D::byte(),
+                configured: C::byte(),
+            })),
+            Err(why) => Ok(Err(why)),
+        },
+        Err(why) => Ok(Err(why)),
+    }
+}
+
+/// What a slot is for a node that asks: the state that it holds, or the first why that applies. `C` are the commands of the
+/// node's stack, and `D` those of the other.
+pub fn find_slot<C: Commands, D: Commands>(
+    alloc: Global,
+    who: &Who,
+    bytes: &[u8],
+) -> Result<Result<Held<C>, Why>, AllocError>
+    ensures found { IfOk result (λ slot. slot ≡ slot_found C.stack C.format D.stack D.format who.now bytes.now) }
+    ensures voted { IfOk result (λ slot. IfOk slot (λ held. VoteAmong who.now.nodes held.journal.kept.voted)) }
+{
+    slot_for::<C, D>(alloc, who, bytes)
+}
