@@ -16,7 +16,10 @@ pub enum Command {
 /// A schedule that is not given but made: for this stack, from this number, and with so many steps.
 #[derive(Clone, Copy, Debug, PartialEq, Eq)]
 pub struct MadeSchedule {
+    /// A stack whose network carries packets: any but a machine alone.
     pub stack: StackId,
+    /// The number that it is made from: any.
     pub seed: u32,
+    /// How many steps it has, at most `MAX_STEPS`.
     pub steps: u32,
 }

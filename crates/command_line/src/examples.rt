@@ -111,8 +111,10 @@ pub fn worked_schedules()
         ≡ Some (Command.Summarize (made_schedule StackId.KvRaft 4294967295 1000000)) }
 
     // An option that is missing, or has no value.
-    ensures no_options { command_of (codes "vst" ∷ codes "make" ∷ []) ≡ None }
-    ensures no_seed { command_of (codes "vst" ∷ codes "make" ∷ codes "--stack=lock" ∷ codes "--steps=1" ∷ []) ≡ None }
+    ensures no_options { takes_words (codes "vst" ∷ codes "make" ∷ []) ≡ false }
+    ensures no_stack { takes_words (codes "vst" ∷ codes "make" ∷ codes "--seed=1" ∷ codes "--steps=1" ∷ []) ≡ false }
+    ensures no_seed { takes_words (codes "vst" ∷ codes "make" ∷ codes "--stack=lock" ∷ codes "--steps=1" ∷ []) ≡ false }
+    ensures no_steps { takes_words (codes "vst" ∷ codes "make" ∷ codes "--stack=lock" ∷ codes "--seed=1" ∷ []) ≡ false }
     ensures no_value { command_of (codes "vst" ∷ codes "make" ∷ codes "--stack=lock" ∷ codes "--seed=1" ∷ codes "--steps" ∷ []) ≡ None }
     ensures empty_value { command_of (codes "vst" ∷ codes "make" ∷ codes "--stack=lock" ∷ codes "--seed=" ∷ codes "--steps=1" ∷ []) ≡ None }
 

@@ -1,41 +1,19 @@
 -- Inputs that are made have texts, and short ones.
 use Rattle.std.specs.Prelude.{◌≡◌, ℕ, ◌+◌, ◌^◌, ◌/◌, ◌%◌, ◌<◌, ◌≤◌, ◌==◌, Bool, true, false, List, [], ◌∷◌, ◌++◌, length, IsTrue, cond}
-use Rattle.std.specs.Char.{is_ascii_graphic}
 use Rattle.std.specs.Fmt.{decimal}
-use Rattle.std.specs.List.{list_all}
-use Rattle.std.proofs.Common.{arith, refl, ◌∙◌, length-append}
-use Rattle.std.proofs.lemmas.Bool.{and_from, le-leb}
-use Rattle.std.proofs.lemmas.Fmt.{decimal_by_steps, length-decimal-le}
-use Rattle.std.proofs.lemmas.List.Folds.{list_all-append}
+use Rattle.std.proofs.Common.{arith, refl, length-append}
+use Rattle.std.proofs.lemmas.Bool.{and_from}
 use Rattle.std.proofs.lemmas.Nat.{mod_below}
 use Rattle.app_text.specs.KvTexts as kv
 use Rattle.app_text.specs.LockTexts as lock
 use Rattle.app_text.specs.TableTexts as table
 use Rattle.raft_text.specs.RaftTexts.{IsRaftInput, raft_input_text}
+use Rattle.schedule_make.proofs.Letters.{digits-few, letter-number}
 use Rattle.schedule_make.specs.Inputs.{asked_by_client, kv_input, kv_key, kv_value, lock_input, lock_name, lock_owner, table_input}
-use Rattle.vst_base.specs.Tokens.{is_key, is_token, is_value}
+use Rattle.vst_base.specs.Tokens.{is_key, is_value}
 use Rattle.vst_base.specs.declared.lock.LockInput.TheVariants.{Lock, Unlock}
 use Rattle.vst_base.specs.declared.step.TheConstants.{MAX_STEPS}
 use Rattle.made_lines.specs.Texts.{HaveShortTexts}
-
-digit-visible : (d : ℕ) → d < 10 → is_ascii_graphic (48 + d) ≡ true
-digit-visible d small = and_from _ _ (le-leb 33 (48 + d) (omega arith)) (le-leb (48 + d) 126 (omega (arith, small)))
-
-digits-visible : (n : ℕ) → n < 2 ^ 64 → list_all is_ascii_graphic (decimal n) ≡ true
-digits-visible n low = decimal_by_steps (λ n ds. list_all is_ascii_graphic ds ≡ true)
-    (λ n small. and_from _ _ (digit-visible n small) refl)
-    (λ n ds more seen.
-    let last = digit-visible (n % 10) (mod_below n 10 (omega arith)) in
-    list_all-append is_ascii_graphic ds ((48 + n % 10) ∷ []) ∙ and_from _ _ seen (and_from _ _ last refl)) n low
-
-digits-few : (n : ℕ) → n < 2 ^ 64 → length (decimal n) ≤ 20
-digits-few n low = length-decimal-le 20 n (omega arith) (omega (arith, low)) low
-
--- a visible letter and a number
-letter-number : (most letter n : ℕ) → 21 ≤ most → is_ascii_graphic letter ≡ true → n < 2 ^ 64 → is_token most (letter ∷ decimal n) ≡ true
-letter-number most letter n room seen low =
-    and_from _ _ (le-leb 1 (length (letter ∷ decimal n)) (omega arith))
-    (and_from _ _ (le-leb (length (letter ∷ decimal n)) most (omega (arith, digits-few n low, room))) (and_from _ _ seen (digits-visible n low)))
 
 small-rest : (x k : ℕ) → 0 < k → k ≤ 10 → x % k < 2 ^ 64
 small-rest x k some few = omega (arith, mod_below x k some, few)

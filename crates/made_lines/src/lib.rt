@@ -8,6 +8,6 @@ mod few;
 mod lines;
 
 pub use each_stack::each_stack_has_lines;
-pub use examples::{worked_lines, worked_sends, worked_texts};
+pub use examples::{worked_sends, worked_texts};
 pub use few::{events_send_few, packets_are_few};
 pub use lines::{made_inputs_have_texts, made_steps_have_lines};

@@ -78,8 +78,6 @@ impl<K: Sink> OnStack<K, (), ()> for Steps {
         _: &mut (),
         _: &mut (),
     ) -> Result<(), LineFault> {
-        // What it ensures besides is how the stack's inputs are spelled.
-        let _header = S::below(nodes);
         let running = S::start(self.alloc, nodes)?;
         let mut making = Making::new(self.alloc, running, self.seed);
         write_steps::<S::Running, S::Inputs, S::Text, K>(

@@ -13,7 +13,8 @@ use Rattle.vst_base.specs.Nets.{has_kind}
 use Rattle.vst_base.specs.declared.net.Net.{Net}
 use Rattle.vst_base.specs.declared.step.StepKind.{StepKind}
 use Rattle.vst_base.specs.declared.step.StepKind.TheVariants as kind
-use Rattle.schedule_make.specs.Candidates.{candidates, chosen, has_step, is_in_flight, made_kind, may_act, nodes_that, offered, picked}
+use Rattle.schedule_make.specs.Candidates.{candidates, chosen, has_step, is_in_flight, made_kind, may_act, nodes_that}
+use Rattle.schedule_make.specs.Offers.{offered, picked}
 use Rattle.schedule_make.specs.Flying.{flight_of, flights_of}
 
 some-if : (b : Bool) (d : ℕ) → is_some (if b then Some d else None) ≡ b

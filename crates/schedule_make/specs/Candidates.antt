@@ -1,5 +1,5 @@
 -- Which kind of step is made, and at which node or of which packet, from a random word each.
-use Rattle.std.specs.Prelude.{ℕ, Bool, false, not, ◌&&◌, ◌%◌, nat_lt, List, [], ◌∷◌, length, get_or, filter, if◌then◌else◌, Option, None, slice_get}
+use Rattle.std.specs.Prelude.{ℕ, Bool, false, not, ◌&&◌, ◌%◌, nat_lt, List, [], ◌∷◌, length, get_or, filter, if◌then◌else◌}
 use Rattle.std.specs.List.{range_with_len}
 use Rattle.handler_trait.specs.Handling.{Meaning}
 use Rattle.flight_index.specs.Flights.{numbers_of}
@@ -54,11 +54,3 @@ made_kind net m w k =
 -- the candidate of this number, counted round
 abbrev pub chosen : List ℕ → ℕ → ℕ
 chosen cs number = get_or cs (number % length cs) 0
-
--- the same, if there is one
-abbrev pub picked : List ℕ → ℕ → Option ℕ
-picked cs number = slice_get cs (number % length cs)
-
--- the same of a kind of step that the network has
-abbrev pub offered : {S K I O M : Type 0} → Net → Meaning S I O M → World S K M → StepKind → ℕ → Option ℕ
-offered net m w k number = if has_kind net k then picked (candidates m w k) number else None

@@ -19,7 +19,7 @@ pub record MakingView (R : Type 0) : Type 0 where
 abbrev pub step_after : {S K I O M G : Type 0} → System S K I O M G → Inputs I → List (Step I) → Lcg → Step I
 step_after sys inputs ss random = made_step sys.net sys.meaning inputs (world_of sys ss) (length ss) (words_of random)
 
--- these steps were made and taken
+-- these steps were taken, and of the packets in flight all is known
 pub record HasMade {R S K I O M G : Type 0} (sys : System S K I O M G) (follows : R → List (Step I) → Type 0) (progress : R → Progress I O)
     (ss : List (Step I)) (v : MakingView R) : Type 0 where
   pub gone : List (Item I O)
@@ -33,6 +33,6 @@ pub record CanStep {R S K I O M G : Type 0} (sys : System S K I O M G) (follows 
   pub allowed : refusal_of sys.net sys.meaning (world_of sys steps) (step_after sys inputs steps v.random) ≡ None
 
 -- what runs has followed some steps
-pub record HasSteps {R I : Type 0} (follows : R → List (Step I) → Type 0) (r : R) : Type 0 where
+pub record HasFollowed {R I : Type 0} (follows : R → List (Step I) → Type 0) (r : R) : Type 0 where
   pub steps : List (Step I)
   pub followed : follows r steps

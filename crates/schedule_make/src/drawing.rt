@@ -2,8 +2,9 @@ ghost use Rattle.std.specs.Prelude.{◌≡◌, List, IfOk, is_some};
 ghost use Rattle.flight_index.specs.Flights.{goes_up, numbers_of};
 ghost use Rattle.vst_base.specs.declared.step.Step.{Step as SpecStep};
 ghost use Rattle.xform_stack.specs.Running.{world_of};
-ghost use Rattle.schedule_make.specs.Candidates.{candidates, chosen, drawn_kind, made_kind, may_act, nodes_that, offered, picked};
+ghost use Rattle.schedule_make.specs.Candidates.{candidates, chosen, drawn_kind, made_kind, may_act, nodes_that};
 ghost use Rattle.schedule_make.specs.Flying.{KnowsFlights};
+ghost use Rattle.schedule_make.specs.Offers.{offered, picked};
 
 use flight_index::FlightIndex;
 use std::alloc::{AllocError, Global};

@@ -1,10 +1,18 @@
-ghost use Rattle.std.specs.Prelude.{◌≡◌, [], ◌∷◌, None, codes, map};
+ghost use Rattle.std.specs.Prelude.{◌≡◌, ◌+◌, ℕ, [], ◌∷◌, true, false, None, Some, codes, map};
+ghost use Rattle.handler_trait.specs.Echo.{echo};
 ghost use Rattle.kv_machine.specs.declared.cmd.KvCmd.{KvCmd};
 ghost use Rattle.lock_table.specs.declared.cmd.TableCmd.{TableCmd};
+ghost use Rattle.net_semantics.specs.Worlds.{first_world};
 ghost use Rattle.vst_base.specs.declared.lock.LockInput.{LockInput};
+ghost use Rattle.vst_base.specs.declared.net.Net.{Net};
+ghost use Rattle.vst_base.specs.declared.step.Step.{Step};
 ghost use Rattle.vst_base.specs.declared.step.StepKind.{StepKind};
-ghost use Rattle.schedule_make.specs.Candidates.{chosen, drawn_kind};
+ghost use Rattle.schedule_make.specs.Candidates.{candidates, chosen, drawn_kind, made_kind, may_act};
+ghost use Rattle.schedule_make.specs.Examples.{all_stopped, flights, half_stopped};
+ghost use Rattle.schedule_make.specs.Flying.{KnowsFlights, flights_of, seen};
 ghost use Rattle.schedule_make.specs.Inputs.{kv_input, lock_input, table_input};
+ghost use Rattle.schedule_make.specs.Made.{made_step};
+ghost use Rattle.schedule_make.specs.Offers.{offered, picked};
 
 /// Kinds by words, and which candidate a word takes.
 pub fn worked()
@@ -22,5 +30,43 @@ pub fn worked_inputs()
     ensures get { kv_input 32 4 ≡ KvCmd.Get (codes "k0") }
     ensures del { kv_input 23 4 ≡ KvCmd.Del (codes "k7") }
     ensures release { table_input 207 0 ≡ TableCmd.Release (codes "l7") (codes "o3") }
+    ensures holder { table_input 17 0 ≡ TableCmd.Holder (codes "l1") }
     ensures acquire { table_input 216 0 ≡ TableCmd.Acquire (codes "l0") (codes "o3") }
+{}
+
+/// Which steps there are of each kind where a node has stopped, and which kind is made where there is none.
+pub fn worked_candidates()
+    ensures inputs { candidates (echo 2) half_stopped StepKind.In ≡ [] }
+    ensures inputs_at_first { candidates (echo 2) (first_world {K = ℕ} (echo 2)) StepKind.In ≡ 1 ∷ [] }
+    ensures ticks { candidates (echo 2) half_stopped StepKind.Tick ≡ 0 ∷ [] }
+    ensures crashes { candidates (echo 2) half_stopped StepKind.Crash ≡ 0 ∷ [] }
+    ensures reboots { candidates (echo 2) half_stopped StepKind.Reboot ≡ 1 ∷ [] }
+    ensures copies { candidates (echo 2) half_stopped StepKind.Dup ≡ 1 ∷ 2 ∷ [] }
+    ensures losses { candidates (echo 2) half_stopped StepKind.Lose ≡ 1 ∷ 2 ∷ [] }
+    ensures deliveries { candidates (echo 2) half_stopped StepKind.Deliver ≡ 2 ∷ [] }
+    ensures at_a_node { map (may_act (echo 2) half_stopped StepKind.Tick) (0 ∷ 1 ∷ []) ≡ true ∷ false ∷ [] }
+    ensures of_a_packet { may_act (echo 2) half_stopped StepKind.Deliver 0 ≡ false }
+    ensures there_is_one { made_kind Net.Fail (echo 2) half_stopped StepKind.Reboot ≡ StepKind.Reboot }
+    ensures there_is_none { made_kind Net.Fail (echo 2) half_stopped StepKind.In ≡ StepKind.Tick }
+    ensures not_on_this_network { made_kind Net.Bag (echo 2) half_stopped StepKind.Dup ≡ StepKind.Tick }
+    ensures no_tick_either { made_kind Net.Fail (echo 2) all_stopped StepKind.Deliver ≡ StepKind.Reboot }
+    ensures picks { map (picked (3 ∷ 5 ∷ 8 ∷ [])) (2 ∷ 3 ∷ []) ≡ Some 8 ∷ Some 3 ∷ [] }
+    ensures nothing_to_pick { picked [] 7 ≡ None }
+    ensures offers { offered Net.Dup (echo 2) half_stopped StepKind.Dup 5 ≡ Some 2 }
+    ensures offers_none { offered Net.Bag (echo 2) half_stopped StepKind.Dup 5 ≡ None }
+    ensures steps { made_step Net.Fail (echo 2) (λ x i. x + i) half_stopped 7 (record { kind = 6; number = 4; input = 0 }) ≡ Step.Lose 1 }
+    ensures step_with_an_input { made_step Net.Bag (echo 2) (λ x i. x + i) (first_world {K = ℕ} (echo 2)) 7 (record { kind = 16; number = 9; input = 20 }) ≡ Step.In 1 27 }
+{}
+
+/// What is known of the packets in flight, and what steps do to it.
+pub fn worked_flights()
+    ensures in_flight { flights_of half_stopped.packets ≡ None ∷ Some 1 ∷ Some 0 ∷ [] }
+    ensures known { KnowsFlights (flights (None ∷ Some 1 ∷ Some 0 ∷ []) false) half_stopped }
+    ensures a_packet_forgotten { KnowsFlights (flights (None ∷ None ∷ Some 0 ∷ []) false) half_stopped → ⊥ }
+    ensures up_though_it_stopped { KnowsFlights (flights (None ∷ Some 1 ∷ Some 0 ∷ []) true) half_stopped → ⊥ }
+    ensures came { seen {I = ℕ} half_stopped (Step.Deliver 0) (flights (Some 0 ∷ Some 1 ∷ []) true) ≡ flights (None ∷ Some 1 ∷ []) true }
+    ensures a_copy_is_left { seen {I = ℕ} half_stopped (Step.Lose 2) (flights (None ∷ Some 1 ∷ Some 0 ∷ []) true) ≡ flights (None ∷ Some 1 ∷ Some 0 ∷ []) true }
+    ensures stopped { seen {I = ℕ} half_stopped (Step.Crash 1) (flights [] true) ≡ flights [] false }
+    ensures started { seen {I = ℕ} half_stopped (Step.Reboot 1) (flights [] false) ≡ flights [] true }
+    ensures ticked { seen {I = ℕ} half_stopped (Step.Tick 1) (flights (Some 0 ∷ []) true) ≡ flights (Some 0 ∷ []) true }
 {}

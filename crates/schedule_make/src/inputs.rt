@@ -1,4 +1,4 @@
-ghost use Rattle.std.specs.Prelude.{◌≡◌, ◌<◌, ◌^◌, ◌∷◌, IfOk, IsTrue};
+ghost use Rattle.std.specs.Prelude.{◌≡◌, ◌≤◌, ◌∷◌, IfOk, IsTrue};
 ghost use Rattle.std.specs.Char.{is_ascii_graphic};
 ghost use Rattle.std.specs.Fmt.{decimal};
 ghost use Rattle.schedule_make.specs.Inputs.{asked_by_client, kv_input, lock_input, table_input};
@@ -43,7 +43,7 @@ impl MakesInputs for LockInputs {
 // A letter and a number.
 fn word<const MOST: usize>(alloc: Global, letter: u8, n: u32) -> Result<Token<MOST>, AllocError>
     requires letter { IsTrue (is_ascii_graphic letter) }
-    requires room { 10 < MOST }
+    requires room { 21 ≤ MOST }
     ensures { IfOk result (λ token. token ≡ letter ∷ decimal n) }
 {
     let mut bytes = Vec::new(alloc);

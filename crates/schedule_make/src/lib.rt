@@ -10,7 +10,7 @@ mod making;
 mod rows;
 mod words;
 
-pub use examples::{worked, worked_inputs};
+pub use examples::{worked, worked_candidates, worked_flights, worked_inputs};
 pub use inputs::{ByClients, KvInputs, LockInputs, MakesInputs, TableInputs};
 pub use laws::made_schedules_are_allowed;
 pub use making::Making;

@@ -7,7 +7,7 @@ ghost use Rattle.vst_base.specs.declared.step.Step.{Step as SpecStep};
 ghost use Rattle.xform_stack.specs.Running.{HasRun, world_of};
 ghost use Rattle.schedule_make.specs.Flying.{AreInFlightFrom, IsWithin, flights_of, seen};
 ghost use Rattle.schedule_make.specs.Made.{after_words, generator, step_of};
-ghost use Rattle.schedule_make.specs.Making.{CanStep, HasMade, HasSteps, step_after};
+ghost use Rattle.schedule_make.specs.Making.{CanStep, HasFollowed, HasMade, step_after};
 
 use crate::drawing::{drawn_kind, settled};
 use crate::inputs::MakesInputs;
@@ -152,7 +152,7 @@ impl<R: Explores> Making<R> {
     fn see_sent(&mut self, before: u32) -> Result<(), AllocError>
         requires sound { R.sound self.old.running }
         requires nodes { (R.system self.old.running).meaning.nodes ≤ MAX_NODES }
-        requires followed { HasSteps R.follows self.old.running }
+        requires followed { HasFollowed R.follows self.old.running }
         requires before { length self.old.flights.packets ≡ before }
         ensures packets { OnOk result ((ss : List (SpecStep R.Input)) → R.follows self.old.running ss
             → AreInFlightFrom before (world_of (R.system self.old.running) ss).packets

@@ -59,6 +59,8 @@ pub trait StackCode {
         ensures sound { IfOk result Self.Running.sound }
         ensures runs { IfOk result (λ running.
             (stack nodes).play ≡ play_of (Self.Running.system running) (stack nodes).play.texts (stack nodes).play.below) }
+        ensures texts { IfOk result (λ running. (stack nodes).play.texts
+            ≡ texts_of Self.Text.input_of Self.Text.input_text Self.Text.output_of Self.Text.output_text Self.Text.replies) }
         ensures made { IfOk result (λ running. (stack nodes).made ≡ made_of (Self.Running.system running) Self.Inputs.inputs) }
         ensures few_nodes { IfOk result (λ running. (Self.Running.system running).meaning.nodes ≤ MAX_NODES) };
 

@@ -1,5 +1,7 @@
 -- Runs for worked rows: over an input, and an output and an error stream that were empty, all of which tell what they hold.
-use Rattle.std.specs.Prelude.{ℕ, List, [], Some}
+use Rattle.std.specs.Prelude.{ℕ, List, [], Some, codes}
+use Rattle.command_line.specs.declared.command.MadeSchedule.{MadeSchedule}
+use Rattle.vst_base.specs.declared.stack.StackId.TheVariants as stack
 use Rattle.top_call.specs.Seen.{Run, SinkSeen, SourceSeen}
 
 abbrev pub quiet_source : List ℕ → SourceSeen
@@ -27,3 +29,10 @@ err_failed r = record r { after = record r.after { err = record r.after.err { fa
 
 abbrev pub err_wanted : Run → Run
 err_wanted r = record r { after = record r.after { err = record r.after.err { wants = 1 } } }
+
+-- a schedule of one step, and its text
+abbrev pub one_tick : MadeSchedule
+one_tick = record { stack = stack.Lock; seed = 0; steps = 1 }
+
+abbrev pub one_tick_text : List ℕ
+one_tick_text = codes "schedule 1 bag lock 4\ntick 1\n"

@@ -1,6 +1,6 @@
 use Rattle.std.proofs.Common.{inl, inr, ap, sym, ◌∙◌}
 use Rattle.xform_stack.specs.Running.{world_of}
-use Rattle.schedule_make.specs.Candidates.{picked}
+use Rattle.schedule_make.specs.Offers.{picked}
 use Rattle.schedule_make.proofs.Offers.{node-candidates, numbers-are, numbers-up}
 use Rattle.schedule_make.proofs.drawing.candidate.Goals as goal
 use Rattle.flight_index.specs.Flights.{goes_up, numbers_of}

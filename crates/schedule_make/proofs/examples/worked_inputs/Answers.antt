@@ -26,3 +26,7 @@ returns-clause-release c = refl
 pub returns-clause-acquire : goal.returns-clause-acquire
 unfolding digits
 returns-clause-acquire c = refl
+
+pub returns-clause-holder : goal.returns-clause-holder
+unfolding digits
+returns-clause-holder c = refl

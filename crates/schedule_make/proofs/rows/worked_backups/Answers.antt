@@ -14,3 +14,27 @@ returns-clause-numbered c = refl
 pub returns-clause-table : goal.returns-clause-table
 unfolding digits
 returns-clause-table c = refl
+
+pub returns-clause-plain_of_9 : goal.returns-clause-plain_of_9
+unfolding digits
+returns-clause-plain_of_9 c = refl
+
+pub returns-clause-plain_of_the_greatest : goal.returns-clause-plain_of_the_greatest
+unfolding digits
+returns-clause-plain_of_the_greatest c = refl
+
+pub returns-clause-numbered_of_10 : goal.returns-clause-numbered_of_10
+unfolding digits
+returns-clause-numbered_of_10 c = refl
+
+pub returns-clause-table_of_12 : goal.returns-clause-table_of_12
+unfolding digits
+returns-clause-table_of_12 c = refl
+
+pub returns-clause-numbered_of_2102 : goal.returns-clause-numbered_of_2102
+unfolding digits
+returns-clause-numbered_of_2102 c = refl
+
+pub returns-clause-table_of_2102 : goal.returns-clause-table_of_2102
+unfolding digits
+returns-clause-table_of_2102 c = refl

@@ -1,0 +1,16 @@
+-- These print numbers, whose digits have to be computed.
+use Rattle.std.proofs.Common.{refl}
+use Rattle.std.specs.Fmt.{digits}
+use Rattle.made_schedules.proofs.examples.worked.Goals as goal
+
+pub returns-clause-no_step : goal.returns-clause-no_step
+unfolding digits
+returns-clause-no_step c = refl
+
+pub returns-clause-one_step : goal.returns-clause-one_step
+unfolding digits
+returns-clause-one_step c = refl
+
+pub returns-clause-ten_steps : goal.returns-clause-ten_steps
+unfolding digits
+returns-clause-ten_steps c = refl
