@@ -28,6 +28,3 @@ pub use pb_text::{KvPbText, MachineText, PbText};
 pub use table_examples::{worked_table_commands, worked_table_outputs};
 pub use table_text::TableText;
 pub use text::{AppText, TextFault};
-
-#[cfg(test)]
-mod tests;

@@ -9,6 +9,3 @@ mod order;
 
 pub use examples::worked_orders;
 pub use order::AppliedOrder;
-
-#[cfg(test)]
-mod tests;

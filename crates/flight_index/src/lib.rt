@@ -8,6 +8,3 @@ mod tree;
 
 pub use examples::worked;
 pub use index::FlightIndex;
-
-#[cfg(test)]
-mod tests;

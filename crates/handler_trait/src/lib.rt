@@ -13,6 +13,3 @@ pub use effects::Effects;
 pub use examples::worked;
 pub use handlers::{Handlers, MAX_OUTPUTS, MAX_SENDS, SPENT_MAX, STEP_COST};
 pub use rebootable::Rebootable;
-
-#[cfg(test)]
-mod tests;

@@ -14,6 +14,3 @@ pub use examples::worked;
 pub use machine::KvMachine;
 pub use out::KvOut;
 pub use state::KvState;
-
-#[cfg(test)]
-mod tests;

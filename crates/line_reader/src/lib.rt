@@ -18,6 +18,3 @@ pub use fault::LineFault;
 pub use next::next_line;
 pub use reader::{MAX_LINE, Reader};
 pub use why::Why;
-
-#[cfg(test)]
-mod tests;

@@ -15,6 +15,3 @@ pub use laws::excludes;
 pub use queue::Queue;
 pub use server::LockServer;
 pub use state::LockState;
-
-#[cfg(test)]
-mod tests;

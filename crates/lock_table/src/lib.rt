@@ -16,6 +16,3 @@ pub use laws::names_stay_with_their_owners;
 pub use machine::TableMachine;
 pub use out::TableOut;
 pub use state::TableState;
-
-#[cfg(test)]
-mod tests;

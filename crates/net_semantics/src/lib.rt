@@ -19,8 +19,3 @@ pub use pins::{
 pub use trace::Trace;
 pub use vst_base::{Item, MAX_STEPS, Net, Node, Step, StepKind, StepRefusal};
 pub use world::World;
-
-#[cfg(test)]
-mod fail_tests;
-#[cfg(test)]
-mod tests;

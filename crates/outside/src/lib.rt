@@ -15,6 +15,3 @@ pub use no_device::NoDevice;
 pub use sink::{Sink, WriteOutcome};
 pub use source::{ReadOutcome, Source};
 pub use whole::{WriteFault, write_all};
-
-#[cfg(test)]
-mod tests;

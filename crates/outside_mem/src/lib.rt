@@ -4,8 +4,6 @@
 
 mod sink;
 mod source;
-#[cfg(test)]
-mod tests;
 mod unread;
 
 pub use sink::{MemorySink, SteadySink};

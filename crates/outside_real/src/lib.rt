@@ -4,8 +4,6 @@
 
 mod sink;
 mod source;
-#[cfg(test)]
-mod tests;
 
 pub use sink::{StandardError, StandardOutput, WriterSink};
 pub use source::{ReaderSource, StandardInput};

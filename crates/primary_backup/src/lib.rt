@@ -12,6 +12,3 @@ pub use backup::PrimaryBackup;
 pub use examples::{worked, worked_traces};
 pub use one_machine::one_machine_explains;
 pub use state::PbState;
-
-#[cfg(test)]
-mod tests;

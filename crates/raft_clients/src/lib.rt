@@ -17,6 +17,3 @@ pub use laws::{the_log_decides, the_machine_takes_each_request_once};
 pub use places::executed;
 pub use session::Session;
 pub use sessions::Sessions;
-
-#[cfg(test)]
-mod tests;

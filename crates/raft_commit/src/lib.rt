@@ -12,6 +12,3 @@ pub use batch::next_batch;
 pub use commit::advance;
 pub use examples::{worked_answers, worked_batches, worked_commits};
 pub use peer::{Moved, Peer};
-
-#[cfg(test)]
-mod tests;

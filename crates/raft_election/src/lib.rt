@@ -10,6 +10,3 @@ mod votes;
 pub use ballot::Ballot;
 pub use examples::{one_vote_a_term, votes_are_sets, worked};
 pub use votes::is_majority;
-
-#[cfg(test)]
-mod tests;

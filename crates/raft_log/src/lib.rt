@@ -12,6 +12,3 @@ pub use accept::Accept;
 pub use copies::{copy_entries, copy_entry};
 pub use examples::worked_answers;
 pub use log::Log;
-
-#[cfg(test)]
-mod tests;

@@ -21,8 +21,3 @@ pub use raft::Raft;
 pub use role::Role;
 pub use soundness::{events_keep_a_node_sound, sends_are_in_range};
 pub use state::RaftState;
-
-#[cfg(test)]
-mod run_tests;
-#[cfg(test)]
-mod tests;

@@ -9,6 +9,3 @@ mod single_node;
 pub use examples::worked;
 pub use laws::is_the_machine;
 pub use single_node::SingleNode;
-
-#[cfg(test)]
-mod tests;

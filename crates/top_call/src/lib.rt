@@ -5,6 +5,7 @@ mod answers;
 mod checking;
 mod complaint;
 mod examples;
+mod make_examples;
 mod making;
 mod replaying;
 mod status;
@@ -14,15 +15,5 @@ mod telling;
 pub use answers::run;
 pub use complaint::Complaint;
 pub use examples::{worked, worked_breaks};
+pub use make_examples::{worked_make_statuses, worked_making};
 pub use status_examples::{worked_complaints, worked_statuses};
-
-#[cfg(test)]
-mod check_tests;
-#[cfg(test)]
-mod make_tests;
-#[cfg(test)]
-mod steady_tests;
-#[cfg(test)]
-mod table_tests;
-#[cfg(test)]
-mod tests;

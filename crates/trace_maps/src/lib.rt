@@ -8,8 +8,6 @@ mod itself;
 mod repeats;
 mod replied_to;
 mod schedule;
-#[cfg(test)]
-mod tests;
 mod trace_map;
 
 pub use image::Image;

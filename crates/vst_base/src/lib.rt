@@ -43,8 +43,3 @@ pub use stack_laws::stacks_have_one_word;
 pub use step::{Item, MAX_STEPS, Step, StepKind, StepRefusal};
 pub use token::{Key, MAX_KEY, MAX_VALUE, Token, Value};
 pub use what::What;
-
-#[cfg(test)]
-mod entry_tests;
-#[cfg(test)]
-mod tests;

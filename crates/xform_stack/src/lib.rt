@@ -26,8 +26,3 @@ pub use running::Running;
 pub use runs::Runs;
 pub use seqnum_xform::SeqNum;
 pub use trace_maps::{Image, Itself, RepliedTo, TraceMap, WithoutRepeats};
-
-#[cfg(test)]
-mod machine_tests;
-#[cfg(test)]
-mod tests;

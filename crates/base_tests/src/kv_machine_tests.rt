@@ -1,0 +1,94 @@
+use kv_machine::{KvCmd, KvMachine, KvState};
+use std::alloc::{AllocError, Global};
+use std::process::Abort;
+use std::test::Fail;
+use vst_base::{Key, Machine, Value};
+
+fn key(alloc: Global, text: &[u8]) -> Result<Key, Fail> {
+    Ok(Key::new(alloc, text)?.ok_or("no key")?)
+}
+
+fn value(alloc: Global, text: &[u8]) -> Result<Value, Fail> {
+    Ok(Value::new(alloc, text)?.ok_or("no value")?)
+}
+
+fn put(alloc: Global, k: &[u8], v: &[u8]) -> Result<KvCmd, Fail> {
+    Ok(KvCmd::Put(key(alloc, k)?, value(alloc, v)?))
+}
+
+fn cas(alloc: Global, k: &[u8], expected: Option<&[u8]>, v: &[u8]) -> Result<KvCmd, Fail> {
+    let expected = match expected {
+        Some(text) => Some(value(alloc, text)?),
+        None => None,
+    };
+    Ok(KvCmd::Cas(key(alloc, k)?, expected, value(alloc, v)?))
+}
+
+fn cad(alloc: Global, k: &[u8], v: &[u8]) -> Result<KvCmd, Fail> {
+    Ok(KvCmd::Cad(key(alloc, k)?, value(alloc, v)?))
+}
+
+fn text(value: &Option<Value>) -> Option<&[u8]> {
+    value.as_ref().map(|v| v.as_bytes())
+}
+
+// What the machine answers to a copy of the command, copied.
+fn answer<M: Machine>(
+    alloc: Global,
+    machine: &M,
+    state: &mut M::State,
+    cmd: &M::Cmd,
+) -> Result<M::Out, AllocError> {
+    let copy = machine.copy_cmd(alloc, cmd)?;
+    let out = machine.apply(alloc, state, &copy)?;
+    machine.copy_out(alloc, &out)
+}
+
+// The commands of a short run, by their place.
+fn command(alloc: Global, place: u8) -> Result<KvCmd, Fail> {
+    match place {
+        0 => cas(alloc, b"a", None, b"x"),
+        1 => put(alloc, b"b", b"y"),
+        2 => cas(alloc, b"a", Some(b"y"), b"z"),
+        3 => cad(alloc, b"a", b"x"),
+        4 => Ok(KvCmd::Del(key(alloc, b"a")?)),
+        _ => Ok(KvCmd::Get(key(alloc, b"b")?)),
+    }
+}
+
+// The machine answers a copy of a command with this key, and these values of it.
+fn tells(
+    rt: &impl Abort,
+    alloc: Global,
+    state: &mut KvState,
+    place: u8,
+    key: &[u8],
+    after: Option<&[u8]>,
+    before: Option<&[u8]>,
+) -> Result<(), Fail> {
+    let cmd = command(alloc, place)?;
+    let told = answer(alloc, &KvMachine, state, &cmd)?;
+    assert!(rt; told.key.as_bytes() == key, "the key of command {place}");
+    assert!(rt; text(&told.after) == after, "after command {place}");
+    assert!(rt; text(&told.before) == before, "before command {place}");
+    Ok(())
+}
+
+#[test]
+fn commands_are_answered_in_turn(rt: HostRuntime) -> Result<(), Fail> {
+    let alloc = rt.alloc();
+    let [a, b] = [b"a".as_slice(), b"b".as_slice()];
+    let [x, y] = [Some(b"x".as_slice()), Some(b"y".as_slice())];
+    let mut state = KvMachine.init(alloc)?;
+    for (place, key, after, before) in [
+        (0, a, x, None),
+        (1, b, y, None),
+        (2, a, x, x),
+        (3, a, None, x),
+        (4, a, None, None),
+        (5, b, y, y),
+    ] {
+        tells(&rt, alloc, &mut state, place, key, after, before)?;
+    }
+    Ok(())
+}
