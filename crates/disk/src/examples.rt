@@ -38,6 +38,9 @@ pub fn worked_cuts()
 pub fn worked_faults()
     ensures failed_write { leaves (1 ∷ 2 ∷ []) (StoreFailed (WriteAt 0 0 (9 ∷ [])) ∷ []) (5 ∷ 2 ∷ []) ≡ true }
     ensures failed_write_none { leaves (1 ∷ 2 ∷ []) (StoreFailed (WriteAt 0 0 (9 ∷ [])) ∷ []) (1 ∷ 2 ∷ []) ≡ true }
+    ensures failed_write_elsewhere { leaves (1 ∷ 2 ∷ []) (StoreFailed (WriteAt 0 0 (9 ∷ [])) ∷ []) (5 ∷ 7 ∷ []) ≡ false }
+    ensures failed_read { leaves (1 ∷ 2 ∷ []) (StoreFailed (ReadAt 0 0 2) ∷ []) (5 ∷ 2 ∷ []) ≡ false }
+    ensures failed_cut_none { leaves (1 ∷ 2 ∷ []) (StoreFailed (CutTo 0 1) ∷ []) (1 ∷ 2 ∷ []) ≡ true }
     ensures failed_cut { leaves (1 ∷ 2 ∷ []) (StoreFailed (CutTo 0 1) ∷ []) (1 ∷ []) ≡ true }
     ensures failed_sync { leaves (1 ∷ 2 ∷ []) (Wrote 0 0 (9 ∷ []) ∷ StoreFailed (Sync 0) ∷ []) (5 ∷ 2 ∷ []) ≡ true }
 {}
@@ -65,6 +68,8 @@ pub fn worked_images()
     ensures read { worded (1 ∷ 2 ∷ []) (Wrote 0 0 (8 ∷ []) ∷ Synced 0 ∷ Wrote 0 1 (9 ∷ 9 ∷ []) ∷ []) 1 ≡ 8 ∷ 9 ∷ 9 ∷ [] }
     ensures ones { worded (1 ∷ 2 ∷ []) (Wrote 0 0 (8 ∷ []) ∷ Synced 0 ∷ Wrote 0 1 (9 ∷ 9 ∷ []) ∷ []) 2 ≡ 8 ∷ 255 ∷ 255 ∷ [] }
     ensures zeros { worded (1 ∷ 2 ∷ []) (Wrote 0 0 (8 ∷ []) ∷ Synced 0 ∷ Wrote 0 1 (9 ∷ 9 ∷ []) ∷ []) 3 ≡ 8 ∷ 0 ∷ 0 ∷ [] }
+    ensures gap_of_zeros { worded (1 ∷ []) (Wrote 0 3 (9 ∷ []) ∷ []) 1 ≡ 1 ∷ 0 ∷ 0 ∷ 9 ∷ [] }
+    ensures a_cut_adds_zeros { worded (1 ∷ []) (Cut 0 3 ∷ []) 1 ≡ 1 ∷ 0 ∷ 0 ∷ [] }
     ensures by_remainder { worded (1 ∷ 2 ∷ []) (Wrote 0 0 (8 ∷ []) ∷ []) 4 ≡ 1 ∷ 2 ∷ [] }
     ensures at_first { worded (1 ∷ 2 ∷ []) [] 0 ≡ 1 ∷ 2 ∷ [] }
     ensures another_synced { worded (1 ∷ 2 ∷ []) (Wrote 0 0 (8 ∷ []) ∷ Synced 1 ∷ []) 0 ≡ 1 ∷ 2 ∷ [] }

@@ -2,8 +2,9 @@ ghost use Rattle.std.specs.Prelude.{◌≡◌, true, false, [], ◌∷◌, ◌++
 ghost use Rattle.disk.specs.Acts.{Wrote, Cut, Synced, Now, Quiet, Took};
 ghost use Rattle.disk.specs.Disk.{overwritten};
 ghost use Rattle.slots.specs.Opening.{Is, Not, BadSelector, BadSlot, BadJournal, Fresh, Held, Refused};
-ghost use Rattle.slots.specs.Saving.{next, save_acts, open_acts, move_acts, sync_acts, fresh_acts};
+ghost use Rattle.slots.specs.Saving.{next, save_acts, open_acts, move_acts};
 ghost use Rattle.slots.specs.PatchLaws.{patch_acts, TornIsEither};
+ghost use Rattle.slots.specs.TurnLaws.{IsFront};
 ghost use Rattle.slots.specs.Turns.{record_of, heard_events, events, kept_after, last_selector, datagrams, said_first};
 ghost use Rattle.slots.specs.Examples.{counted_found, gated_found, slot, opened_as, leaves, save_leaves, hasty_acts, node_at, three_turns};
 
@@ -25,9 +26,9 @@ pub fn worked_acts()
     ensures save_odd { take 4 (save_acts 3 (slot [])) ≡ Wrote 0 0 (0 ∷ []) ∷ Cut 0 1 ∷ Synced 0 ∷ Wrote 2 0 (4 ∷ []) ∷ [] }
     ensures wraps { next 255 ≡ 0 }
     ensures open_held { open_acts (3 ∷ []) (slot []) ≡ Synced 0 ∷ Synced 1 ∷ Synced 2 ∷ [] }
-    ensures open_fresh { open_acts [] (slot []) ≡ sync_acts ++ fresh_acts (slot []) }
-    ensures first_slots { take 3 (fresh_acts (slot [])) ≡ Wrote 0 0 (0 ∷ []) ∷ Cut 0 1 ∷ Synced 0 ∷ [] }
-    ensures first_selector { length (fresh_acts (slot [])) ≡ 8 }
+    ensures open_fresh { open_acts [] (slot [])
+        ≡ Synced 0 ∷ Synced 1 ∷ Synced 2 ∷ Wrote 0 0 (0 ∷ []) ∷ Cut 0 1 ∷ Synced 0 ∷ Wrote 1 0 (0 ∷ []) ∷ Cut 1 1 ∷ Synced 1
+        ∷ Wrote 2 0 (0 ∷ []) ∷ Synced 2 ∷ [] }
     ensures moved { take 4 (move_acts 0 (slot [])) ≡ Synced 0 ∷ Synced 1 ∷ Synced 2 ∷ Wrote 1 0 (0 ∷ []) ∷ [] }
 {}
 
@@ -82,5 +83,6 @@ pub fn worked_turns()
     ensures selector { last_selector three_turns 0 ≡ 2 }
     ensures said_at_first { said_first three_turns 0 ≡ [] }
     ensures said_after_one { said_first three_turns 1 ≡ (node_at 7001, 9 ∷ []) ∷ [] }
+    ensures not_shipped_before { IsFront ((node_at 7001, 9 ∷ []) ∷ []) (said_first three_turns 0) → ⊥ }
     ensures sent { datagrams (record_of three_turns) ≡ (node_at 7001, 9 ∷ []) ∷ (node_at 7002, 7 ∷ []) ∷ [] }
 {}
