@@ -1,5 +1,5 @@
 -- What holds of any disk.
-use Rattle.std.specs.Prelude.{◌≡◌, ◌↔◌, ℕ, ◌<◌, true, false, List, [], ◌∷◌, length, take, slice_get, ◌⊎◌}
+use Rattle.std.specs.Prelude.{◌≡◌, ◌↔◌, ℕ, suc, ◌<◌, true, false, List, [], ◌∷◌, length, take, slice_get, ◌⊎◌}
 use Rattle.disk.specs.Acts.{StoreCall, ReadAt, WriteAt, CutTo, Sync, Act, Wrote, Cut, Synced, StoreFailed}
 use Rattle.disk.specs.Areas.{area_at}
 use Rattle.disk.specs.Disk.{Area, Disk, Image, contents, NothingPending, failed, effect, after, is_pending, is_one_of, may_become, may_hold, may_leave}
@@ -57,11 +57,16 @@ IsCutShort acts [] = Unit {0}
 IsCutShort [] (did ∷ more) = IsReadFault did × (more ≡ [])
 IsCutShort (act ∷ acts) (did ∷ more) = ((did ≡ act) × IsCutShort acts more) ⊎ ((Fails act did ⊎ IsReadFault did) × (more ≡ []))
 
--- What a crash leaves after acts that were cut short, the whole acts may leave at some moment.
+-- What a crash leaves after acts that were cut short, the whole acts may leave at that moment: after as many acts as were done, or
+-- one less.
 abbrev pub FaultsAddNothing : Type 0
 FaultsAddNothing =
     (disk : Disk) (acts did : List Act) (image : Image) → IsCutShort acts did → may_leave disk did image ≡ true →
-    (n : ℕ) × (may_leave disk (take n acts) image ≡ true)
+    (n : ℕ) × ((n ≡ length did) ⊎ (suc n ≡ length did)) × (may_leave disk (take n acts) image ≡ true)
+
+-- A front of acts that were cut short is cut short itself.
+abbrev pub FrontsAreCutShort : Type 0
+FrontsAreCutShort = (acts did : List Act) (m : ℕ) → IsCutShort acts did → IsCutShort acts (take m did)
 
 -- A call that failed may have done nothing.
 abbrev pub FailureMayDoNothing : Type 0

@@ -1,4 +1,4 @@
-ghost use Rattle.disk.specs.DiskLaws.{ActsOnlyAdd, FailureMayDoNothing, FaultsAddNothing, OthersAreAsBefore, ReadsAreAnImage, SettledStays, SyncOnlyTakesAway, TestSays};
+ghost use Rattle.disk.specs.DiskLaws.{ActsOnlyAdd, FailureMayDoNothing, FaultsAddNothing, FrontsAreCutShort, OthersAreAsBefore, ReadsAreAnImage, SettledStays, SyncOnlyTakesAway, TestSays};
 ghost use Rattle.disk.specs.Images.{WordsGiveImages};
 
 /// What holds of every disk, whatever its areas hold and whatever is pending on them.
@@ -18,8 +18,11 @@ pub fn laws()
     // A byte that is not pending is as it was before the pending acts.
     ensures before { OthersAreAsBefore }
 
-    // A fault permits no image but those of the acts that it cut short.
+    // A fault permits no image but those of the acts that it cut short, at the same moment.
     ensures faults { FaultsAddNothing }
+
+    // What was done up to any moment of acts that were cut short is cut short too.
+    ensures fronts { FrontsAreCutShort }
 
     // A store call that failed may have done nothing.
     ensures nothing { FailureMayDoNothing }

@@ -4,3 +4,4 @@ pub mod Saves
 pub mod Opens
 pub mod Turning
 pub mod Patching
+pub mod Worked

@@ -1,14 +1,16 @@
 -- Each moment of an opening.
-use Rattle.std.proofs.Common.{◌≡◌, ◌≢◌, ℕ, zero, suc, ◌<◌, ◌≤◌, true, List, [], ◌∷◌, ◌++◌, length, take, refl, ap, subst, ◌∙◌, arith, ◌⊎◌, inl, inr}
+use Rattle.std.proofs.Common.{◌≡◌, ◌≢◌, ℕ, zero, suc, ◌<◌, ◌≤◌, true, List, [], ◌∷◌, ◌++◌, length, take, refl, sym, ap, subst, ◌∙◌, arith, ◌⊎◌, inl, inr}
 use Rattle.std.proofs.lemmas.List.{take-append-le}
-use Rattle.disk.specs.Acts.{Act, Synced}
+use Rattle.disk.specs.Acts.{Act, Sync, Synced, StoreFailed}
 use Rattle.disk.specs.Areas.{area_at, each}
 use Rattle.disk.specs.Disk.{Area, Disk, Image, contents, settled, IsSettled, NothingPending, synced, effect, after, may_hold, may_leave}
+use Rattle.disk.specs.DiskLaws.{Fails, IsReadFault, IsCutShort}
+use Rattle.disk.proofs.CutShort.{faults_add_nothing}
 use Rattle.disk.proofs.Disks.{settled_stays, sync_takes_away}
 use Rattle.slots.specs.Opening.{Found, Is, Fresh, Held, opening, by_selector, OpensAs}
 use Rattle.slots.specs.Saving.{slot_acts, flip_acts, save_acts, sync_acts, fresh_acts, open_acts, move_acts}
-use Rattle.slots.specs.SavingLaws.{Rests, Opens, Moves}
-use Rattle.slots.proofs.Elsewhere.{Apart}
+use Rattle.slots.specs.SavingLaws.{Rests, Interrupted, StaysFound, Opens, Moves}
+use Rattle.slots.proofs.Elsewhere.{Apart, take_none}
 use Rattle.slots.proofs.Images.{selector_apart, either, held_from, image_settled, pending_from}
 use Rattle.slots.proofs.Saves.{saves, slot_done, slot_else, slot_else_done, flip_else, flip_done, flip_length, settled_from}
 
@@ -32,7 +34,7 @@ syncing disk bytes first n image h m = only_syncs disk image n h (subst (λ (a :
     early [] n h = take-append-le n sync_acts (fresh_acts first) h
     early (s ∷ rest) n h = refl
 
-calm : (disk : Disk) → NothingPending (each synced disk)
+pub calm : (disk : Disk) → NothingPending (each synced disk)
 calm disk = pending_from (each synced disk) at
   where
     at : (n : ℕ) → IsSettled (area_at (each synced disk) n)
@@ -153,6 +155,94 @@ opening_end : {K : Type 0} (found : List ℕ → Found K) (first : K) (disk : Di
 opening_end found first disk slot (s ∷ rest) f is e = absurd (cc e)
 opening_end found first disk slot [] f is e = fresh_end found first (each synced disk) slot f (ap settled is)
 
+-- where a fault cuts the acts short
+
+sync_is_no_fault : (area : ℕ) (did : Act) → did ≡ Synced area → Fails (Synced area) did ⊎ IsReadFault did → ⊥
+sync_is_no_fault area did e (inl f) = let g : did ≡ StoreFailed (Sync area) = f in absurd (cc (e, g))
+sync_is_no_fault area did e (inr r) = subst IsReadFault e r
+
+none_is_some : {T : Type 0} (x : T) (xs : List T) → x ∷ xs ≡ [] → ⊥
+none_is_some x xs e = absurd (cc e)
+
+places : (more did : List Act) → IsCutShort (sync_acts ++ more) did → (length did ≤ 3) ⊎ (take 3 did ≡ sync_acts)
+places more [] c = inl (omega arith)
+places more (a ∷ []) c = inl (omega arith)
+places more (a ∷ b ∷ []) c = inl (omega arith)
+places more (a ∷ b ∷ d ∷ []) c = inl (omega arith)
+places more (a ∷ b ∷ d ∷ x ∷ rest) (inr c) = absurd (none_is_some b (d ∷ x ∷ rest) c.1)
+places more (a ∷ b ∷ d ∷ x ∷ rest) (inl c) = second c.1
+  where
+    third : b ≡ Synced 1 → IsCutShort (Synced 2 ∷ more) (d ∷ x ∷ rest) → (length (a ∷ b ∷ d ∷ x ∷ rest) ≤ 3) ⊎ (take 3 (a ∷ b ∷ d ∷ x ∷ rest) ≡ sync_acts)
+    third e (inl k) = inr (rw (c.0, e, k.0) refl)
+    third e (inr k) = absurd (none_is_some x rest k.1)
+
+    second : IsCutShort (Synced 1 ∷ Synced 2 ∷ more) (b ∷ d ∷ x ∷ rest) → (length (a ∷ b ∷ d ∷ x ∷ rest) ≤ 3) ⊎ (take 3 (a ∷ b ∷ d ∷ x ∷ rest) ≡ sync_acts)
+    second (inl k) = third k.0 k.1
+    second (inr k) = absurd (none_is_some d (x ∷ rest) k.1)
+
+-- the three syncs, and then acts that were cut short
+record Past (more did : List Act) : Type 0 where
+  pub rest : List Act
+  pub is : did ≡ sync_acts ++ rest
+  pub short : IsCutShort more rest
+
+past_syncs : (more did : List Act) → IsCutShort (sync_acts ++ more) did → take 3 did ≡ sync_acts → Past more did
+past_syncs more [] c e = absurd (cc e)
+past_syncs more (a ∷ []) c e = absurd (cc e)
+past_syncs more (a ∷ b ∷ []) c e = absurd (cc e)
+past_syncs more (a ∷ b ∷ d ∷ rest) c e = first c
+  where
+    third : IsCutShort (Synced 2 ∷ more) (d ∷ rest) → Past more (a ∷ b ∷ d ∷ rest)
+    third (inl k) = record { rest = rest; is = ap (λ xs. xs ++ rest) e; short = k.1 }
+    third (inr k) = let h : a ∷ b ∷ d ∷ [] ≡ Synced 0 ∷ Synced 1 ∷ Synced 2 ∷ [] = e in absurd (sync_is_no_fault 2 d (cc h) k.0)
+
+    second : IsCutShort (Synced 1 ∷ Synced 2 ∷ more) (b ∷ d ∷ rest) → Past more (a ∷ b ∷ d ∷ rest)
+    second (inl k) = third k.1
+    second (inr k) = absurd (none_is_some d rest k.1)
+
+    first : IsCutShort (sync_acts ++ more) (a ∷ b ∷ d ∷ rest) → Past more (a ∷ b ∷ d ∷ rest)
+    first (inl k) = second k.1
+    first (inr k) = absurd (none_is_some b (d ∷ rest) k.1)
+
+-- after the syncs an image is one that the acts after them may leave at some moment
+after_syncs : (disk : Disk) (more did : List Act) (image : Image) → IsCutShort (sync_acts ++ more) did → take 3 did ≡ sync_acts → may_leave disk did image ≡ true →
+    (n : ℕ) × (may_leave (each synced disk) (take n more) image ≡ true)
+after_syncs disk more did image c e m =
+    let p = past_syncs more did c e in
+    let w = faults_add_nothing (each synced disk) more p.rest image p.short (subst (λ (a : List Act). may_leave disk a image ≡ true) p.is m) in
+    (w.0, w.2)
+
+small : (n l : ℕ) → (n ≡ l) ⊎ (suc n ≡ l) → l ≤ 3 → n ≤ 3
+small n l (inl e) h = omega arith
+small n l (inr e) h = omega arith
+
+before_short : (disk : Disk) (more did : List Act) (image : Image) → IsCutShort (sync_acts ++ more) did → length did ≤ 3 → may_leave disk did image ≡ true →
+    may_hold disk image ≡ true
+before_short disk more did image c l m =
+    let w = faults_add_nothing disk (sync_acts ++ more) did image c m in
+    let h : w.0 ≤ 3 = small w.0 (length did) w.1 l in
+    only_syncs disk image w.0 h (subst (λ (a : List Act). may_leave disk a image ≡ true) (take-append-le w.0 sync_acts more h) w.2)
+
+held_short : (disk : Disk) (did : List Act) (image : Image) → IsCutShort sync_acts did → take 3 did ≡ sync_acts → may_leave disk did image ≡ true → image ≡ contents disk
+held_short disk did image c e m =
+    let w = after_syncs disk [] did image c e m in
+    settled_stays (each synced disk) image (calm disk) (subst (λ (a : List Act). may_leave (each synced disk) a image ≡ true) (take_none Act w.0 [] refl) w.1)
+
+opening_short : {K : Type 0} (found : List ℕ → Found K) (first : K) (disk : Disk) (slot bytes : List ℕ) → (bytes ≡ [] → found slot ≡ Is first) → disk.selector.bytes ≡ bytes →
+    Interrupted (open_acts bytes slot) disk (λ image. StaysFound found first disk image)
+opening_short found first disk slot [] f is = record {
+  places = places (fresh_acts slot);
+  before = before_short disk (fresh_acts slot);
+  stays = λ did image c e m.
+      let w = after_syncs disk (fresh_acts slot) did image c e m in
+      record { held = λ no. absurd (no is); fresh = λ z. fresh_moment found first (each synced disk) slot image (f refl) (ap settled is) w.0 w.1 };
+}
+opening_short found first disk slot (s ∷ rest) f is = record {
+  places = places [];
+  before = before_short disk [];
+  stays = λ did image c e m. record { held = λ no. held_short disk did image c e m; fresh = λ z. absurd (none_is_some s rest (sym is ∙ z)) };
+}
+
 pub opens : {K : Type 0} (found : List ℕ → Found K) (disk : Disk) (first : K) (slot : List ℕ) → (disk.selector.bytes ≡ [] → found slot ≡ Is first) →
     Opens found first (open_acts disk.selector.bytes slot) disk
 opens found disk first slot f = record {
@@ -162,6 +252,7 @@ opens found disk first slot f = record {
   found_done = λ kept s e. found_end found disk slot disk.selector.bytes kept s refl e;
   fresh = λ e. opening_fresh found first disk slot disk.selector.bytes (f e) refl e;
   fresh_done = λ e. opening_end found first disk slot disk.selector.bytes (f e) refl e;
+  short = opening_short found first disk slot disk.selector.bytes f refl;
 }
 
 -- a slot of an older form
@@ -184,4 +275,11 @@ moves found disk s kept bytes h f = record {
   before = λ n image l m. only_syncs disk image n l (subst (λ (a : List Act). may_leave disk a image ≡ true) (take-append-le n sync_acts (save_acts s bytes) l) m);
   stays = move_moment found disk s kept bytes h f;
   done = (saves found (each synced disk) s kept kept bytes (still found disk s kept h) f).done;
+  short = record {
+    places = places (save_acts s bytes);
+    before = before_short disk (save_acts s bytes);
+    stays = λ did image c e m.
+        let w = after_syncs disk (save_acts s bytes) did image c e m in
+        elim ((saves found (each synced disk) s kept kept bytes (still found disk s kept h) f).flip w.0 image w.1) [ inl o ↦ o | inr o ↦ o ];
+  };
 }

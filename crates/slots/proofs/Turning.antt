@@ -6,13 +6,13 @@ use Rattle.outside.specs.declared.device.Address.{Address}
 use Rattle.disk.specs.Acts.{Act, Now, Took, Quiet, ReceiveFailed, Sent, SendFailed, Wrote, Cut, Synced, StoreFailed}
 use Rattle.disk.specs.Disk.{Disk, Image, contents, effect, after, may_hold, may_leave}
 use Rattle.disk.specs.DiskLaws.{Every, Fails, IsReadFault, IsCutShort}
-use Rattle.disk.proofs.CutShort.{alone, fault, read_fault}
+use Rattle.disk.proofs.CutShort.{alone, fault, read_fault, one_act}
 use Rattle.disk.proofs.Disks.{settled_stays}
 use Rattle.slots.specs.Opening.{Found, Is, Held, opening, OpensAs}
 use Rattle.slots.specs.Saving.{next, save_acts, open_acts, move_acts}
 use Rattle.slots.specs.SavingLaws.{Rests}
-use Rattle.slots.specs.Turns.{Turn, Idle, Event, Hears, Says, OnAreas, record_of, heard_events, events, kept_after, last_selector, datagrams, said_first}
-use Rattle.slots.specs.TurnLaws.{Keeps, AreTurns, IsFront, Near, NearShort, StartsAs}
+use Rattle.slots.specs.Turns.{Turn, Idle, Event, Hears, Says, OnAreas, record_of, heard_events, saved_events, events, kept_after, last_selector, datagrams, said_first}
+use Rattle.slots.specs.TurnLaws.{Keeps, AreTurns, IsFront, Near, NearShort, Ended, StartsAs}
 use Rattle.slots.proofs.Elsewhere.{after_append, every_take, every_append, take_both, take_none}
 use Rattle.slots.proofs.Saves.{saves}
 use Rattle.slots.proofs.Opens.{opens, moves}
@@ -71,6 +71,31 @@ none_heard (Idle ms heard ∷ turns) n e = none_heard turns (n - suc (length hea
 none_heard (Event ms heard saves kept selector said ∷ turns) n e =
     rw (lt-leb (suc (length heard)) n (omega arith)) refl
 
+-- nor saved
+none_saved : {K : Type 0} (turns : List (Turn K)) (n : ℕ) → n ≡ 0 → saved_events turns n ≡ 0
+none_saved [] n e = refl
+none_saved (Idle ms heard ∷ turns) n e = none_saved turns (n - suc (length heard)) (omega arith)
+none_saved (Event ms heard saves kept selector said ∷ turns) n e =
+    rw (lt-leb (suc (length heard) + length saves) n (omega arith)) refl
+
+-- a turn whose saves are not all there yet, and one whose are
+event_unsaved : {K : Type 0} (turns : List (Turn K)) (ms : ℕ) (heard saves : List Act) (kept : K) (selector : ℕ) (said : List Act) (n : ℕ) →
+    n < suc (length heard) + length saves → saved_events (Event ms heard saves kept selector said ∷ turns) n ≡ 0
+event_unsaved turns ms heard saves kept selector said n l = rw (lt-leb (suc (length heard) + length saves) n l) refl
+
+event_saved : {K : Type 0} (turns : List (Turn K)) (ms : ℕ) (heard saves : List Act) (kept : K) (selector : ℕ) (said : List Act) (n : ℕ) →
+    suc (length heard) + length saves ≤ n →
+    saved_events (Event ms heard saves kept selector said ∷ turns) n ≡ suc (saved_events turns (n - suc (length heard) - length saves - length said))
+event_saved turns ms heard saves kept selector said n l =
+    let e : n - (suc (length heard) + (length saves + length said)) ≡ n - suc (length heard) - length saves - length said = omega arith in
+    rw (le-leb (suc (length heard) + length saves) n l) (ap (λ x. suc (saved_events turns x)) e)
+
+at_most : (v c : ℕ) → v ≡ c → v ≤ c
+at_most v c e = omega arith
+
+one_more : (v a c : ℕ) → v ≡ suc a → a ≤ c → v ≤ suc c
+one_more v a c e h = omega arith
+
 pub none_kept : {K : Type 0} (turns : List (Turn K)) (k : K) → kept_after turns k 0 ≡ k
 none_kept [] k = refl
 none_kept (Idle ms heard ∷ turns) k = none_kept turns k
@@ -112,6 +137,13 @@ past_image disk hs tail n image h l m =
 past_datagrams : (hs tail : List Act) (n : ℕ) → Every Hears hs → length hs ≤ n → datagrams (take n (hs ++ tail)) ≡ datagrams (take (n - length hs) tail)
 past_datagrams hs tail n h l = ap datagrams (past hs tail n l) ∙ hears_nothing hs (take (n - length hs) tail) h
 
+silent_front : (acts : List Act) (ys : List (Address × List ℕ)) → datagrams acts ≡ [] → IsFront (datagrams acts) ys
+silent_front acts ys e = (ys, ap (λ xs. xs ++ ys) e)
+
+hears_front : (hs tail : List Act) (n : ℕ) (ys : List (Address × List ℕ)) → Every Hears hs → length hs ≤ n → IsFront (datagrams (take (n - length hs) tail)) ys →
+    IsFront (datagrams (take n (hs ++ tail))) ys
+hears_front hs tail n ys h l f = (f.0, ap (λ xs. xs ++ f.0) (past_datagrams hs tail n h l) ∙ f.1)
+
 -- acts that say, and others after them
 
 says_image : (disk : Disk) (said rest : List Act) (n : ℕ) (image : Image) → Every Says said → may_leave disk (take n (said ++ rest)) image ≡ true →
@@ -139,143 +171,193 @@ says_front said rest n ys f = go (cases_lt n (length said))
           ∙ (append_assoc (datagrams said) (datagrams (take (n - length said) rest)) f.0 ∙ ap (λ xs. datagrams said ++ xs) f.1)),
     )
 
+-- and store acts before these
+saves_front : (saves said rest : List Act) (n : ℕ) (ys : List (Address × List ℕ)) → Every OnAreas saves → length saves ≤ n →
+    IsFront (datagrams (take (n - length saves - length said) rest)) ys → IsFront (datagrams (take n (saves ++ (said ++ rest)))) (datagrams said ++ ys)
+saves_front saves said rest n ys o l f =
+    let g = says_front said rest (n - length saves) ys f in (
+      g.0,
+      ap (λ xs. datagrams xs ++ g.0) (past saves (said ++ rest) n l)
+          ∙ (ap (λ xs. xs ++ g.0) (stores_nothing saves (take (n - length saves) (said ++ rest)) o) ∙ g.1),
+    )
+
 -- one turn, and what follows
 
 idle_moment : {K : Type 0} (found : List ℕ → Found K) (turns : List (Turn K)) (disk : Disk) (k : K) (s ms : ℕ) (heard : List Act) → Rests found k s disk → Every Hears heard →
-    ((n : ℕ) (image : Image) → may_leave disk (take n (record_of turns)) image ≡ true → Near found turns k (heard_events turns n) (take n (record_of turns)) image) →
-    (n : ℕ) (image : Image) → may_leave disk (take n (record_of (Idle ms heard ∷ turns))) image ≡ true →
-    Near found (Idle ms heard ∷ turns) k (heard_events (Idle ms heard ∷ turns) n) (take n (record_of (Idle ms heard ∷ turns))) image
+    ((n : ℕ) (image : Image) → may_leave disk (take n (record_of turns)) image ≡ true → Near found turns k n image) → (n : ℕ) (image : Image) →
+    may_leave disk (take n (record_of (Idle ms heard ∷ turns))) image ≡ true → Near found (Idle ms heard ∷ turns) k n image
 idle_moment found turns disk k s ms heard r h ih n image m = go (cases_lt n (length (Now ms ∷ heard)))
   where
-    go : (n < length (Now ms ∷ heard)) ⊎ (length (Now ms ∷ heard) ≤ n) →
-        Near found (Idle ms heard ∷ turns) k (heard_events (Idle ms heard ∷ turns) n) (take n (record_of (Idle ms heard ∷ turns))) image
+    go : (n < length (Now ms ∷ heard)) ⊎ (length (Now ms ∷ heard) ≤ n) → Near found (Idle ms heard ∷ turns) k n image
     go (inl l) =
         let w = within found k s disk (Now ms ∷ heard) (record_of turns) n image r (tt, h) (omega arith) m in
         record {
           c = 0;
           near = inl (sym (none_heard turns (n - suc (length heard)) (omega arith)));
+          saved = at_most (saved_events turns (n - suc (length heard))) 0 (none_saved turns (n - suc (length heard)) (omega arith));
           opens = subst (λ x. OpensAs found x image) (sym (none_kept turns k)) w.opens;
-          sent = (said_first turns 0, ap (λ xs. xs ++ said_first turns 0) w.silent);
+          sent = silent_front (take n (record_of (Idle ms heard ∷ turns))) (said_first turns 0) w.silent;
+          durable = silent_front (take n (record_of (Idle ms heard ∷ turns))) (said_first turns (saved_events turns (n - suc (length heard)))) w.silent;
         }
     go (inr l) =
         let w = ih (n - suc (length heard)) image (past_image disk (Now ms ∷ heard) (record_of turns) n image (tt, h) l m) in
         record {
           c = w.c;
           near = w.near;
+          saved = w.saved;
           opens = w.opens;
-          sent = (w.sent.0, ap (λ xs. xs ++ w.sent.0) (past_datagrams (Now ms ∷ heard) (record_of turns) n (tt, h) l) ∙ w.sent.1);
+          sent = hears_front (Now ms ∷ heard) (record_of turns) n (said_first turns w.c) (tt, h) l w.sent;
+          durable = hears_front (Now ms ∷ heard) (record_of turns) n (said_first turns (saved_events turns (n - suc (length heard)))) (tt, h) l w.durable;
         }
 
+-- as Near, of some acts by which e events were heard and v saved
+record Close {K : Type 0} (found : List ℕ → Found K) (turns : List (Turn K)) (k : K) (e v : ℕ) (acts : List Act) (image : Image) : Type 0 where
+  pub c : ℕ
+  pub near : (c ≡ e) ⊎ (suc c ≡ e)
+  pub saved : v ≤ c
+  pub opens : OpensAs found (kept_after turns k c) image
+  pub sent : IsFront (datagrams acts) (said_first turns c)
+  pub durable : IsFront (datagrams acts) (said_first turns v)
+
 -- while the state is made durable
-saving : {K : Type 0} (found : List ℕ → Found K) (turns : List (Turn K)) (k : K) (ms : ℕ) (heard saves : List Act) (kept : K) (selector : ℕ) (said acts : List Act) (e : ℕ) (image : Image) →
-    OpensAs found k image ⊎ OpensAs found kept image → e ≡ 0 → datagrams acts ≡ [] → Near found (Event ms heard saves kept selector said ∷ turns) k (suc e) acts image
-saving found turns k ms heard saves kept selector said acts e image (inl o) z d =
-    record { c = 0; near = inr (ap suc (sym z)); opens = o; sent = ([], ap (λ xs. xs ++ []) d) }
-saving found turns k ms heard saves kept selector said acts e image (inr o) z d = record {
+saving : {K : Type 0} (found : List ℕ → Found K) (turns : List (Turn K)) (k : K) (ms : ℕ) (heard saves : List Act) (kept : K) (selector : ℕ) (said acts : List Act) (e v : ℕ) (image : Image) →
+    OpensAs found k image ⊎ OpensAs found kept image → e ≡ 0 → v ≡ 0 → datagrams acts ≡ [] →
+    Close found (Event ms heard saves kept selector said ∷ turns) k (suc e) v acts image
+saving found turns k ms heard saves kept selector said acts e v image (inl o) z y d = record {
+  c = 0;
+  near = inr (ap suc (sym z));
+  saved = at_most v 0 y;
+  opens = o;
+  sent = silent_front acts [] d;
+  durable = silent_front acts (said_first (Event ms heard saves kept selector said ∷ turns) v) d;
+}
+saving found turns k ms heard saves kept selector said acts e v image (inr o) z y d = record {
   c = 1;
   near = inl (ap suc (sym z));
+  saved = omega arith;
   opens = subst (λ x. OpensAs found x image) (sym (none_kept turns kept)) o;
-  sent = (
-    said_first (Event ms heard saves kept selector said ∷ turns) 1,
-    ap (λ xs. xs ++ said_first (Event ms heard saves kept selector said ∷ turns) 1) d,
-  );
+  sent = silent_front acts (said_first (Event ms heard saves kept selector said ∷ turns) 1) d;
+  durable = silent_front acts (said_first (Event ms heard saves kept selector said ∷ turns) v) d;
 }
 
 -- from the first store act on
 storing : {K : Type 0} (found : List ℕ → Found K) (turns : List (Turn K)) (disk : Disk) (k : K) (ms : ℕ) (heard saves : List Act) (kept : K) (selector : ℕ) (said : List Act) →
     Keeps found k kept selector saves disk → Every Says said →
-    ((n : ℕ) (image : Image) → may_leave (after disk saves) (take n (record_of turns)) image ≡ true →
-    Near found turns kept (heard_events turns n) (take n (record_of turns)) image) → (n : ℕ) (image : Image) →
+    ((n : ℕ) (image : Image) → may_leave (after disk saves) (take n (record_of turns)) image ≡ true → Near found turns kept n image) → (n v : ℕ) (image : Image) →
+    (n < length saves → v ≡ 0) → (length saves ≤ n → v ≡ suc (saved_events turns (n - length saves - length said))) →
     may_leave disk (take n (saves ++ (said ++ record_of turns))) image ≡ true →
-    Near found (Event ms heard saves kept selector said ∷ turns) k (suc (heard_events turns (n - (length saves + length said)))) (take n (saves ++ (said ++ record_of turns))) image
-storing found turns disk k ms heard saves kept selector said kp h ih n image m = go (cases_lt n (length saves))
+    Close found (Event ms heard saves kept selector said ∷ turns) k (suc (heard_events turns (n - (length saves + length said)))) v (take n (saves ++ (said ++ record_of turns))) image
+storing found turns disk k ms heard saves kept selector said kp h ih n v image early late m = go (cases_lt n (length saves))
   where
     go : (n < length saves) ⊎ (length saves ≤ n) →
-        Near found (Event ms heard saves kept selector said ∷ turns) k (suc (heard_events turns (n - (length saves + length said)))) (take n (saves ++ (said ++ record_of turns))) image
+        Close found (Event ms heard saves kept selector said ∷ turns) k (suc (heard_events turns (n - (length saves + length said)))) v (take n (saves ++ (said ++ record_of turns))) image
     go (inl l) =
         let e : take n (saves ++ (said ++ record_of turns)) ≡ take n saves = take-append-le n saves (said ++ record_of turns) (omega arith) in
         let some : OpensAs found k image ⊎ OpensAs found kept image = kp.each n image (subst (λ (a : List Act). may_leave disk a image ≡ true) e m) in
         let quiet : datagrams (take n saves) ≡ [] = ap datagrams (sym (append-nil (take n saves))) ∙ stores_nothing (take n saves) [] (every_take OnAreas n saves kp.only) in
-        saving found turns k ms heard saves kept selector said (take n (saves ++ (said ++ record_of turns))) (heard_events turns (n - (length saves + length said))) image some
-        (none_heard turns (n - (length saves + length said)) (omega arith)) (ap datagrams e ∙ quiet)
+        saving found turns k ms heard saves kept selector said (take n (saves ++ (said ++ record_of turns))) (heard_events turns (n - (length saves + length said))) v image some
+        (none_heard turns (n - (length saves + length said)) (omega arith)) (early l) (ap datagrams e ∙ quiet)
     go (inr l) =
         let split : take n (saves ++ (said ++ record_of turns)) ≡ saves ++ take (n - length saves) (said ++ record_of turns) = past saves (said ++ record_of turns) n l in
         let later : may_leave (after disk saves) (take (n - length saves) (said ++ record_of turns)) image ≡ true =
         subst (λ (d : Disk). may_hold d image ≡ true) (ap (after disk) split ∙ after_append disk saves (take (n - length saves) (said ++ record_of turns))) m in
         let w = ih (n - length saves - length said) image (says_image (after disk saves) said (record_of turns) (n - length saves) image h later) in
         let e : n - (length saves + length said) ≡ n - length saves - length said = omega arith in
-        let f : IsFront (datagrams (take (n - length saves) (said ++ record_of turns))) (datagrams said ++ said_first turns w.c) =
-        says_front said (record_of turns) (n - length saves) (said_first turns w.c) w.sent in
         record {
           c = suc w.c;
           near = rw e (elim (w.near) [ inl a ↦ inl (ap suc a) | inr a ↦ inr (ap suc a) ]);
+          saved = one_more v (saved_events turns (n - length saves - length said)) w.c (late l) w.saved;
           opens = w.opens;
-          sent = (
-            f.0,
-            ap (λ xs. datagrams xs ++ f.0) split
-                ∙ (ap (λ xs. xs ++ f.0) (stores_nothing saves (take (n - length saves) (said ++ record_of turns)) kp.only) ∙ f.1),
-          );
+          sent = saves_front saves said (record_of turns) n (said_first turns w.c) kp.only l w.sent;
+          durable = subst (λ x. IsFront (datagrams (take n (saves ++ (said ++ record_of turns)))) (said_first (Event ms heard saves kept selector said ∷ turns) x)) (sym (late l))
+              (saves_front saves said (record_of turns) n (said_first turns (saved_events turns (n - length saves - length said))) kp.only l w.durable);
         }
 
 event_moment : {K : Type 0} (found : List ℕ → Found K) (turns : List (Turn K)) (disk : Disk) (k : K) (s ms : ℕ) (heard saves : List Act) (kept : K) (selector : ℕ) (said : List Act) →
     Rests found k s disk → Every Hears heard → Keeps found k kept selector saves disk → Every Says said →
-    ((n : ℕ) (image : Image) → may_leave (after disk saves) (take n (record_of turns)) image ≡ true →
-    Near found turns kept (heard_events turns n) (take n (record_of turns)) image) → (n : ℕ) (image : Image) →
+    ((n : ℕ) (image : Image) → may_leave (after disk saves) (take n (record_of turns)) image ≡ true → Near found turns kept n image) → (n : ℕ) (image : Image) →
     may_leave disk (take n (record_of (Event ms heard saves kept selector said ∷ turns))) image ≡ true →
-    Near found (Event ms heard saves kept selector said ∷ turns) k (heard_events (Event ms heard saves kept selector said ∷ turns) n) (take n (record_of (Event ms heard saves kept selector said ∷ turns))) image
+    Near found (Event ms heard saves kept selector said ∷ turns) k n image
 event_moment {K = K} found turns disk k s ms heard saves kept selector said r h kp q ih n image m = go (cases_lt n (length (Now ms ∷ heard)))
   where
-    go : (n < length (Now ms ∷ heard)) ⊎ (length (Now ms ∷ heard) ≤ n) →
-        Near found (Event ms heard saves kept selector said ∷ turns) k (heard_events (Event ms heard saves kept selector said ∷ turns) n) (take n (record_of (Event ms heard saves kept selector said ∷ turns))) image
+    v : ℕ
+    v = saved_events (Event ms heard saves kept selector said ∷ turns) n
+
+    early : n < suc (length heard) + length saves → v ≡ 0
+    early = event_unsaved turns ms heard saves kept selector said n
+
+    late : suc (length heard) + length saves ≤ n → v ≡ suc (saved_events turns (n - suc (length heard) - length saves - length said))
+    late = event_saved turns ms heard saves kept selector said n
+
+    go : (n < length (Now ms ∷ heard)) ⊎ (length (Now ms ∷ heard) ≤ n) → Near found (Event ms heard saves kept selector said ∷ turns) k n image
     go (inl l) =
         let w = within found k s disk (Now ms ∷ heard) (saves ++ (said ++ record_of turns)) n image r (tt, h) (omega arith) m in
         record {
           c = 0;
           near = inl (rw (lt-leb (suc (length heard)) n (omega arith)) refl);
+          saved = at_most v 0 (early (omega arith));
           opens = w.opens;
-          sent = ([], ap (λ xs. xs ++ []) w.silent);
+          sent = silent_front (take n (record_of (Event ms heard saves kept selector said ∷ turns))) [] w.silent;
+          durable = silent_front (take n (record_of (Event ms heard saves kept selector said ∷ turns))) (said_first (Event ms heard saves kept selector said ∷ turns) v) w.silent;
         }
     go (inr l) =
-        let w = storing found turns disk k ms heard saves kept selector said kp q ih (n - suc (length heard)) image
+        let w = storing found turns disk k ms heard saves kept selector said kp q ih (n - suc (length heard)) v image (λ a. early (omega arith)) (λ a. late (omega arith))
         (past_image disk (Now ms ∷ heard) (saves ++ (said ++ record_of turns)) n image (tt, h) l m) in
         let e : n - suc (length heard) - (length saves + length said) ≡ n - (suc (length heard) + (length saves + length said)) = omega arith in
         record {
           c = w.c;
           near = rw (le-leb (suc (length heard)) n l) (rw e at w.near);
+          saved = w.saved;
           opens = w.opens;
-          sent = (w.sent.0, ap (λ xs. xs ++ w.sent.0) (past_datagrams (Now ms ∷ heard) (saves ++ (said ++ record_of turns)) n (tt, h) l) ∙ w.sent.1);
+          sent = hears_front (Now ms ∷ heard) (saves ++ (said ++ record_of turns)) n (said_first (Event ms heard saves kept selector said ∷ turns) w.c) (tt, h) l w.sent;
+          durable = hears_front (Now ms ∷ heard) (saves ++ (said ++ record_of turns)) n (said_first (Event ms heard saves kept selector said ∷ turns) v) (tt, h) l w.durable;
         }
 
 pub turns_keep : {K : Type 0} (found : List ℕ → Found K) (turns : List (Turn K)) (disk : Disk) (k : K) (s : ℕ) → Rests found k s disk → AreTurns found turns k disk → (n : ℕ) (image : Image) →
-    may_leave disk (take n (record_of turns)) image ≡ true → Near found turns k (heard_events turns n) (take n (record_of turns)) image
+    may_leave disk (take n (record_of turns)) image ≡ true → Near found turns k n image
 turns_keep {K = K} found [] disk k s r t n image m =
     let e : take n (record_of {K = K} []) ≡ [] = take_none Act n [] refl in
     record {
       c = 0;
       near = inl refl;
+      saved = at_most 0 0 refl;
       opens = rests_opens found k s disk image r (subst (λ (a : List Act). may_leave disk a image ≡ true) e m);
-      sent = ([], ap (λ (a : List Act). datagrams a ++ []) e);
+      sent = silent_front (take n (record_of {K = K} [])) [] (ap datagrams e);
+      durable = silent_front (take n (record_of {K = K} [])) [] (ap datagrams e);
     }
 turns_keep found (Idle ms heard ∷ turns) disk k s r t n image m =
     idle_moment found turns disk k s ms heard r t.0 (turns_keep found turns disk k s r t.1) n image m
 turns_keep found (Event ms heard saves kept selector said ∷ turns) disk k s r t n image m =
     event_moment found turns disk k s ms heard saves kept selector said r t.0 t.1 t.2 (turns_keep found turns (after disk saves) kept selector t.1.done t.3) n image m
 
-pub turns_end : {K : Type 0} (found : List ℕ → Found K) (turns : List (Turn K)) (disk : Disk) (k : K) (s : ℕ) → Rests found k s disk → AreTurns found turns k disk →
+rests_after : {K : Type 0} (found : List ℕ → Found K) (turns : List (Turn K)) (disk : Disk) (k : K) (s : ℕ) → Rests found k s disk → AreTurns found turns k disk →
     Rests found (kept_after turns k (events turns)) (last_selector turns s) (after disk (record_of turns))
-turns_end found [] disk k s r t = r
-turns_end {K = K} found (Idle ms heard ∷ turns) disk k s r t =
+rests_after found [] disk k s r t = r
+rests_after {K = K} found (Idle ms heard ∷ turns) disk k s r t =
     let e : after disk (record_of (Idle ms heard ∷ turns)) ≡ after disk (record_of turns) =
     after_append disk (Now ms ∷ heard) (record_of turns) ∙ ap (λ d. after d (record_of turns)) (hears_after (Now ms ∷ heard) disk (tt, t.0)) in
-    subst (λ (d : Disk). Rests found (kept_after turns k (events turns)) (last_selector turns s) d) (sym e) (turns_end found turns disk k s r t.1)
-turns_end found (Event ms heard saves kept selector said ∷ turns) disk k s r t =
+    subst (λ (d : Disk). Rests found (kept_after turns k (events turns)) (last_selector turns s) d) (sym e) (rests_after found turns disk k s r t.1)
+rests_after found (Event ms heard saves kept selector said ∷ turns) disk k s r t =
     let e : after disk (record_of (Event ms heard saves kept selector said ∷ turns)) ≡ after (after disk saves) (record_of turns) =
     after_append disk (Now ms ∷ heard) (saves ++ (said ++ record_of turns))
     ∙ (ap (λ d. after d (saves ++ (said ++ record_of turns))) (hears_after (Now ms ∷ heard) disk (tt, t.0))
     ∙ (after_append disk saves (said ++ record_of turns)
     ∙ (after_append (after disk saves) said (record_of turns) ∙ ap (λ d. after d (record_of turns)) (says_after said (after disk saves) t.2)))) in
     subst (λ (d : Disk). Rests found (kept_after turns kept (events turns)) (last_selector turns selector) d) (sym e)
-    (turns_end found turns (after disk saves) kept selector t.1.done t.3)
+    (rests_after found turns (after disk saves) kept selector t.1.done t.3)
+
+said_all : {K : Type 0} (found : List ℕ → Found K) (turns : List (Turn K)) (disk : Disk) (k : K) → AreTurns found turns k disk →
+    datagrams (record_of turns) ≡ said_first turns (events turns)
+said_all found [] disk k t = refl
+said_all found (Idle ms heard ∷ turns) disk k t = hears_nothing (Now ms ∷ heard) (record_of turns) (tt, t.0) ∙ said_all found turns disk k t.1
+said_all found (Event ms heard saves kept selector said ∷ turns) disk k t =
+    hears_nothing (Now ms ∷ heard) (saves ++ (said ++ record_of turns)) (tt, t.0)
+    ∙ (stores_nothing saves (said ++ record_of turns) t.1.only
+    ∙ (datagrams_append said (record_of turns) ∙ ap (λ xs. datagrams said ++ xs) (said_all found turns (after disk saves) kept t.3)))
+
+pub turns_end : {K : Type 0} (found : List ℕ → Found K) (turns : List (Turn K)) (disk : Disk) (k : K) (s : ℕ) → Rests found k s disk → AreTurns found turns k disk →
+    Ended found turns k s (after disk (record_of turns))
+turns_end found turns disk k s r t = record { rests = rests_after found turns disk k s r t; said = said_all found turns disk k t }
 
 -- acts that make a state durable
 
@@ -316,34 +398,30 @@ started found first k slot s disk f (inr (e, is, z)) = rw (is, z) ((opens found 
 
 pub node_keeps : {K : Type 0} (found : List ℕ → Found K) (first k : K) (slot : List ℕ) (s : ℕ) (turns : List (Turn K)) (disk : Disk) → found slot ≡ Is first →
     StartsAs found first k s disk → AreTurns found turns k (after disk (open_acts disk.selector.bytes slot)) → (n : ℕ) (image : Image) →
-    may_leave disk (open_acts disk.selector.bytes slot ++ take n (record_of turns)) image ≡ true →
-    Near found turns k (heard_events turns n) (take n (record_of turns)) image
+    may_leave disk (open_acts disk.selector.bytes slot ++ take n (record_of turns)) image ≡ true → Near found turns k n image
 node_keeps found first k slot s turns disk f st t n image m =
     turns_keep found turns (after disk (open_acts disk.selector.bytes slot)) k s (started found first k slot s disk f st) t n image
     (subst (λ (d : Disk). may_hold d image ≡ true) (after_append disk (open_acts disk.selector.bytes slot) (take n (record_of turns))) m)
 
 pub node_ends : {K : Type 0} (found : List ℕ → Found K) (first k : K) (slot : List ℕ) (s : ℕ) (turns : List (Turn K)) (disk : Disk) → found slot ≡ Is first →
     StartsAs found first k s disk → AreTurns found turns k (after disk (open_acts disk.selector.bytes slot)) →
-    Rests found (kept_after turns k (events turns)) (last_selector turns s) (after disk (open_acts disk.selector.bytes slot ++ record_of turns))
+    Ended found turns k s (after disk (open_acts disk.selector.bytes slot ++ record_of turns))
 node_ends found first k slot s turns disk f st t =
-    subst (λ (d : Disk). Rests found (kept_after turns k (events turns)) (last_selector turns s) d)
-    (sym (after_append disk (open_acts disk.selector.bytes slot) (record_of turns)))
+    subst (λ (d : Disk). Ended found turns k s d) (sym (after_append disk (open_acts disk.selector.bytes slot) (record_of turns)))
     (turns_end found turns (after disk (open_acts disk.selector.bytes slot)) k s (started found first k slot s disk f st) t)
 
 pub moved_keeps : {K : Type 0} (found : List ℕ → Found K) (k : K) (slot : List ℕ) (s : ℕ) (turns : List (Turn K)) (disk : Disk) → opening found (contents disk) ≡ Held k s →
     found slot ≡ Is k → AreTurns found turns k (after disk (move_acts s slot)) → (n : ℕ) (image : Image) →
-    may_leave disk (move_acts s slot ++ take n (record_of turns)) image ≡ true →
-    Near found turns k (heard_events turns n) (take n (record_of turns)) image
+    may_leave disk (move_acts s slot ++ take n (record_of turns)) image ≡ true → Near found turns k n image
 moved_keeps found k slot s turns disk h f t n image m =
     turns_keep found turns (after disk (move_acts s slot)) k (next s) (moves found disk s k slot h f).done t n image
     (subst (λ (d : Disk). may_hold d image ≡ true) (after_append disk (move_acts s slot) (take n (record_of turns))) m)
 
 pub moved_ends : {K : Type 0} (found : List ℕ → Found K) (k : K) (slot : List ℕ) (s : ℕ) (turns : List (Turn K)) (disk : Disk) → opening found (contents disk) ≡ Held k s →
     found slot ≡ Is k → AreTurns found turns k (after disk (move_acts s slot)) →
-    Rests found (kept_after turns k (events turns)) (last_selector turns (next s)) (after disk (move_acts s slot ++ record_of turns))
+    Ended found turns k (next s) (after disk (move_acts s slot ++ record_of turns))
 moved_ends found k slot s turns disk h f t =
-    subst (λ (d : Disk). Rests found (kept_after turns k (events turns)) (last_selector turns (next s)) d)
-    (sym (after_append disk (move_acts s slot) (record_of turns)))
+    subst (λ (d : Disk). Ended found turns k (next s) d) (sym (after_append disk (move_acts s slot) (record_of turns)))
     (turns_end found turns (after disk (move_acts s slot)) k (next s) (moves found disk s k slot h f).done t)
 
 -- acts that a fault cut short
@@ -369,14 +447,11 @@ grown (Sent to bytes) xs ys e = ap (λ r. (to, bytes) ∷ r) e
 grown (SendFailed to bytes) xs ys e = ap (λ r. (to, bytes) ∷ r) e
 grown act xs ys e = e
 
-one : {T : Type 0} (x : T) (xs : List T) → xs ≡ [] → 1 ≡ length (x ∷ xs)
-one x xs e = rw e refl
-
 pub shorts : (disk : Disk) (acts did : List Act) (image : Image) → IsCutShort acts did → may_leave disk did image ≡ true → Short disk acts did image
 shorts disk acts [] image c m = record { n = 0; holds = m; count = inl refl; sent = refl }
 shorts disk [] (d ∷ did) image c m =
     let held = subst (λ (x : Disk). may_hold x image ≡ true) (read_fault d disk c.0) (alone disk d did image c.1 m) in
-    record { n = 0; holds = held; count = inr (one d did c.1); sent = read_silent d did c.0 ∙ ap datagrams c.1 }
+    record { n = 0; holds = held; count = inr (one_act d did c.1); sent = read_silent d did c.0 ∙ ap datagrams c.1 }
 shorts disk (act ∷ acts) (d ∷ did) image (inl c) m =
     let w = shorts (effect act disk) acts did image c.1 (rw c.0 at m) in
     record {
@@ -398,20 +473,20 @@ shorts disk (act ∷ acts) (d ∷ did) image (inr c) m = go c.0
           | inl e ↦ record {
             n = 0;
             holds = subst (λ (x : Disk). may_hold x image ≡ true) e held;
-            count = inr (one d did c.1);
+            count = inr (one_act d did c.1);
             sent = q.0 ∙ ap datagrams c.1;
           }
           | inr e ↦ record {
             n = 1;
             holds = subst (λ (x : Disk). may_hold x image ≡ true) e held;
-            count = inl (one d did c.1);
+            count = inl (one_act d did c.1);
             sent = q.0 ∙ (ap datagrams c.1 ∙ sym z.1);
           }
         ]
     go (inr r) = record {
       n = 0;
       holds = subst (λ (x : Disk). may_hold x image ≡ true) (read_fault d disk r) held;
-      count = inr (one d did c.1);
+      count = inr (one_act d did c.1);
       sent = read_silent d did r ∙ ap datagrams c.1;
     }
 

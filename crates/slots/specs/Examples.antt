@@ -2,10 +2,11 @@
 use Rattle.std.specs.Prelude.{ℕ, ◌%◌, ◌==◌, Bool, if◌then◌else◌, List, [], ◌∷◌, take, length}
 use Rattle.outside.specs.declared.device.Address.{Address}
 use Rattle.disk.specs.Acts.{Act, Took, Quiet, Sent, SendFailed, Wrote, Cut, Synced}
-use Rattle.disk.specs.Disk.{Image, settled, may_leave}
+use Rattle.disk.specs.Disk.{Disk, Image, settled, may_leave}
 use Rattle.slots.specs.Opening.{Found, Is, Not, BadSlot, BadJournal, Opening, opening}
 use Rattle.slots.specs.Saving.{save_acts}
 use Rattle.slots.specs.Turns.{Turn, Idle, Event}
+use Rattle.slots.specs.TurnLaws.{Near}
 
 -- a slot is how many bytes its state has, these bytes, and nothing else
 abbrev pub counted_found : List ℕ → Found (List ℕ)
@@ -31,6 +32,14 @@ leaves first acts slot0 slot1 selector =
 abbrev pub save_leaves : ℕ → List ℕ → List ℕ → Bool
 save_leaves n slot1 selector =
     leaves (slot (1 ∷ [])) (take n (save_acts 0 (slot (2 ∷ 2 ∷ [])))) (slot (1 ∷ [])) slot1 selector
+
+-- at rest as the state 1, under the selector 0
+abbrev pub at_rest : Disk
+at_rest = record { slot0 = settled (slot (1 ∷ [])); slot1 = settled (slot (1 ∷ [])); selector = settled (0 ∷ []) }
+
+-- nothing on any area
+abbrev pub blank : Disk
+blank = record { slot0 = settled []; slot1 = settled []; selector = settled [] }
 
 -- a save whose selector is written before its slot is synced
 abbrev pub hasty_acts : List ℕ → List Act
@@ -58,3 +67,7 @@ three_turns =
     ∷ Event 305 (Took 100 (node_at 7001) (8 ∷ []) ∷ []) (save_acts 0 (slot (2 ∷ []))) (2 ∷ []) 1 (Sent (node_at 7001) (9 ∷ []) ∷ [])
     ∷ Event 405 [] (save_acts 1 (slot (3 ∷ []))) (3 ∷ []) 2 (SendFailed (node_at 7002) (7 ∷ []) ∷ [])
     ∷ []
+
+-- that after so many of their acts, from the state 1 on, this image is as it is to be
+abbrev pub IsNear : ℕ → List ℕ → List ℕ → List ℕ → Type 0
+IsNear n slot0 slot1 selector = Near counted_found three_turns (1 ∷ []) n (image_of slot0 slot1 selector)

@@ -1,5 +1,5 @@
 -- What a crash leaves, at each moment of a save and of an opening.
-use Rattle.std.specs.Prelude.{◌≡◌, ◌≢◌, ℕ, ◌≤◌, true, List, [], ◌∷◌, take, ◌⊎◌}
+use Rattle.std.specs.Prelude.{◌≡◌, ◌≢◌, ℕ, ◌≤◌, true, List, [], ◌∷◌, length, take, ◌⊎◌}
 use Rattle.disk.specs.Acts.{Act}
 use Rattle.disk.specs.Disk.{Disk, Image, contents, NothingPending, after, may_hold, may_leave}
 use Rattle.disk.specs.DiskLaws.{IsCutShort}
@@ -42,6 +42,20 @@ SaveDone K =
     (found : List ℕ → Found K) (disk : Disk) (s : ℕ) (new : K) (bytes : List ℕ) → Ready s disk → found bytes ≡ Is new →
     Rests found new (next s) (after disk (save_acts s bytes))
 
+-- An opening that a fault cut short did at most three acts, or the three syncs first. In the one case there is no new image, and in
+-- the other each is as from the third sync on.
+pub record Interrupted (acts : List Act) (disk : Disk) (Stays : Image → Type 0) : Type 0 where
+  pub places : (did : List Act) → IsCutShort acts did → (length did ≤ 3) ⊎ (take 3 did ≡ sync_acts)
+  pub before : (did : List Act) (image : Image) → IsCutShort acts did → length did ≤ 3 → may_leave disk did image ≡ true →
+      may_hold disk image ≡ true
+  pub stays : (did : List Act) (image : Image) → IsCutShort acts did → take 3 did ≡ sync_acts → may_leave disk did image ≡ true →
+      Stays image
+
+-- what was read, or where area 2 was empty what opens as fresh or as the first state
+pub record StaysFound {K : Type 0} (found : List ℕ → Found K) (first : K) (disk : Disk) (image : Image) : Type 0 where
+  pub held : disk.selector.bytes ≢ [] → image ≡ contents disk
+  pub fresh : disk.selector.bytes ≡ [] → (opening found image ≡ Fresh) ⊎ OpensAs found first image
+
 -- Opening, whatever is pending at first.
 pub record Opens {K : Type 0} (found : List ℕ → Found K) (first : K) (acts : List Act) (disk : Disk) : Type 0 where
   -- before the third sync has succeeded nothing is written or cut, and there is no new image
@@ -55,6 +69,8 @@ pub record Opens {K : Type 0} (found : List ℕ → Found K) (first : K) (acts :
   pub fresh : disk.selector.bytes ≡ [] → (n : ℕ) (image : Image) → 3 ≤ n → may_leave disk (take n acts) image ≡ true →
       (opening found image ≡ Fresh) ⊎ OpensAs found first image
   pub fresh_done : disk.selector.bytes ≡ [] → Rests found first 0 (after disk acts)
+  -- the same where a fault cuts the opening short
+  pub short : Interrupted acts disk (λ image. StaysFound found first disk image)
 
 abbrev pub OpenKeeps : Type 0 → Type 0
 OpenKeeps K =
@@ -67,6 +83,8 @@ pub record Moves {K : Type 0} (found : List ℕ → Found K) (kept : K) (s : ℕ
   pub before : (n : ℕ) (image : Image) → n ≤ 3 → may_leave disk (take n acts) image ≡ true → may_hold disk image ≡ true
   -- from the third sync on each image opens as what was found
   pub stays : (n : ℕ) (image : Image) → 3 ≤ n → may_leave disk (take n acts) image ≡ true → OpensAs found kept image
+  -- the same where a fault cuts it short
+  pub short : Interrupted acts disk (λ image. OpensAs found kept image)
   pub done : Rests found kept (next s) (after disk acts)
 
 abbrev pub MoveKeeps : Type 0 → Type 0

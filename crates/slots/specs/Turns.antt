@@ -40,6 +40,14 @@ heard_events (Idle ms heard ∷ turns) n = heard_events turns (n - suc (length h
 heard_events (Event ms heard saves kept selector said ∷ turns) n =
     if nat_le (suc (length heard)) n then suc (heard_events turns (n - (suc (length heard) + (length saves + length said)))) else 0
 
+-- how many events have all of their saves within so many acts
+abbrev pub saved_events : {K : Type 0} → List (Turn K) → ℕ → ℕ
+saved_events [] n = 0
+saved_events (Idle ms heard ∷ turns) n = saved_events turns (n - suc (length heard))
+saved_events (Event ms heard saves kept selector said ∷ turns) n =
+    if nat_le (suc (length heard) + length saves) n then suc (saved_events turns (n - (suc (length heard) + (length saves + length said))))
+    else 0
+
 abbrev pub events : {K : Type 0} → List (Turn K) → ℕ
 events [] = 0
 events (Idle ms heard ∷ turns) = events turns

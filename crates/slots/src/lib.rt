@@ -8,7 +8,8 @@ mod running;
 mod saving;
 
 pub use examples::{
-    worked_acts, worked_journals, worked_openings, worked_saves, worked_turns, worked_wrong_orders,
+    worked_acts, worked_journals, worked_moments, worked_openings, worked_runs, worked_saves,
+    worked_starts, worked_turns, worked_ways, worked_wrong_orders,
 };
 pub use patch::patches;
 pub use running::{runs, ways_to_keep};

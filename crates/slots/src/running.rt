@@ -11,14 +11,15 @@ pub fn ways_to_keep<K>()
 
 /// What holds of a node's whole run, turn after turn.
 pub fn runs<K>()
-    // From a state at rest: after e events a crash leaves the state after e of them or one less, and no datagram of a later one
-    // went out.
+    // From a state at rest: after e events a crash leaves the state after e of them or one less, and no less than were saved. No
+    // datagram went out of an event that was not saved.
     ensures turns { TurnsKeep K }
 
     // The same where a fault cuts the acts short.
     ensures short { TurnsCutShort K }
 
-    // After the last turn the state after all events is there for good. One turn more is as good as those before.
+    // After the last turn the state after all events is there for good, and what they say went out or was lost. One turn more is as
+    // good as those before.
     ensures turns_end { TurnsEnd K }
     ensures grow { TurnsGrow K }
 

@@ -11,9 +11,11 @@ pub fn laws<K>()
     // What opened is ready for a save.
     ensures ready { RestsIsReady K }
 
-    // Opening leaves what it finds, whatever was pending before; where nothing was saved yet, the first state or nothing.
+    // Opening leaves what it finds, whatever was pending before; where nothing was saved yet, the first state or nothing. So it does
+    // where a fault cuts it short.
     ensures opens { OpenKeeps K }
 
-    // Opening a slot of an older form leaves the state that it finds, and saves it in the present form.
+    // Opening a slot of an older form leaves the state that it finds, also where a fault cuts it short, and saves it in the present
+    // form.
     ensures moves { MoveKeeps K }
 {}
