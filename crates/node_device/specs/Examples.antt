@@ -1,5 +1,5 @@
 -- Devices that tell, for examples.
-use Rattle.std.specs.Prelude.{ℕ, Option, Some, List, [], ◌∷◌}
+use Rattle.std.specs.Prelude.{ℕ, Option, None, Some, List, [], ◌∷◌}
 use Rattle.outside.specs.declared.device.Address.{Address}
 use Rattle.disk.specs.Acts.{Act}
 use Rattle.disk.specs.Disk.{Area, settled}
@@ -14,6 +14,10 @@ shows acts area = Some (record { acts = acts; disk = record { slot0 = area; slot
 abbrev pub tells : List Act → Option Told
 tells acts = shows acts (settled [])
 
+-- nothing is told
+abbrev pub untold : Option Told
+untold = None
+
 -- slot 0 with these bytes, and no act yet
 abbrev pub holds : List ℕ → Option Told
 holds bytes = shows [] (settled bytes)
@@ -21,6 +25,10 @@ holds bytes = shows [] (settled bytes)
 -- so many faults of receives, and of store calls, and one of each other kind
 abbrev pub counts : ℕ → ℕ → Faults
 counts receive store = record { begin = 1; receive = receive; store = store; send = 1 }
+
+-- so many faults of sends, and one of each other kind
+abbrev pub sends : ℕ → Faults
+sends n = record { begin = 1; receive = 1; store = 1; send = n }
 
 -- a node of this computer
 abbrev pub node_at : ℕ → Address

@@ -1,7 +1,7 @@
 ghost use Rattle.std.specs.Prelude.{◌≡◌, ℕ, Bool, true, ◌<◌, ◌≤◌, [], ◌∷◌, Option, OnSome};
 ghost use Rattle.disk.specs.Acts.{WriteAt, CutTo, Sync, Now, Wrote, Cut, Synced};
 ghost use Rattle.node_device.specs.Faults.{Faults, NoFewer, BeginCounts, ReceiveCounts, SendCounts, ReadCounts, StoreCounts};
-ghost use Rattle.node_device.specs.Telling.{Told, Did};
+ghost use Rattle.node_device.specs.Telling.{Told, Did, OthersStay};
 ghost use Rattle.node_device.specs.Outcomes.{Begins, Stores, Reads, Sends, Receives};
 
 use outside::{Address, Begun};
@@ -107,6 +107,7 @@ pub trait Device {
         requires begun { begun self.old ≡ true }
         requires area { area < 3 }
         ensures outcome { Stores (WriteAt area at bytes.now) (Wrote area at bytes.now) (told self.old) (told self.new) result }
+        ensures others { OthersStay area (told self.old) (told self.new) }
         ensures begun { begun self.new ≡ true }
         ensures causes { StoreCounts (faults self.old) (faults self.new) result }
         ensures counts { NoFewer (faults self.old) (faults self.new) };
@@ -116,6 +117,7 @@ pub trait Device {
         requires begun { begun self.old ≡ true }
         requires area { area < 3 }
         ensures outcome { Stores (CutTo area len) (Cut area len) (told self.old) (told self.new) result }
+        ensures others { OthersStay area (told self.old) (told self.new) }
         ensures begun { begun self.new ≡ true }
         ensures causes { StoreCounts (faults self.old) (faults self.new) result }
         ensures counts { NoFewer (faults self.old) (faults self.new) };
@@ -125,6 +127,7 @@ pub trait Device {
         requires begun { begun self.old ≡ true }
         requires area { area < 3 }
         ensures outcome { Stores (Sync area) (Synced area) (told self.old) (told self.new) result }
+        ensures others { OthersStay area (told self.old) (told self.new) }
         ensures begun { begun self.new ≡ true }
         ensures causes { StoreCounts (faults self.old) (faults self.new) result }
         ensures counts { NoFewer (faults self.old) (faults self.new) };

@@ -1,10 +1,10 @@
-ghost use Rattle.std.specs.Prelude.{◌≡◌, ◌-◌, ◌^◌, true, false, [], ◌∷◌, None};
-ghost use Rattle.disk.specs.Acts.{ReadAt, WriteAt, Sync, Began, BeginFailed, Quiet, Took, ReceiveFailed, SendFailed, Wrote, Synced, StoreFailed};
-ghost use Rattle.disk.specs.Disk.{settled, written};
-ghost use Rattle.node_device.specs.Faults.{BeginCounts, ReceiveCounts, ReadCounts, StoreCounts};
-ghost use Rattle.node_device.specs.Telling.{StoppedIn};
+ghost use Rattle.std.specs.Prelude.{◌≡◌, ◌-◌, ◌^◌, true, false, [], ◌∷◌, None, OnSome};
+ghost use Rattle.disk.specs.Acts.{ReadAt, WriteAt, CutTo, Sync, Now, Began, BeginFailed, Quiet, Took, ReceiveFailed, SendFailed, Wrote, Cut, Synced, StoreFailed};
+ghost use Rattle.disk.specs.Disk.{settled, written, cut};
+ghost use Rattle.node_device.specs.Faults.{BeginCounts, ReceiveCounts, SendCounts, ReadCounts, StoreCounts};
+ghost use Rattle.node_device.specs.Telling.{Did, OthersStay, StoppedIn};
 ghost use Rattle.node_device.specs.Outcomes.{Begins, Reads, Receives, Sends, Stores};
-ghost use Rattle.node_device.specs.Examples.{tells, shows, holds, counts, node_at};
+ghost use Rattle.node_device.specs.Examples.{untold, tells, shows, holds, counts, sends, node_at};
 
 use crate::{AreaRead, Received, Shipped, Stored};
 use outside::Begun;
@@ -21,6 +21,60 @@ pub fn worked_counts()
     ensures read_failed { ReadCounts (counts 2 5) (counts 2 6) AreaRead.Failed }
     ensures at_the_greatest { StoreCounts (counts 0 (2 ^ 64 - 1)) (counts 0 (2 ^ 64 - 1)) Stored.Failed }
     ensures no_beginning_counted { BeginCounts (counts 2 5) (counts 2 5) Begun.Failed → ⊥ }
+    ensures sent { SendCounts (sends 1) (sends 1) Shipped.Sent }
+    ensures sent_and_counted { SendCounts (sends 1) (sends 2) Shipped.Sent → ⊥ }
+    ensures send_failed { SendCounts (sends 1) (sends 2) Shipped.Failed }
+    ensures no_send_counted { SendCounts (sends 1) (sends 1) Shipped.Failed → ⊥ }
+    ensures send_counted_as_a_store { SendCounts (sends 1) (counts 1 2) Shipped.Failed → ⊥ }
+    ensures send_wanted { SendCounts (sends 1) (sends 1) Shipped.Memory }
+    ensures send_wanted_and_counted { SendCounts (sends 1) (sends 2) Shipped.Memory → ⊥ }
+{}
+
+/// Want of memory: nothing is done, recorded or counted.
+pub fn worked_wants()
+    ensures counts_of_begin { BeginCounts (counts 2 5) (counts 2 5) Begun.Memory }
+    ensures counts_of_receive { ReceiveCounts (counts 2 5) (counts 3 5) Received.Memory → ⊥ }
+    ensures counts_of_read { ReadCounts (counts 2 5) (counts 2 6) AreaRead.Memory → ⊥ }
+    ensures begin { Begins false false (tells []) (tells []) (node_at 7000) [] Begun.Memory }
+    ensures begin_done { Begins false true (tells []) (tells []) (node_at 7000) [] Begun.Memory → ⊥ }
+    ensures begin_recorded { Begins false false (tells []) (tells (BeginFailed (node_at 7000) [] ∷ [])) (node_at 7000) [] Begun.Memory → ⊥ }
+    ensures begun_before { Begins true true (tells []) (tells []) (node_at 7000) [] Begun.Memory }
+    ensures receive { Receives 300 (4 ∷ []) (tells []) (tells []) Received.Memory }
+    ensures receive_recorded { Receives 300 (4 ∷ []) (tells []) (tells (ReceiveFailed 300 ∷ [])) Received.Memory → ⊥ }
+    ensures send { Sends (node_at 7001) (4 ∷ []) (tells []) (tells []) Shipped.Memory }
+    ensures send_recorded { Sends (node_at 7001) (4 ∷ []) (tells []) (tells (SendFailed (node_at 7001) (4 ∷ []) ∷ [])) Shipped.Memory → ⊥ }
+    ensures read { Reads 0 1 (holds (1 ∷ 2 ∷ [])) (holds (1 ∷ 2 ∷ [])) (0 ∷ []) (0 ∷ []) AreaRead.Memory }
+    ensures read_recorded { Reads 2 0 (tells []) (tells (StoreFailed (ReadAt 2 0 1) ∷ [])) (0 ∷ []) (0 ∷ []) AreaRead.Memory → ⊥ }
+    ensures write { Stores (WriteAt 0 0 (9 ∷ [])) (Wrote 0 0 (9 ∷ [])) (holds (1 ∷ [])) (holds (1 ∷ [])) Stored.Memory }
+    ensures write_done { Stores (WriteAt 0 0 (9 ∷ [])) (Wrote 0 0 (9 ∷ [])) (holds (1 ∷ []))
+        (shows [] (written 0 (9 ∷ []) (settled (1 ∷ [])))) Stored.Memory → ⊥ }
+    ensures cut { Stores (CutTo 0 0) (Cut 0 0) (holds (1 ∷ [])) (holds (1 ∷ [])) Stored.Memory }
+    ensures cut_recorded { Stores (CutTo 0 0) (Cut 0 0) (holds (1 ∷ []))
+        (shows (StoreFailed (CutTo 0 0) ∷ []) (settled (1 ∷ []))) Stored.Memory → ⊥ }
+    ensures sync { Stores (Sync 0) (Synced 0) (tells []) (tells []) Stored.Memory }
+    ensures stops_telling { Stores (Sync 0) (Synced 0) (tells []) None Stored.Memory → ⊥ }
+{}
+
+/// A device may stop telling where it gives a clock value, and nowhere else; and none begins to tell.
+pub fn worked_telling()
+    ensures now { OnSome (tells (Now 5 ∷ [])) (Did (tells []) (tells (Now 5 ∷ [])) (Now 5 ∷ [])) }
+    ensures another_value { OnSome (tells (Now 6 ∷ [])) (Did (tells []) (tells (Now 6 ∷ [])) (Now 5 ∷ [])) → ⊥ }
+    ensures now_unrecorded { OnSome (tells []) (Did (tells []) (tells []) (Now 5 ∷ [])) → ⊥ }
+    ensures now_stops { OnSome untold (Did (tells []) None (Now 5 ∷ [])) }
+    ensures now_untold { OnSome untold (Did None None (Now 5 ∷ [])) }
+    ensures now_begins_to_tell { OnSome (tells (Now 5 ∷ [])) (Did None (tells (Now 5 ∷ [])) (Now 5 ∷ [])) → ⊥ }
+    ensures begin_stops { Begins false true (tells []) None (node_at 7000) [] Begun.Ready → ⊥ }
+    ensures receive_stops { Receives 300 (4 ∷ []) (tells []) None Received.Quiet → ⊥ }
+    ensures send_stops { Sends (node_at 7001) (4 ∷ []) (tells []) None Shipped.Failed → ⊥ }
+    ensures read_stops { Reads 0 0 (tells []) None (0 ∷ []) (0 ∷ []) (AreaRead.Got 0) → ⊥ }
+    ensures sync_stops { Stores (Sync 0) (Synced 0) (tells []) None Stored.Done → ⊥ }
+    ensures failed_sync_stops { Stores (Sync 0) (Synced 0) (tells []) None Stored.Failed → ⊥ }
+    ensures failed_sync_untold { Stores (Sync 0) (Synced 0) None None Stored.Failed }
+    ensures failed_sync_begins_to_tell { Stores (Sync 0) (Synced 0) None (tells []) Stored.Failed → ⊥ }
+    ensures others_stop { OthersStay 0 (tells []) None → ⊥ }
+    ensures others_untold { OthersStay 0 None None }
+    ensures cut_short_stops { StoppedIn (tells []) None (Synced 0 ∷ []) → ⊥ }
+    ensures cut_short_begins_to_tell { StoppedIn None (tells []) (Synced 0 ∷ []) → ⊥ }
 {}
 
 /// Beginnings, receives and sends, with the acts that they add to the record.
@@ -60,6 +114,11 @@ pub fn worked_stores()
     ensures failed_elsewhere { Stores (WriteAt 0 0 (9 ∷ [])) (Wrote 0 0 (9 ∷ [])) (holds (1 ∷ 2 ∷ []))
         (shows (StoreFailed (WriteAt 0 0 (9 ∷ [])) ∷ []) (settled (1 ∷ 5 ∷ []))) Stored.Failed → ⊥ }
     ensures failed_unrecorded { Stores (Sync 0) (Synced 0) (tells []) (tells []) Stored.Failed → ⊥ }
+    ensures cut_done { Stores (CutTo 0 1) (Cut 0 1) (holds (1 ∷ 2 ∷ [])) (shows (Cut 0 1 ∷ []) (cut 1 (settled (1 ∷ 2 ∷ [])))) Stored.Done }
+    ensures own_area { OthersStay 0 (holds (1 ∷ [])) (holds (7 ∷ [])) }
+    ensures another_area { OthersStay 1 (holds (1 ∷ [])) (holds (7 ∷ [])) → ⊥ }
+    ensures no_area { OthersStay 2 (holds (1 ∷ [])) (holds (1 ∷ [])) }
+    ensures pending_elsewhere { OthersStay 1 (shows [] (written 0 (9 ∷ []) (settled (1 ∷ [])))) (holds (9 ∷ [])) → ⊥ }
 {}
 
 /// Reads of slot 0, which holds three bytes.

@@ -6,4 +6,7 @@ mod device;
 mod examples;
 
 pub use device::{AreaRead, Device, Received, Shipped, Stored};
-pub use examples::{worked_counts, worked_messages, worked_stops, worked_stores};
+pub use examples::{
+    worked_counts, worked_messages, worked_reads, worked_stops, worked_stores, worked_telling,
+    worked_wants,
+};

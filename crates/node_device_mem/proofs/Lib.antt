@@ -5,3 +5,4 @@ pub mod Following
 pub mod Worded
 pub mod Failed
 pub mod Lengths
+pub mod Read

@@ -1,5 +1,5 @@
 -- The record of a device over memory.
-use Rattle.std.specs.Prelude.{ℕ, zero, suc, ◌+◌, ◌-◌, ◌^◌, min, List, [], ◌∷◌, ◌++◌, length, slice_get, flat_map, Option, Some, None, unwrap_or, if◌then◌else◌}
+use Rattle.std.specs.Prelude.{◌≡◌, ℕ, zero, suc, ◌+◌, ◌-◌, ◌^◌, min, List, [], ◌∷◌, ◌++◌, length, slice_get, flat_map, Option, Some, None, unwrap_or, if◌then◌else◌}
 use Rattle.outside.specs.Counting.{counted}
 use Rattle.disk.specs.Acts.{ReadAt, WriteAt, CutTo, Sync, Act, Began, BeginFailed, Now, Took, Quiet, ReceiveFailed, Sent, SendFailed, Wrote, Cut, Synced, StoreFailed}
 use Rattle.node_device_mem.specs.declared.past.PastAct.{PastAct}
@@ -27,9 +27,18 @@ act_of (past.SyncFailed area) = StoreFailed (Sync area)
 abbrev pub clock_value : List ℕ → ℕ → ℕ
 clock_value clock place = unwrap_or (slice_get clock (min place (length clock - 1))) 0
 
+-- how many values its clock gave, as long as they can be counted
+abbrev pub clock_place : History → ℕ
+clock_place history = min (history.from + history.nows) (2 ^ 64 - 1)
+
 -- the next value of its clock
 abbrev pub next_value : History → ℕ
-next_value history = clock_value history.clock.items (min (history.from + history.nows) (2 ^ 64 - 1))
+next_value history = clock_value history.clock.items (clock_place history)
+
+-- its clock stands where it stood
+pub record SameClock (old new : History) : Type 0 where
+  pub values : new.clock.items ≡ old.clock.items
+  pub place : clock_place new ≡ clock_place old
 
 -- so many values from a place on
 abbrev pub nows_from : List ℕ → ℕ → ℕ → List Act

@@ -1,11 +1,13 @@
 -- Which calls of a device over memory fail, and what the others come to.
-use Rattle.std.specs.Prelude.{◌≡◌, ℕ, min, Bool, true, false, ◌||◌, nat_le, Option, Some, None, List, length, take, slice_get, option_and_then}
+use Rattle.std.specs.Prelude.{◌≡◌, ℕ, min, Bool, true, false, ◌||◌, nat_le, Option, Some, None, List, [], ◌∷◌, length, take, slice_get, option_and_then}
 use Rattle.std.specs.Option.{option_map_or}
 use Rattle.outside.specs.Counting.{counted}
 use Rattle.outside.specs.declared.device.Address.{Address}
 use Rattle.outside.specs.declared.device.Begun.{Begun}
 use Rattle.outside.specs.declared.device.Begun.TheVariants as begun
 use Rattle.outside_mem.specs.Counts.{is_due}
+use Rattle.disk.specs.Acts.{StoreCall, Act, StoreFailed}
+use Rattle.node_device.specs.Telling.{Told, Did}
 use Rattle.node_device.specs.declared.device.Stored.{Stored}
 use Rattle.node_device.specs.declared.device.Stored.TheVariants as stored
 use Rattle.node_device.specs.declared.device.AreaRead.{AreaRead}
@@ -54,6 +56,12 @@ StoresBy due stored.Done = due ≡ false
 StoresBy due stored.Failed = due ≡ true
 StoresBy due stored.Memory = Unit {0}
 
+-- A store call does to the areas just what it stands for in the record, also where it fails: a write or cut that failed is done.
+abbrev pub StoresExactly : StoreCall → Act → Option Told → Option Told → Stored → Type 0
+StoresExactly call act old new stored.Done = Did old new (act ∷ [])
+StoresExactly call act old new stored.Failed = Did old new (StoreFailed call ∷ [])
+StoresExactly call act old new stored.Memory = new ≡ old
+
 abbrev pub datagram_of : Arrival → Option (Address × List ℕ)
 datagram_of (arrival.Datagram from bytes) = Some (from, bytes.items)
 datagram_of arrival.Quiet = None
@@ -81,8 +89,3 @@ received_after n (received.Datagram from len) = counted n
 received_after n received.Quiet = counted n
 received_after n received.Failed = n
 received_after n received.Memory = n
-
--- a receive took the next of these arrivals, or none
-pub record TakesNext (arrivals : List Arrival) (before after : ℕ) (buffer : List ℕ) (answer : Received) : Type 0 where
-  pub brings : Brings (next_arrival arrivals before) buffer answer
-  pub next : after ≡ received_after before answer

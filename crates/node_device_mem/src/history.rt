@@ -2,7 +2,8 @@ ghost use Rattle.std.specs.Prelude.{◌≡◌, ℕ, ◌<◌, ◌++◌, [], ◌�
 ghost use Rattle.disk.specs.Acts.{Act, Now};
 ghost use Rattle.disk.specs.Images.{started, followed};
 ghost use Rattle.node_device_mem.specs.MemoryDisks.{disk_of};
-ghost use Rattle.node_device_mem.specs.Histories.{act_of, acts_told, acts_counted, counted_on, all_acts, clock_value, next_value};
+ghost use Rattle.node_device_mem.specs.Histories.{SameClock, act_of, acts_told, acts_counted, counted_on, all_acts, clock_place, clock_value, next_value};
+ghost use Rattle.outside.specs.Counting.{counted};
 ghost use Rattle.node_device_mem.specs.MemoryTrails.{trail_of};
 
 use crate::memory_disk::MemoryDisk;
@@ -73,6 +74,8 @@ impl History {
         ensures value { result ≡ next_value self.old }
         ensures acts { OnSome (acts_told self.new)
             (acts_told self.new ≡ option_map (λ acts. acts ++ Now result ∷ []) (acts_told self.old)) }
+        ensures place { clock_place self.new ≡ counted (clock_place self.old) }
+        ensures clock { self.new.clock.items ≡ self.old.clock.items }
     {
         let place = self.from.saturating_add(self.nows);
         let value = value_at(&self.clock, place);
@@ -88,6 +91,7 @@ impl History {
     pub fn reserve(&mut self) -> Result<(), AllocError>
         ensures acts { acts_told self.new ≡ acts_told self.old }
         ensures room { OnOk result (vec_len self.new.past < vec_capacity self.new.past) }
+        ensures clock { SameClock self.old self.new }
     {
         self.past.reserve(1)
     }
@@ -97,6 +101,7 @@ impl History {
         ensures ok { OnOk result (acts_told self.new ≡ option_map (λ acts. acts ++ act_of act ∷ []) (acts_told self.old)) }
         ensures err { OnErr result (acts_told self.new ≡ acts_told self.old) }
         ensures room { vec_len self.old.past < vec_capacity self.old.past → IsOk result }
+        ensures clock { SameClock self.old self.new }
     {
         let (from, nows) = (self.from, self.nows);
         self.past.push(Past { from, nows, act })?;

@@ -3,7 +3,9 @@
 #![tactic(auto)]
 
 mod area;
+mod examples;
 mod history;
+mod laws;
 mod memory;
 mod memory_disk;
 mod past;
@@ -11,6 +13,8 @@ mod script;
 mod steady;
 mod trail;
 
+pub use examples::{worked_clocks, worked_failures, worked_receives};
+pub use laws::areas_follow_the_acts;
 pub use memory::{Counts, MemoryDevice};
 pub use memory_disk::{Areas, MemoryDisk};
 pub use past::{Past, PastAct};

@@ -1,15 +1,17 @@
 ghost use Rattle.std.specs.Prelude.{◌≡◌, ◌-◌, ◌^◌, ◌<◌, min, length, true, false, [], ◌∷◌, Some, None, IfOk, IfSome, OnSome, take};
+ghost use Rattle.outside.specs.Counting.{counted};
 ghost use Rattle.disk.specs.Acts.{WriteAt, CutTo, Sync, Now, Wrote, Cut, Synced};
 ghost use Rattle.disk.specs.Areas.{area_at};
 ghost use Rattle.disk.specs.Disk.{contents, may_leave};
 ghost use Rattle.disk.specs.Images.{image_by_word};
 ghost use Rattle.node_device.specs.Faults.{NoFewer, BeginCounts, ReceiveCounts, SendCounts, ReadCounts, StoreCounts};
-ghost use Rattle.node_device.specs.Telling.{Did};
+ghost use Rattle.node_device.specs.Telling.{Did, OthersStay};
 ghost use Rattle.node_device.specs.Outcomes.{Begins, Stores, Reads, Sends, Receives};
 ghost use Rattle.node_device_mem.specs.MemoryDisks.{image_of, disk_of};
-ghost use Rattle.node_device_mem.specs.Devices.{no_faults};
-ghost use Rattle.node_device_mem.specs.Scripts.{called, TakesNext, BeginsBy, ReceivesBy, SendsBy, ReadsBy, StoresBy};
-ghost use Rattle.node_device_mem.specs.MemoryDevices.{memory_told, memory_begun, memory_first, faults_of, is_due_now};
+ghost use Rattle.node_device_mem.specs.Histories.{next_value};
+ghost use Rattle.node_device_mem.specs.Devices.{no_faults, places_of};
+ghost use Rattle.node_device_mem.specs.Scripts.{called, next_arrival, received_after, Brings, BeginsBy, ReceivesBy, SendsBy, ReadsBy, StoresBy, StoresExactly};
+ghost use Rattle.node_device_mem.specs.MemoryDevices.{Stays, memory_told, memory_begun, memory_first, faults_of, is_due_now};
 
 use crate::memory_disk::{Areas, MemoryDisk};
 use crate::past::{Past, PastAct};
@@ -28,8 +30,8 @@ pub struct Counts {
     pub send: u64,
 }
 
-/// A device over memory whose calls fail by a script, and which is steady else. A call that fails does nothing but stand in the
-/// record.
+/// A device over memory whose calls fail by a script, and which is steady else. A write or cut that fails does to its area what it
+/// is recorded to have done, so that the areas are always as the record says. Any other call that fails stands in the record alone.
 #[derive(Drop)]
 pub struct MemoryDevice {
     steady: SteadyDevice,
@@ -141,7 +143,9 @@ impl Device for MemoryDevice {
         ensures causes { BeginCounts (faults_of self.old) (faults_of self.new) result }
         ensures counts { NoFewer (faults_of self.old) (faults_of self.new) }
         ensures scripted { BeginsBy (is_due_now self.old) result }
-        ensures called { self.new.script ≡ called self.old.script }
+        ensures stays { Stays self.old self.new }
+        ensures places { places_of self.new.steady ≡ places_of self.old.steady }
+        ensures calls { self.new.script.calls ≡ counted self.old.script.calls }
     {
         if !self.is_due() {
             return self.steady.begin(at, dir);
@@ -156,7 +160,17 @@ impl Device for MemoryDevice {
         Begun::Failed
     }
 
-    fn now(&mut self) -> u64 {
+    fn now(&mut self) -> u64
+        requires { memory_begun self.old ≡ true }
+        ensures outcome { OnSome (memory_told self.new) (Did (memory_told self.old) (memory_told self.new) (Now result ∷ [])) }
+        ensures begun { memory_begun self.new ≡ true }
+        ensures causes { faults_of self.new ≡ faults_of self.old }
+        ensures value { result ≡ next_value self.old.steady.history }
+        ensures stays { Stays self.old self.new }
+        ensures places { places_of self.new.steady
+            ≡ record (places_of self.old.steady) { clock = counted (places_of self.old.steady).clock } }
+        ensures calls { self.new.script.calls ≡ self.old.script.calls }
+    {
         self.steady.now()
     }
 
@@ -167,8 +181,11 @@ impl Device for MemoryDevice {
         ensures causes { ReceiveCounts (faults_of self.old) (faults_of self.new) result }
         ensures counts { NoFewer (faults_of self.old) (faults_of self.new) }
         ensures scripted { ReceivesBy (is_due_now self.old) result }
-        ensures arrives { TakesNext self.old.steady.arrivals.items self.old.steady.received self.new.steady.received buf.new result }
-        ensures called { self.new.script ≡ called self.old.script }
+        ensures arrives { Brings (next_arrival self.old.steady.arrivals.items self.old.steady.received) buf.new result }
+        ensures stays { Stays self.old self.new }
+        ensures places { places_of self.new.steady
+            ≡ record (places_of self.old.steady) { received = received_after self.old.steady.received result } }
+        ensures calls { self.new.script.calls ≡ counted self.old.script.calls }
     {
         if !self.is_due() {
             return self.steady.receive(wait_ms, buf);
@@ -187,7 +204,9 @@ impl Device for MemoryDevice {
         ensures causes { SendCounts (faults_of self.old) (faults_of self.new) result }
         ensures counts { NoFewer (faults_of self.old) (faults_of self.new) }
         ensures scripted { SendsBy (is_due_now self.old) result }
-        ensures called { self.new.script ≡ called self.old.script }
+        ensures stays { Stays self.old self.new }
+        ensures places { places_of self.new.steady ≡ places_of self.old.steady }
+        ensures calls { self.new.script.calls ≡ counted self.old.script.calls }
     {
         if !self.is_due() {
             return self.steady.send(to, bytes);
@@ -210,7 +229,9 @@ impl Device for MemoryDevice {
         ensures causes { ReadCounts (faults_of self.old) (faults_of self.new) result }
         ensures counts { NoFewer (faults_of self.old) (faults_of self.new) }
         ensures scripted { ReadsBy (is_due_now self.old) result }
-        ensures called { self.new.script ≡ called self.old.script }
+        ensures stays { Stays self.old self.new }
+        ensures places { places_of self.new.steady ≡ places_of self.old.steady }
+        ensures calls { self.new.script.calls ≡ counted self.old.script.calls }
     {
         if !self.is_due() {
             return self.steady.read_at(area, at, buf);
@@ -228,11 +249,16 @@ impl Device for MemoryDevice {
         requires area { area < 3 }
         ensures outcome { Stores (WriteAt area at bytes.now) (Wrote area at bytes.now)
             (memory_told self.old) (memory_told self.new) result }
+        ensures exact { StoresExactly (WriteAt area at bytes.now) (Wrote area at bytes.now)
+            (memory_told self.old) (memory_told self.new) result }
+        ensures others { OthersStay area (memory_told self.old) (memory_told self.new) }
         ensures begun { memory_begun self.new ≡ true }
         ensures causes { StoreCounts (faults_of self.old) (faults_of self.new) result }
         ensures counts { NoFewer (faults_of self.old) (faults_of self.new) }
         ensures scripted { StoresBy (is_due_now self.old) result }
-        ensures called { self.new.script ≡ called self.old.script }
+        ensures stays { Stays self.old self.new }
+        ensures places { places_of self.new.steady ≡ places_of self.old.steady }
+        ensures calls { self.new.script.calls ≡ counted self.old.script.calls }
     {
         if !self.is_due() {
             return self.steady.write_at(area, at, bytes);
@@ -240,11 +266,8 @@ impl Device for MemoryDevice {
         let Ok(copy) = self.steady.copy_of(bytes) else {
             return Stored::Memory;
         };
-        if self
-            .steady
-            .note(PastAct::WriteFailed(area, at, copy))
-            .is_err()
-        {
+        let act = PastAct::WriteFailed(area, at, copy);
+        if self.steady.write_as(area, at, bytes, act).is_err() {
             return Stored::Memory;
         }
         self.counts.store = self.counts.store.saturating_add(1);
@@ -255,16 +278,21 @@ impl Device for MemoryDevice {
         requires begun { memory_begun self.old ≡ true }
         requires area { area < 3 }
         ensures outcome { Stores (CutTo area len) (Cut area len) (memory_told self.old) (memory_told self.new) result }
+        ensures exact { StoresExactly (CutTo area len) (Cut area len) (memory_told self.old) (memory_told self.new) result }
+        ensures others { OthersStay area (memory_told self.old) (memory_told self.new) }
         ensures begun { memory_begun self.new ≡ true }
         ensures causes { StoreCounts (faults_of self.old) (faults_of self.new) result }
         ensures counts { NoFewer (faults_of self.old) (faults_of self.new) }
         ensures scripted { StoresBy (is_due_now self.old) result }
-        ensures called { self.new.script ≡ called self.old.script }
+        ensures stays { Stays self.old self.new }
+        ensures places { places_of self.new.steady ≡ places_of self.old.steady }
+        ensures calls { self.new.script.calls ≡ counted self.old.script.calls }
     {
         if !self.is_due() {
             return self.steady.cut(area, len);
         }
-        if self.steady.note(PastAct::CutFailed(area, len)).is_err() {
+        let act = PastAct::CutFailed(area, len);
+        if self.steady.cut_as(area, len, act).is_err() {
             return Stored::Memory;
         }
         self.counts.store = self.counts.store.saturating_add(1);
@@ -275,11 +303,15 @@ impl Device for MemoryDevice {
         requires begun { memory_begun self.old ≡ true }
         requires area { area < 3 }
         ensures outcome { Stores (Sync area) (Synced area) (memory_told self.old) (memory_told self.new) result }
+        ensures exact { StoresExactly (Sync area) (Synced area) (memory_told self.old) (memory_told self.new) result }
+        ensures others { OthersStay area (memory_told self.old) (memory_told self.new) }
         ensures begun { memory_begun self.new ≡ true }
         ensures causes { StoreCounts (faults_of self.old) (faults_of self.new) result }
         ensures counts { NoFewer (faults_of self.old) (faults_of self.new) }
         ensures scripted { StoresBy (is_due_now self.old) result }
-        ensures called { self.new.script ≡ called self.old.script }
+        ensures stays { Stays self.old self.new }
+        ensures places { places_of self.new.steady ≡ places_of self.old.steady }
+        ensures calls { self.new.script.calls ≡ counted self.old.script.calls }
     {
         if !self.is_due() {
             return self.steady.sync(area);

@@ -1,15 +1,17 @@
 ghost use Rattle.std.specs.Prelude.{◌≡◌, ℕ, List, ◌-◌, ◌^◌, min, ◌≤◌, ◌<◌, true, false, [], ◌∷◌, length, Some, OnSome, OnOk, OnErr, IfOk, IfSome, option_map, take};
 ghost use Rattle.outside.specs.declared.device.Address.{Address};
-ghost use Rattle.disk.specs.Areas.{area_at};
-ghost use Rattle.disk.specs.Disk.{contents, may_leave};
+ghost use Rattle.outside.specs.Counting.{counted};
+ghost use Rattle.disk.specs.Acts.{WriteAt, CutTo, Sync, Now, Wrote, Cut, Synced};
+ghost use Rattle.disk.specs.Areas.{area_at, changed};
+ghost use Rattle.disk.specs.Disk.{contents, may_leave, written, cut};
 ghost use Rattle.disk.specs.Images.{image_by_word};
-ghost use Rattle.node_device.specs.Faults.{Faults, NoFewer, ReceiveCounts};
-ghost use Rattle.node_device.specs.Telling.{Told, Did};
-ghost use Rattle.node_device.specs.Outcomes.{Receives};
+ghost use Rattle.node_device.specs.Faults.{Faults, NoFewer, BeginCounts, ReceiveCounts, SendCounts, ReadCounts, StoreCounts};
+ghost use Rattle.node_device.specs.Telling.{Told, Did, OthersStay};
+ghost use Rattle.node_device.specs.Outcomes.{Begins, Receives, Sends, Reads, Stores};
 ghost use Rattle.node_device_mem.specs.MemoryDisks.{image_of, disk_of};
-ghost use Rattle.node_device_mem.specs.Histories.{act_of};
-ghost use Rattle.node_device_mem.specs.Devices.{steady_told, no_faults, noted, first_disk};
-ghost use Rattle.node_device_mem.specs.Scripts.{TakesNext, next_arrival, cut_to};
+ghost use Rattle.node_device_mem.specs.Histories.{act_of, next_value};
+ghost use Rattle.node_device_mem.specs.Devices.{SteadyStays, steady_told, no_faults, noted, noted_with, first_disk, places_of};
+ghost use Rattle.node_device_mem.specs.Scripts.{Brings, next_arrival, received_after, cut_to};
 
 use crate::history::History;
 use crate::memory_disk::{Areas, MemoryDisk};
@@ -112,8 +114,45 @@ impl SteadyDevice {
         ensures ok { OnOk result (steady_told self.new ≡ noted (act_of act) (steady_told self.old)) }
         ensures err { OnErr result (steady_told self.new ≡ steady_told self.old) }
         ensures begun { self.new.begun ≡ self.old.begun }
-        ensures received { self.new.received ≡ self.old.received }
+        ensures stays { SteadyStays self.old self.new }
+        ensures places { places_of self.new ≡ places_of self.old }
     {
+        self.history.note(act)
+    }
+
+    // Writes into an area, and puts this act into the record. Where memory is wanted neither is done.
+    pub(crate) fn write_as(
+        &mut self,
+        area: u8,
+        at: u64,
+        bytes: &[u8],
+        act: PastAct,
+    ) -> Result<(), AllocError>
+        ensures ok { OnOk result (steady_told self.new
+            ≡ noted_with (act_of act) (λ disk. changed disk area (written at bytes.now)) (steady_told self.old)) }
+        ensures err { OnErr result (steady_told self.new ≡ steady_told self.old) }
+        ensures begun { self.new.begun ≡ self.old.begun }
+        ensures stays { SteadyStays self.old self.new }
+        ensures places { places_of self.new ≡ places_of self.old }
+    {
+        self.history.reserve()?;
+        self.disk.write(self.alloc, area, at, bytes)?;
+        // there is room for it
+        self.history.note(act)
+    }
+
+    // Cuts an area to a length, and puts this act into the record. Where memory is wanted neither is done.
+    pub(crate) fn cut_as(&mut self, area: u8, len: u64, act: PastAct) -> Result<(), AllocError>
+        ensures ok { OnOk result (steady_told self.new
+            ≡ noted_with (act_of act) (λ disk. changed disk area (cut len)) (steady_told self.old)) }
+        ensures err { OnErr result (steady_told self.new ≡ steady_told self.old) }
+        ensures begun { self.new.begun ≡ self.old.begun }
+        ensures stays { SteadyStays self.old self.new }
+        ensures places { places_of self.new ≡ places_of self.old }
+    {
+        self.history.reserve()?;
+        self.disk.cut(self.alloc, area, len)?;
+        // there is room for it
         self.history.note(act)
     }
 
@@ -147,7 +186,13 @@ impl Device for SteadyDevice {
 
     ghost faults = { λ _. no_faults };
 
-    fn begin(&mut self, at: Address, dir: &str) -> Begun {
+    fn begin(&mut self, at: Address, dir: &str) -> Begun
+        ensures outcome { Begins self.old.begun self.new.begun (steady_told self.old) (steady_told self.new) at dir.now result }
+        ensures causes { BeginCounts no_faults no_faults result }
+        ensures counts { NoFewer no_faults no_faults }
+        ensures stays { SteadyStays self.old self.new }
+        ensures places { places_of self.new ≡ places_of self.old }
+    {
         let Ok(copy) = self.copy_of(dir.as_bytes()) else {
             return Begun::Memory;
         };
@@ -158,7 +203,15 @@ impl Device for SteadyDevice {
         Begun::Ready
     }
 
-    fn now(&mut self) -> u64 {
+    fn now(&mut self) -> u64
+        requires { self.old.begun ≡ true }
+        ensures outcome { OnSome (steady_told self.new) (Did (steady_told self.old) (steady_told self.new) (Now result ∷ [])) }
+        ensures begun { self.new.begun ≡ true }
+        ensures causes { no_faults ≡ no_faults }
+        ensures value { result ≡ next_value self.old.history }
+        ensures stays { SteadyStays self.old self.new }
+        ensures places { places_of self.new ≡ record (places_of self.old) { clock = counted (places_of self.old).clock } }
+    {
         self.history.now()
     }
 
@@ -168,7 +221,9 @@ impl Device for SteadyDevice {
         ensures begun { self.new.begun ≡ true }
         ensures causes { ReceiveCounts no_faults no_faults result }
         ensures counts { NoFewer no_faults no_faults }
-        ensures scripted { TakesNext self.old.arrivals.items self.old.received self.new.received buf.new result }
+        ensures arrives { Brings (next_arrival self.old.arrivals.items self.old.received) buf.new result }
+        ensures stays { SteadyStays self.old self.new }
+        ensures places { places_of self.new ≡ record (places_of self.old) { received = received_after self.old.received result } }
     {
         if self.history.reserve().is_err() {
             return Received::Memory;
@@ -198,7 +253,15 @@ impl Device for SteadyDevice {
         Received::Datagram { from, len }
     }
 
-    fn send(&mut self, to: Address, bytes: &[u8]) -> Shipped {
+    fn send(&mut self, to: Address, bytes: &[u8]) -> Shipped
+        requires { self.old.begun ≡ true }
+        ensures outcome { Sends to bytes.now (steady_told self.old) (steady_told self.new) result }
+        ensures begun { self.new.begun ≡ true }
+        ensures causes { SendCounts no_faults no_faults result }
+        ensures counts { NoFewer no_faults no_faults }
+        ensures stays { SteadyStays self.old self.new }
+        ensures places { places_of self.new ≡ places_of self.old }
+    {
         let Ok(copy) = self.copy_of(bytes) else {
             return Shipped::Memory;
         };
@@ -208,39 +271,69 @@ impl Device for SteadyDevice {
         Shipped::Sent
     }
 
-    fn read_at(&mut self, area: u8, at: u64, buf: &mut [u8]) -> AreaRead {
+    fn read_at(&mut self, area: u8, at: u64, buf: &mut [u8]) -> AreaRead
+        requires begun { self.old.begun ≡ true }
+        requires area { area < 3 }
+        ensures outcome { Reads area at (steady_told self.old) (steady_told self.new) buf.old buf.new result }
+        ensures begun { self.new.begun ≡ true }
+        ensures causes { ReadCounts no_faults no_faults result }
+        ensures counts { NoFewer no_faults no_faults }
+        ensures stays { SteadyStays self.old self.new }
+        ensures places { places_of self.new ≡ places_of self.old }
+    {
         AreaRead::Got(self.disk.read(area, at, buf))
     }
 
-    fn write_at(&mut self, area: u8, at: u64, bytes: &[u8]) -> Stored {
+    fn write_at(&mut self, area: u8, at: u64, bytes: &[u8]) -> Stored
+        requires begun { self.old.begun ≡ true }
+        requires area { area < 3 }
+        ensures outcome { Stores (WriteAt area at bytes.now) (Wrote area at bytes.now) (steady_told self.old) (steady_told self.new) result }
+        ensures others { OthersStay area (steady_told self.old) (steady_told self.new) }
+        ensures begun { self.new.begun ≡ true }
+        ensures causes { StoreCounts no_faults no_faults result }
+        ensures counts { NoFewer no_faults no_faults }
+        ensures stays { SteadyStays self.old self.new }
+        ensures places { places_of self.new ≡ places_of self.old }
+    {
         let Ok(copy) = self.copy_of(bytes) else {
             return Stored::Memory;
         };
-        if self.history.reserve().is_err()
-            || self.disk.write(self.alloc, area, at, bytes).is_err()
-        {
-            return Stored::Memory;
-        }
-        // there is room for it
-        if self.history.note(PastAct::Wrote(area, at, copy)).is_err() {
+        let act = PastAct::Wrote(area, at, copy);
+        if self.write_as(area, at, bytes, act).is_err() {
             return Stored::Memory;
         }
         Stored::Done
     }
 
-    fn cut(&mut self, area: u8, len: u64) -> Stored {
-        if self.history.reserve().is_err() || self.disk.cut(self.alloc, area, len).is_err() {
-            return Stored::Memory;
-        }
-        // there is room for it
-        if self.history.note(PastAct::Cut(area, len)).is_err() {
+    fn cut(&mut self, area: u8, len: u64) -> Stored
+        requires begun { self.old.begun ≡ true }
+        requires area { area < 3 }
+        ensures outcome { Stores (CutTo area len) (Cut area len) (steady_told self.old) (steady_told self.new) result }
+        ensures others { OthersStay area (steady_told self.old) (steady_told self.new) }
+        ensures begun { self.new.begun ≡ true }
+        ensures causes { StoreCounts no_faults no_faults result }
+        ensures counts { NoFewer no_faults no_faults }
+        ensures stays { SteadyStays self.old self.new }
+        ensures places { places_of self.new ≡ places_of self.old }
+    {
+        if self.cut_as(area, len, PastAct::Cut(area, len)).is_err() {
             return Stored::Memory;
         }
         Stored::Done
     }
 
-    fn sync(&mut self, area: u8) -> Stored {
-        if self.history.note(PastAct::Synced(area)).is_err() {
+    fn sync(&mut self, area: u8) -> Stored
+        requires begun { self.old.begun ≡ true }
+        requires area { area < 3 }
+        ensures outcome { Stores (Sync area) (Synced area) (steady_told self.old) (steady_told self.new) result }
+        ensures others { OthersStay area (steady_told self.old) (steady_told self.new) }
+        ensures begun { self.new.begun ≡ true }
+        ensures causes { StoreCounts no_faults no_faults result }
+        ensures counts { NoFewer no_faults no_faults }
+        ensures stays { SteadyStays self.old self.new }
+        ensures places { places_of self.new ≡ places_of self.old }
+    {
+        if self.note(PastAct::Synced(area)).is_err() {
             return Stored::Memory;
         }
         self.disk.sync(area);

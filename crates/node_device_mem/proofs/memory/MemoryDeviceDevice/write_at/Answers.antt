@@ -1,10 +1,17 @@
-use Rattle.std.proofs.Common.{◌≡◌, rules}
+use Rattle.std.proofs.Common.{◌≡◌, [], ◌∷◌, rules}
 use Rattle.disk.specs.Acts.{WriteAt, StoreFailed}
-use Rattle.node_device_mem.specs.Devices.{steady_told, noted}
-use Rattle.node_device_mem.proofs.Failed.{failed_and_noted}
+use Rattle.disk.specs.Disk.{written}
+use Rattle.node_device.specs.Telling.{Did}
+use Rattle.node_device_mem.specs.Devices.{steady_told}
+use Rattle.node_device_mem.proofs.Failed.{failed_exactly, others_changed}
 use Rattle.node_device_mem.proofs.memory.MemoryDeviceDevice.write_at.Goals as goal
 
 pub returns-clause-outcome : goal.returns-clause-outcome
 returns-clause-outcome c =
-    let e : steady_told c.note.new.self ≡ noted (StoreFailed (WriteAt c.args.area c.args.at c.args.bytes.now)) (steady_told c.args.self.now.steady) = search rules in
-    failed_and_noted _ _ _ e
+    let did : Did (steady_told c.args.self.now.steady) (steady_told c.write_as.new.self) (StoreFailed (WriteAt c.args.area c.args.at c.args.bytes.now) ∷ []) = search rules in
+    failed_exactly _ _ _ did
+
+pub returns-clause-others : goal.returns-clause-others
+returns-clause-others c =
+    others_changed c.args.area (written c.args.at c.args.bytes.now) (StoreFailed (WriteAt c.args.area c.args.at c.args.bytes.now))
+    (steady_told c.args.self.now.steady) _ (search rules)
