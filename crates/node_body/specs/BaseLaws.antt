@@ -3,6 +3,7 @@ use Rattle.std.proofs.Common.{◌≡◌, ◌≤◌, ℕ, true, List, [], ◌∷�
 use Rattle.std.proofs.lemmas.Bool.{and_from, eq-eqb}
 use Rattle.std.specs.List.{flat_map}
 use Rattle.raft_types.specs.Keeping.{KeptView}
+use Rattle.vst_base.specs.Entries.{EntryView}
 use Rattle.vst_base.specs.declared.stack.StackId.{StackId}
 use Rattle.wire_fields.specs.ByteLaws.{length-number_bytes}
 use Rattle.wire_fields.specs.Bytes.{number_bytes}
@@ -14,9 +15,10 @@ use Rattle.node_body.specs.BodyLaws.{body_is_format}
 use Rattle.node_body.specs.CommandLengths.{entries_length}
 use Rattle.node_body.specs.FoundLaws.{agreed}
 use Rattle.node_body.specs.JournalLaws.{gate_closed}
-use Rattle.node_body.specs.Journals.{change, journal_as}
+use Rattle.node_body.specs.Journals.{change, change_as, journal_as, spell_change}
 use Rattle.node_body.specs.SlotLaws.{sized_is_format}
 use Rattle.node_body.specs.Slots.{base_of, difference, held_as, of_body, of_parts, other_name, sized, slot_found, with_journal}
+use Rattle.node_body.specs.declared.bases.TheConstants.{MAX_RECORD_LEN}
 use Rattle.node_body.specs.declared.commands.TheConstants.{MAX_COMMAND}
 use Rattle.node_body.specs.declared.journal.TheConstants.{MAX_RECORDS}
 use Rattle.node_body.specs.declared.version.Version.TheVariants.{Two}
@@ -71,6 +73,28 @@ module _ {C : Type 0} (s : StackId) (f : Format C) (short : (c : C) → f.Fits c
         fits.1.0.0.1.1.1.0,
         fits.1.1.1.1.0.1,
         entries_length f short k.log fits.1.1.1.1.1.1,
+      )
+
+  pub record_length : (nodes term : ℕ) (voted : Option ℕ) (keep : ℕ) (es : List (EntryView C)) → (change nodes (entry f)).Fits (change_as term voted keep es)
+      → length (spell_change (entry f) (change_as term voted keep es) ++ 0 ∷ []) ≤ MAX_RECORD_LEN
+  record_length nodes term voted keep es fits =
+      let entries = flat_map (entry f).spell es in
+      let log = number_bytes 4 (length es) ++ entries in
+      let kept = number_bytes 4 keep ++ log in
+      let vote = spell_vote voted ++ kept in
+      omega (
+        arith,
+        length-append (number_bytes 8 term ++ vote) (0 ∷ []),
+        length-append (number_bytes 8 term) vote,
+        length-append (spell_vote voted) kept,
+        length-append (number_bytes 4 keep) log,
+        length-append (number_bytes 4 (length es)) entries,
+        length-number_bytes 8 term,
+        length-number_bytes 4 keep,
+        length-number_bytes 4 (length es),
+        vote_length voted,
+        fits.0.1.1.1.0.1,
+        entries_length f short es fits.0.1.1.1.1.1,
       )
 
   pub base_is_found : {D : Type 0} (t : StackId) (g : Format D) (is_f : IsFormat f) → BaseIsFound s f t g

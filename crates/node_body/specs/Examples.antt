@@ -2,13 +2,17 @@
 use Rattle.std.specs.Prelude.{ℕ, List, [], ◌∷◌, ◌++◌, Option, Some, None, Result}
 use Rattle.kv_machine.specs.declared.cmd.KvCmd.{KvCmd}
 use Rattle.raft_types.specs.Keeping.{KeptView}
+use Rattle.vst_base.specs.Entries.{EntryView}
 use Rattle.vst_base.specs.declared.stack.StackId.TheVariants as stack
+use Rattle.vst_base.specs.declared.what.What.TheVariants as what
+use Rattle.wire_fields.specs.Formats.{Format}
 use Rattle.wire_messages.specs.KvBytes.{kv_command}
 use Rattle.wire_messages.specs.TableBytes.{table_command}
 use Rattle.node_body.specs.Bodies.{entry_in, kept_as, owner_as}
-use Rattle.node_body.specs.Journals.{change, from_gate, journal_as}
+use Rattle.node_body.specs.Journals.{change, change_as, from_gate, journal_as}
 use Rattle.node_body.specs.Slots.{held_as, slot_found}
 use Rattle.node_body.specs.declared.journal.Journal.{Journal}
+use Rattle.node_body.specs.declared.records.Record.{Record}
 use Rattle.node_body.specs.declared.slot.Held.{Held}
 use Rattle.node_body.specs.declared.version.Version.TheVariants.{One, Two}
 use Rattle.node_body.specs.declared.who.Who.{Who}
@@ -73,6 +77,24 @@ no_op = number_of_eight 1 ++ (0 ∷ [])
 abbrev pub no_op_record : ℕ → List ℕ
 no_op_record keep = number_of_eight 1 ++ (1 ∷ (number_of_four keep ++ (number_of_four 1 ++ no_op)))
 
+-- the same of a term, as contracts see it
+abbrev pub no_op_of : ℕ → EntryView KvCmd
+no_op_of term = record { term = term; what = what.Noop }
+
+-- a record of term 1 without a vote, that keeps so many and adds so many entries; both numbers are in four bytes, and the entries come next
+abbrev pub record_of : List ℕ → List ℕ → List ℕ
+record_of keep count = number_of_eight 1 ++ (255 ∷ (keep ++ count))
+
+-- the greatest index, and the numbers before it and after it
+abbrev pub greatest : List ℕ
+greatest = 0 ∷ 15 ∷ 66 ∷ 64 ∷ []
+
+abbrev pub before_greatest : List ℕ
+before_greatest = 0 ∷ 15 ∷ 66 ∷ 63 ∷ []
+
+abbrev pub past_greatest : List ℕ
+past_greatest = 0 ∷ 15 ∷ 66 ∷ 65 ∷ []
+
 -- put a x, the request 1 of client 7 in term 1, as version 1 spells it
 abbrev pub old_put : List ℕ
 old_put = number_of_eight 1 ++ (number_of_eight 7 ++ (number_of_eight 1 ++ (0 ∷ 2 ∷ 1 ∷ 97 ∷ 0 ∷ 1 ∷ 120 ∷ [])))
@@ -99,6 +121,14 @@ old_held kept left hidden = held_as One (owner_as stack.KvRaft 0 3 None) (journa
 
 abbrev pub new_held : KeptView KvCmd → ℕ → ℕ → Held KvCmd
 new_held kept left hidden = held_as Two (owner_as stack.KvRaft 0 3 (Some cluster)) (journal_as kept left hidden)
+
+-- records of a node of 3
+abbrev pub new_change : Format (Record KvCmd)
+new_change = change 3 (entry_in Two kv_command)
+
+-- the record of the vote after a gate, and that of a no-op after another
+abbrev pub gated_records : List (ℕ × Record KvCmd)
+gated_records = (1, change_as 1 (Some 1) 0 []) ∷ (3, change_as 1 (Some 1) 0 (no_op_of 1 ∷ [])) ∷ []
 
 -- a journal of node 0 of 3 of which so many records are left
 abbrev pub journal_left : ℕ → List ℕ → Option (Journal KvCmd)

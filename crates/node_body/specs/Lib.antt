@@ -7,7 +7,10 @@ pub mod Slots
 pub mod SlotLaws
 pub mod FoundLaws
 pub mod GateLaws
+pub mod GatedRecords
+pub mod GatedRecordLaws
 pub mod WhyLaws
+pub mod OwnLaws
 pub mod VoteLaws
 pub mod CommandLengths
 pub mod BaseLaws

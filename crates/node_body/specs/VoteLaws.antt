@@ -115,11 +115,14 @@ same_size who o true true is e = eqb-true o.nodes who.nodes is
 same_size who o true false is e = cc
 same_size who o false nodes is e = cc
 
+-- a slot that a node takes is of a cluster of as many nodes
+pub owner_nodes : {C D : Type 0} (s : StackId) (f : Format C) (t : StackId) (g : Format D) (who : Who) (bs : List ℕ) (h : Held C) → slot_found s f t g who bs ≡ Ok h → h.owner.nodes ≡ who.nodes
+owner_nodes s f t g who bs h e = same_size who h.owner (nat_eq h.owner.me who.me) (nat_eq h.owner.nodes who.nodes) refl (agrees s f t g who bs h e).same
+
 module _ {C D : Type 0} (s : StackId) (f : Format C) (t : StackId) (g : Format D) (is_f : IsFormat f) where
   pub found_vote : (who : Who) (bs : List ℕ) (h : Held C) → slot_found s f t g who bs ≡ Ok h → VoteAmong who.nodes h.journal.kept.voted
   found_vote who bs h e =
-      let is = agrees s f t g who bs h e in
-      subst (λ (n : ℕ). VoteAmong n h.journal.kept.voted) (same_size who h.owner (nat_eq h.owner.me who.me) (nat_eq h.owner.nodes who.nodes) refl is.same) (slot_vote s f is_f bs h is.read)
+      subst (λ (n : ℕ). VoteAmong n h.journal.kept.voted) (owner_nodes s f t g who bs h e) (slot_vote s f is_f bs h (agrees s f t g who bs h e).read)
 
   -- so of an answer that says what the slot is
   found_votes : (who : Who) (bs : List ℕ) (slot : Result (Held C) Why) → slot ≡ slot_found s f t g who bs → IfOk slot (λ h. VoteAmong who.nodes h.journal.kept.voted)

@@ -1,7 +1,7 @@
-ghost use Rattle.std.specs.Prelude.{◌≡◌, ◌<◌, ◌∷◌, ◌++◌, IfOk, IfSome, OnErr, OnOk, Some};
-ghost use Rattle.node_body.specs.Bodies.{NameFits, VoteAmong, body, body_of, label, mark, owner, owner_of, read_body};
+ghost use Rattle.std.specs.Prelude.{◌≡◌, ◌<◌, ◌∷◌, ◌++◌, IfOk, IfSome, OnErr, OnOk, Some, length};
+ghost use Rattle.node_body.specs.Bodies.{NameFits, VoteAmong, body, body_of, kept_as, label, mark, owner, owner_of, read_body};
 ghost use Rattle.node_body.specs.VoteLaws.{MayKeep};
-ghost use Rattle.raft_types.specs.Ranges.{IsClusterSize};
+ghost use Rattle.raft_types.specs.Ranges.{IsClusterSize, IsIndex, IsTerm};
 ghost use Rattle.wire_codec.specs.Headings.{stack_byte};
 ghost use Rattle.wire_fields.specs.Bytes.{number_bytes};
 ghost use Rattle.wire_fields.specs.Fields.{Reads, StandsBefore};
@@ -13,6 +13,7 @@ use crate::vote::put_vote;
 use crate::{Commands, Owner, Version, Who};
 use raft_types::Kept;
 use std::alloc::{AllocError, Global};
+use vst_base::{Entry, Node};
 use wire_fields::{Input, NAME_LEN, put_u8, put_u64};
 
 /// A node's state as its bytes say it: the version that they are spelled in, whose it is, and what the node keeps.
@@ -166,8 +167,33 @@ fn put_owner<C: Commands>(out: &mut Vec<u8>, who: &Who) -> Result<(), AllocError
     put_name(out, &who.name)
 }
 
-/// Adds the body of version 2 of a node that keeps this at the end, or a part of it.
+/// Adds the body of version 2 of a node that keeps this term, vote and log at the end, or a part of it.
 #[tactic(auto, using(wire_fields::specs::Fronts::front_stays))]
+pub fn put_state<C: Commands>(
+    out: &mut Vec<u8>,
+    who: &Who,
+    term: u64,
+    voted: Option<Node>,
+    log: &[Entry<C>],
+) -> Result<(), AllocError>
+    requires stack { who.now.stack ≡ C.stack }
+    requires nodes { IsClusterSize who.now.nodes }
+    requires me { who.now.me < who.now.nodes }
+    requires term { IsTerm term }
+    requires voted { VoteAmong who.now.nodes voted }
+    requires log { IsIndex (length log.now) }
+    ensures ok { OnOk result (out.new.items ≡ out.old.items
+        ++ (body C.stack C.format).spell (body_of who.now (kept_as term voted log.now))) }
+    ensures fits { OnOk result ((body C.stack C.format).Fits (body_of who.now (kept_as term voted log.now))) }
+    ensures err { OnErr result (StandsBefore out.old.items out.new.items) }
+{
+    put_owner::<C>(out, who)?;
+    put_u64(out, term)?;
+    put_vote(out, voted)?;
+    put_log(out, log)
+}
+
+/// Adds the body of version 2 of a node that keeps this at the end, or a part of it.
 pub fn put_body<C: Commands>(out: &mut Vec<u8>, who: &Who, kept: &Kept<C>) -> Result<(), AllocError>
     requires stack { who.now.stack ≡ C.stack }
     requires nodes { IsClusterSize who.now.nodes }
@@ -177,8 +203,5 @@ pub fn put_body<C: Commands>(out: &mut Vec<u8>, who: &Who, kept: &Kept<C>) -> Re
     ensures fits { OnOk result ((body C.stack C.format).Fits (body_of who.now kept.now)) }
     ensures err { OnErr result (StandsBefore out.old.items out.new.items) }
 {
-    put_owner::<C>(out, who)?;
-    put_u64(out, kept.term())?;
-    put_vote(out, kept.voted())?;
-    put_log(out, kept.log())
+    put_state(out, who, kept.term(), kept.voted(), kept.log())
 }

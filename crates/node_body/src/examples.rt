@@ -1,8 +1,10 @@
 ghost use Rattle.std.specs.Prelude.{◌≡◌, ◌∷◌, ◌++◌, [], None, Some, Ok, Err, codes, take, drop};
 ghost use Rattle.kv_machine.specs.declared.cmd.KvCmd.TheVariants as command;
-ghost use Rattle.node_body.specs.Bodies.{body, body_of, kept_as, read_body};
-ghost use Rattle.node_body.specs.Examples.{cluster, first_kept, first_slot, first_state, found, found_by, journal_left, new_body, new_held, no_op, no_op_record, number_of_eight, number_of_four, old_body, old_first, old_held, old_put, old_voted, one_entry, other_cluster, slot, table_put, vote_record, voted_kept, voted_slot, voted_state, who_as};
-ghost use Rattle.node_body.specs.Journals.{journal_as};
+ghost use Rattle.node_body.specs.Bodies.{body, body_of, entry_in, kept_as, read_body};
+ghost use Rattle.node_body.specs.Examples.{before_greatest, cluster, first_kept, first_slot, first_state, found, found_by, gated_records, greatest, journal_left, new_body, new_change, new_held, no_op, no_op_of, no_op_record, number_of_eight, number_of_four, old_body, old_first, old_held, old_put, old_voted, one_entry, other_cluster, past_greatest, record_of, slot, table_put, vote_record, voted_kept, voted_slot, voted_state, who_as};
+ghost use Rattle.node_body.specs.GatedRecords.{AreGated, patched_by, spell_gated};
+ghost use Rattle.node_body.specs.Journals.{change, change_as, journal_as, patched};
+ghost use Rattle.node_body.specs.declared.version.Version.TheVariants.{One};
 ghost use Rattle.node_body.specs.declared.why.Why.TheVariants as why;
 ghost use Rattle.vst_base.specs.declared.stack.StackId.TheVariants as stack;
 ghost use Rattle.vst_base.specs.declared.what.What.TheVariants as what;
@@ -31,6 +33,47 @@ pub fn worked_slots()
     ensures first { found (first_slot ++ 0 ∷ []) ≡ Ok (new_held first_kept 1000 0) }
     ensures voted { found (voted_slot ++ 0 ∷ []) ≡ Ok (new_held voted_kept 1000 0) }
     ensures without_a_gate { found voted_slot ≡ Ok (new_held voted_kept 0 0) }
+{}
+
+/// Records: what each makes of a log that is not empty, its bytes, and in which ranges it is.
+#[tactic(auto, unfolding(wire_fields::specs::Bytes::number_bytes, wire_fields::specs::Bytes::number_in, wire_fields::specs::Bytes::has_bytes, wire_fields::specs::Bytes::read_number, crate::specs::Journals::from_gate))]
+pub fn worked_records()
+    ensures keeps_a_front { patched (change_as 3 None 1 (no_op_of 3 ∷ [])) (kept_as 1 (Some 1) (no_op_of 1 ∷ no_op_of 2 ∷ []))
+        ≡ kept_as 3 None (no_op_of 1 ∷ no_op_of 3 ∷ []) }
+    ensures keeps_all { patched (change_as 3 (Some 0) 2 []) (kept_as 1 (Some 1) (no_op_of 1 ∷ no_op_of 2 ∷ []))
+        ≡ kept_as 3 (Some 0) (no_op_of 1 ∷ no_op_of 2 ∷ []) }
+    ensures keeps_none { patched (change_as 3 None 0 (no_op_of 3 ∷ [])) (kept_as 1 (Some 1) (no_op_of 1 ∷ no_op_of 2 ∷ []))
+        ≡ kept_as 3 None (no_op_of 3 ∷ []) }
+    ensures cuts_alone { patched (change_as 3 None 1 []) (kept_as 1 (Some 1) (no_op_of 1 ∷ no_op_of 2 ∷ []))
+        ≡ kept_as 3 None (no_op_of 1 ∷ []) }
+
+    // Bytes, and what stands after them.
+    ensures spelled { new_change.spell (change_as 1 (Some 1) 2 (no_op_of 1 ∷ [])) ≡ no_op_record 2 }
+    ensures read { new_change.read (no_op_record 2) ≡ Some (change_as 1 (Some 1) 2 (no_op_of 1 ∷ []), []) }
+    ensures read_before_others { new_change.read (vote_record ++ 7 ∷ []) ≡ Some (change_as 1 (Some 1) 0 [], 7 ∷ []) }
+    ensures a_part { new_change.read (take 25 (no_op_record 2)) ≡ None }
+    ensures of_version_one { (change 3 (entry_in One kv_command)).read (no_op_record 2) ≡ None }
+
+    // The last of its entries stands at the greatest index at most.
+    ensures keeps_the_most { new_change.read (record_of greatest (number_of_four 0)) ≡ Some (change_as 1 None 1000000 [], []) }
+    ensures up_to_the_greatest { new_change.read (record_of before_greatest (number_of_four 1) ++ no_op)
+        ≡ Some (change_as 1 None 999999 (no_op_of 1 ∷ []), []) }
+    ensures past_the_greatest { new_change.read (record_of greatest (number_of_four 1) ++ no_op) ≡ None }
+    ensures keeps_too_many { new_change.read (record_of past_greatest (number_of_four 0)) ≡ None }
+    ensures too_many_entries { new_change.read (record_of (number_of_four 0) past_greatest) ≡ None }
+
+    // A vote is for none, or for a node of so many; a term has 63 bits.
+    ensures vote_for_the_last { new_change.read (number_of_eight 1 ++ (2 ∷ (number_of_four 0 ++ number_of_four 0)))
+        ≡ Some (change_as 1 (Some 2) 0 [], []) }
+    ensures vote_for_no_node { new_change.read (number_of_eight 1 ++ (3 ∷ (number_of_four 0 ++ number_of_four 0))) ≡ None }
+    ensures term_past_the_greatest { new_change.read (128 ∷ drop 1 vote_record) ≡ None }
+
+    // By their list: each after an open gate.
+    ensures gated { spell_gated new_change gated_records ≡ 1 ∷ (vote_record ++ 3 ∷ no_op_record 0) }
+    ensures gated_make { patched_by first_kept gated_records ≡ kept_as 1 (Some 1) (no_op_of 1 ∷ []) }
+    ensures closed_before_one { AreGated new_change first_kept ((2, change_as 1 (Some 1) 0 []) ∷ []) → ⊥ }
+    ensures keeps_what_the_first_cut { AreGated new_change (kept_as 1 None (no_op_of 1 ∷ []))
+        ((1, change_as 1 None 0 []) ∷ (1, change_as 1 None 1 []) ∷ []) → ⊥ }
 {}
 
 /// What stands after a body.
@@ -87,6 +130,14 @@ pub fn worked_refusals()
     ensures no_name { found_by (who_as 0 3 other_cluster) old_voted ≡ Ok (old_held voted_kept 0 0) }
 
     // The first that applies.
+    ensures journal_before_node { found (slot 34 (new_body 5 1 3 first_state) ++ 1 ∷ []) ≡ Err why.Journal }
+    ensures journal_before_size { found (slot 34 (new_body 5 0 5 first_state) ++ 1 ∷ []) ≡ Err why.Journal }
+    ensures journal_before_name { found_by (who_as 0 3 other_cluster) (first_slot ++ 1 ∷ []) ≡ Err why.Journal }
+    ensures node_after_a_journal { found (slot 34 (new_body 5 1 3 first_state) ++ 1 ∷ (vote_record ++ 0 ∷ [])) ≡ Err (why.Node 1 0) }
+    ensures vote_of_its_own_size { found (slot 34 (new_body 5 0 5 first_state)
+        ++ 1 ∷ (number_of_eight 1 ++ (4 ∷ (number_of_four 0 ++ (number_of_four 0 ++ 0 ∷ []))))) ≡ Err (why.Cluster 5 3) }
+    ensures vote_of_no_node { found (first_slot
+        ++ 1 ∷ (number_of_eight 1 ++ (3 ∷ (number_of_four 0 ++ (number_of_four 0 ++ 0 ∷ []))))) ≡ Err why.Journal }
     ensures journal_before_stack { found (slot 34 (new_body 7 0 3 first_state) ++ 1 ∷ []) ≡ Err why.Journal }
     ensures stack_before_node { found (slot 34 (new_body 7 1 5 first_state)) ≡ Err (why.Stack 7 5) }
     ensures node_before_size { found (slot 34 (new_body 5 1 5 first_state)) ≡ Err (why.Node 1 0) }

@@ -1,10 +1,14 @@
 ghost use Rattle.std.specs.Prelude.{◌≡◌, ℕ, List, Some, Err};
 ghost use Rattle.node_body.specs.BaseLaws.{BaseIsFound};
-ghost use Rattle.node_body.specs.Bodies.{IsBodyOf, body, read_body};
+ghost use Rattle.node_body.specs.Bodies.{IsBodyOf, body, entry_in, read_body};
 ghost use Rattle.node_body.specs.FoundLaws.{ClosedGateHides, GateIsEither, OpenGateAdds, RecordIsHarmless};
 ghost use Rattle.node_body.specs.GateLaws.{LastGateStands};
+ghost use Rattle.node_body.specs.GatedRecords.{RecordsAlone, RecordsAreFound};
+ghost use Rattle.node_body.specs.Journals.{change};
+ghost use Rattle.node_body.specs.OwnLaws.{OwnIsFound, StackIsTold};
 ghost use Rattle.node_body.specs.Slots.{sized, slot_found};
 ghost use Rattle.node_body.specs.WhyLaws.{HasNoBody};
+ghost use Rattle.node_body.specs.declared.version.Version.{Version};
 ghost use Rattle.node_body.specs.declared.who.Who.{Who};
 ghost use Rattle.raft_types.specs.Keeping.{KeptView};
 ghost use Rattle.wire_fields.specs.Formats.{IsFormat};
@@ -42,4 +46,17 @@ pub fn gates_are_exact<C: Commands, D: Commands>()
     ensures harmless { RecordIsHarmless C.stack C.format D.stack D.format }
     // A gate that is torn leaves the state before the record or the one after it.
     ensures either { GateIsEither C.stack C.format D.stack D.format }
+{}
+
+/// A journal is found in exactly the bytes of its records: each after an open gate, at most so many, and a closed gate after them.
+pub fn journals_hold_records<C: Commands>()
+    ensures found { (version : Version) (nodes : ℕ) → RecordsAreFound (change nodes (entry_in version C.format)) }
+    ensures alone { (version : Version) (nodes : ℕ) → RecordsAlone (change nodes (entry_in version C.format)) }
+{}
+
+/// What a node finds that names the stack of its commands: a state of its own, or the byte of the other stack beside that of
+/// its own.
+pub fn found_states_are_own<C: Commands, D: Commands>()
+    ensures own { OwnIsFound C.stack C.format D.stack D.format }
+    ensures stack { StackIsTold C.stack C.format D.stack D.format }
 {}

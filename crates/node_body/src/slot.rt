@@ -103,7 +103,8 @@ fn slot_for<C: Commands, D: Commands>(
 }
 
 /// What a slot is for a node that asks: the state that it holds, or the first why that applies. `C` are the commands of the
-/// node's stack, and `D` those of the other.
+/// node's stack, and `D` those of the other. The stack that `who` names is not read: `found_states_are_own` says what is found where
+/// it is that of `C`.
 pub fn find_slot<C: Commands, D: Commands>(
     alloc: Global,
     who: &Who,

@@ -3,7 +3,7 @@ use wire_fields::NAME_LEN;
 /// Why a node does not take the state of a slot, the first that applies.
 #[derive(Clone, Copy, Debug, PartialEq, Eq)]
 pub enum Why {
-    /// The bytes are no length with as many bytes after it.
+    /// The bytes are no length with at least as many bytes after it.
     Slot,
     /// There is no body of either version there, of its own stack's commands, or its node is not one of its nodes.
     Body,

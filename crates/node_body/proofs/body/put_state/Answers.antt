@@ -1,18 +1,14 @@
-use Rattle.std.proofs.Common.{◌≤◌, arith, subst}
 use Rattle.std.proofs.lemmas.Result.{on_ok_weaker}
-use Rattle.node_body.specs.Bodies.{log}
+use Rattle.node_body.specs.Bodies.{kept_as}
 use Rattle.node_body.specs.BodyLaws.{body_fits}
-use Rattle.vst_base.specs.declared.entry.TheConstants.{MAX_TERM}
 use Rattle.wire_fields.specs.Fronts.{front_stays}
-use Rattle.wire_messages.specs.EntryBytes.{entry}
-use Rattle.node_body.proofs.body.put_body.Goals as goal
+use Rattle.node_body.proofs.body.put_state.Goals as goal
 
 pub returns-clause-fits : goal.returns-clause-fits
 returns-clause-fits g c =
-    let term : c.args.kept.now.term ≤ MAX_TERM = omega (arith, c.term.ensures.value, c.term.ensures.in_range) in
     on_ok_weaker c.put_log.result
-    (λ entries. body_fits g.C.Commands.stack g.C.Wire.format c.args.who.now c.args.kept.now c.requires.stack c.requires.nodes c.requires.me c.in_ok-put_owner.ensures.fits term c.requires.voted
-    (subst (log (entry g.C.Wire.format)).Fits c.log.ensures.value entries))
+    (λ entries. body_fits g.C.Commands.stack g.C.Wire.format c.args.who.now (kept_as c.args.term c.args.voted c.args.log.now) c.requires.stack c.requires.nodes c.requires.me c.in_ok-put_owner.ensures.fits c.requires.term c.requires.voted
+    entries)
     c.put_log.ensures.fits
 
 pub returns-clause-err : goal.returns-clause-err
