@@ -1,3 +1,4 @@
+use crate::slot_bytes::{FRESH, NAME, OLD_FIRST, OLD_VOTED, VOTED, VOTED_IN_A_RECORD, WHO};
 use kv_machine::KvCmd;
 use lock_table::TableCmd;
 use node_body::{Version, Who, Why, find_slot, make_base, put_body, put_record, take_body};
@@ -6,40 +7,6 @@ use std::alloc::Global;
 use std::process::Abort;
 use std::test::Fail;
 use vst_base::{Node, StackId};
-
-// Slots whose bytes an independent reference worked out, of node 0 of three of the cluster whose name is the bytes 0 to 15.
-const NAME: [u8; 16] = [0, 1, 2, 3, 4, 5, 6, 7, 8, 9, 10, 11, 12, 13, 14, 15];
-
-const WHO: Who = Who {
-    stack: StackId::KvRaft,
-    me: 0,
-    nodes: 3,
-    name: NAME,
-};
-
-const OLD_FIRST: [u8; 22] = [
-    0, 0, 0, 18, 83, 1, 5, 0, 3, 0, 0, 0, 0, 0, 0, 0, 0, 255, 0, 0, 0, 0,
-];
-
-const OLD_VOTED: [u8; 22] = [
-    0, 0, 0, 18, 83, 1, 5, 0, 3, 0, 0, 0, 0, 0, 0, 0, 1, 1, 0, 0, 0, 0,
-];
-
-const FRESH: [u8; 39] = [
-    0, 0, 0, 34, 83, 2, 5, 0, 3, 0, 1, 2, 3, 4, 5, 6, 7, 8, 9, 10, 11, 12, 13, 14, 15, 0, 0, 0, 0,
-    0, 0, 0, 0, 255, 0, 0, 0, 0, 0,
-];
-
-const VOTED: [u8; 39] = [
-    0, 0, 0, 34, 83, 2, 5, 0, 3, 0, 1, 2, 3, 4, 5, 6, 7, 8, 9, 10, 11, 12, 13, 14, 15, 0, 0, 0, 0,
-    0, 0, 0, 1, 1, 0, 0, 0, 0, 0,
-];
-
-// The first state, a record of a vote in term 1, and a closed gate.
-const VOTED_IN_A_RECORD: [u8; 57] = [
-    0, 0, 0, 34, 83, 2, 5, 0, 3, 0, 1, 2, 3, 4, 5, 6, 7, 8, 9, 10, 11, 12, 13, 14, 15, 0, 0, 0, 0,
-    0, 0, 0, 0, 255, 0, 0, 0, 0, 1, 0, 0, 0, 0, 0, 0, 0, 1, 1, 0, 0, 0, 0, 0, 0, 0, 0, 0,
-];
 
 // What a slot holds, as far as these rows differ.
 #[derive(Clone, Copy, Debug, PartialEq, Eq)]

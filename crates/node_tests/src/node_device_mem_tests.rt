@@ -118,13 +118,15 @@ fn an_area_is_written_cut_synced_and_read(rt: HostRuntime) -> Result<(), Fail> {
 }
 
 #[test]
-fn calls_fail_by_the_script_and_do_nothing(rt: HostRuntime) -> Result<(), Fail> {
+fn calls_fail_by_the_script(rt: HostRuntime) -> Result<(), Fail> {
     let mut device = begun(rt.alloc(), b"ab", &[2, 4, 5, 6, 7])?;
     assert_eq!(rt;
         store(&mut device),
         (Stored::Failed, Stored::Done, Stored::Failed)
     );
-    assert!(rt; device.area(0) == b"ab\0\0".as_slice());
+    // the write that failed was done, and then cut
+    assert!(rt; device.area(0) == b"ab\0x".as_slice());
+    assert!(rt; is_image(&device, 4, 1, b"ab\0x") && is_image(&device, 2, 1, b"ab\0xy"));
     assert!(rt; read_four(&mut device) == (AreaRead::Failed, [b'|'; 4]));
     assert!(rt; receive_four(&mut device) == (Received::Failed, [b'|'; 4]));
     assert_eq!(rt; device.send(THERE, b"c"), Shipped::Failed);

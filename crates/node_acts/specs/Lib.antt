@@ -1,0 +1,4 @@
+pub mod Stores
+pub mod StateActs
+pub mod StateLaws
+pub mod Examples

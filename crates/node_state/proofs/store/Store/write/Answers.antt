@@ -1,0 +1,73 @@
+use Rattle.std.proofs.Common.{◌≡◌, ℕ, List, [], take, inl, refl, sym, ap, subst, ◌∙◌, OnErr, OnOk}
+use Rattle.node_acts.specs.Stores.{StoreView, common, terms_of}
+use Rattle.node_body.specs.Bodies.{kept_as}
+use Rattle.node_device.specs.Telling.{Did}
+use Rattle.node_state.specs.Crashes.{StoppedWith}
+use Rattle.node_state.specs.Ends.{NewFits, end_of, new_acts, new_end}
+use Rattle.node_state.specs.declared.store.JournalEnd.{JournalEnd}
+use Rattle.node_state.proofs.Changes.{did_new, fits_new, knows_new, not_held, stopped_new, terms_new}
+use Rattle.node_state.proofs.Ends.{slice_after}
+use Rattle.node_state.proofs.Stopping.{on_err, stopped_before}
+use Rattle.node_state.proofs.store.Store.write.Goals as goal
+
+pub returns-in_err-reserve-clause-stopped : goal.returns-in_err-reserve-clause-stopped
+returns-in_err-reserve-clause-stopped g c = on_err _ _ (inl (stopped_before _ _ [] refl))
+
+pub returns-in_err-end-clause-stopped : goal.returns-in_err-end-clause-stopped
+returns-in_err-end-clause-stopped g c =
+    let a = g.D.Device.told c.args.device.now in
+    let b = g.D.Device.told c.write_new.new.device in
+    let s = g.C.Commands.stack in
+    let f = g.C.Wire.format in
+    let store = c.args.self.now in
+    let kept = kept_as c.args.term c.args.voted c.args.log.now in
+    let keep = c.common-keep.result in
+    let terms : c.deref.result.now ≡ store.terms = c.deref.ensures.value ∙ ap (λ (v : StoreView). v.terms) c.self.view_is in
+    let same : keep ≡ common store.terms c.args.log.now = c.common-keep.ensures.common ∙ ap (λ (ts : List ℕ). common ts c.args.log.now) terms in
+    let new = not_held s f store kept keep same (sym c.if-has.ensures) in
+    on_err _ _
+    (stopped_new s f store kept keep same a b new
+    (subst (λ (v : StoreView). StoppedWith (NewFits s f v.who (end_of v) keep kept) a b [] (new_acts s f v.who (end_of v) keep kept)) c.self.view_is c.in_err-end.ensures.stopped))
+
+pub returns-clause-did : goal.returns-clause-did
+returns-clause-did g c =
+    let a = g.D.Device.told c.args.device.now in
+    let b = g.D.Device.told c.write_new.new.device in
+    let s = g.C.Commands.stack in
+    let f = g.C.Wire.format in
+    let store = c.args.self.now in
+    let kept = kept_as c.args.term c.args.voted c.args.log.now in
+    let keep = c.common-keep.result in
+    let terms : c.deref.result.now ≡ store.terms = c.deref.ensures.value ∙ ap (λ (v : StoreView). v.terms) c.self.view_is in
+    let same : keep ≡ common store.terms c.args.log.now = c.common-keep.ensures.common ∙ ap (λ (ts : List ℕ). common ts c.args.log.now) terms in
+    let new = not_held s f store kept keep same (sym c.if-has.ensures) in
+    did_new s f store kept keep same a b new (subst (λ (v : StoreView). Did a b (new_acts s f v.who (end_of v) keep kept)) c.self.view_is c.in_ok-end.ensures.did)
+
+pub returns-clause-fits : goal.returns-clause-fits
+returns-clause-fits g c =
+    let s = g.C.Commands.stack in
+    let f = g.C.Wire.format in
+    let store = c.args.self.now in
+    let kept = kept_as c.args.term c.args.voted c.args.log.now in
+    let keep = c.common-keep.result in
+    let terms : c.deref.result.now ≡ store.terms = c.deref.ensures.value ∙ ap (λ (v : StoreView). v.terms) c.self.view_is in
+    let same : keep ≡ common store.terms c.args.log.now = c.common-keep.ensures.common ∙ ap (λ (ts : List ℕ). common ts c.args.log.now) terms in
+    λ _. fits_new s f store kept keep same (subst (λ (v : StoreView). NewFits s f v.who (end_of v) keep kept) c.self.view_is c.in_ok-end.ensures.fits)
+
+pub returns-clause-knows : goal.returns-clause-knows
+returns-clause-knows g c =
+    let s = g.C.Commands.stack in
+    let f = g.C.Wire.format in
+    let store = c.args.self.now in
+    let kept = kept_as c.args.term c.args.voted c.args.log.now in
+    let keep = c.common-keep.result in
+    let terms : c.deref.result.now ≡ store.terms = c.deref.ensures.value ∙ ap (λ (v : StoreView). v.terms) c.self.view_is in
+    let same : keep ≡ common store.terms c.args.log.now = c.common-keep.ensures.common ∙ ap (λ (ts : List ℕ). common ts c.args.log.now) terms in
+    let new = not_held s f store kept keep same (sym c.if-has.ensures) in
+    let end : c.in_ok-end.end ≡ new_end s f store.who (end_of store) keep kept =
+    subst (λ (v : StoreView). c.in_ok-end.end ≡ new_end s f v.who (end_of v) keep kept) c.self.view_is c.in_ok-end.ensures.end in
+    let held : c.reserve.new.self.items ≡ store.terms = c.reserve.ensures.items ∙ ap (λ (v : StoreView). v.terms) c.self.view_is in
+    let front = c.truncate.ensures.items ∙ ap (λ (ts : List ℕ). take keep ts) held in
+    let items = terms_new store.terms c.append.new.self.items c.truncate.new.self.items c.in_ok-added.added.items c.args.log.now _ keep c.in_ok-append.ensures.items front c.in_ok-added.ensures
+    (slice_after keep c.args.log.now) same in
+    rw (ap (λ (v : StoreView). v.who) c.self.view_is) (knows_new s f store kept keep same c.in_ok-end.end c.append.new.self.items new end items)

@@ -1,0 +1,20 @@
+//! The state of a Raft node on its device: opening it, and saving what an event changed, as a record of a journal or as a whole slot.
+//! What a crash leaves at any moment of these is the state from before the call or the one after it.
+#![tactic(auto)]
+
+mod common;
+mod faults;
+mod opening;
+mod reading;
+mod saving;
+mod store;
+mod writing;
+
+pub use faults::StateFault;
+pub use opening::{OpenFault, Opened, Refusal, open};
+pub use reading::{read_area, read_front};
+pub use saving::{save, save_change};
+pub use store::Store;
+pub use writing::{
+    add_record, append_record, flip, open_gate, save_slot, sync_all, write_fresh, write_slot,
+};

@@ -1,0 +1,54 @@
+ghost use Rattle.std.specs.Prelude.{◌≡◌, ◌<◌, ◌≤◌, true, [], take, vec_len, IfOk, OnOk, OnErr, IfSome};
+ghost use Rattle.disk.specs.Areas.{area_at};
+ghost use Rattle.node_device.specs.Telling.{StoppedIn};
+ghost use Rattle.node_state.specs.Calls.{StateCounts};
+
+use crate::StateFault;
+use node_device::{AreaRead, Device};
+use std::alloc::Global;
+
+const BUFFER: usize = 4096;
+
+/// Reads the front of an area, at most so many bytes.
+pub fn read_front<D: Device>(
+    alloc: Global,
+    device: &mut D,
+    area: u8,
+    most: usize,
+) -> Result<Vec<u8>, StateFault>
+    requires begun { D.begun device.old ≡ true }
+    requires area { area < 3 }
+    ensures front { IfOk result (λ bytes. IfSome (D.told device.old) (λ told. bytes.items ≡ take most (area_at told.disk area).bytes)) }
+    ensures len { IfOk result (λ bytes. vec_len bytes ≤ most) }
+    ensures same { OnOk result (D.told device.new ≡ D.told device.old) }
+    ensures stopped { OnErr result (StoppedIn (D.told device.old) (D.told device.new) []) }
+    ensures causes { StateCounts (D.faults device.old) (D.faults device.new) result }
+    ensures begun { D.begun device.new ≡ true }
+{
+    let mut bytes = Vec::new(alloc);
+    let mut buf = [0; BUFFER];
+    while bytes.len() < most {
+        let room = (most - bytes.len()).min(BUFFER);
+        let at = bytes.len() as u64;
+        match device.read_at(area, at, &mut buf[..room]) {
+            AreaRead::Got(0) => return Ok(bytes),
+            AreaRead::Got(n) => bytes.extend_from_slice(&buf[..n])?,
+            AreaRead::Failed => return Err(StateFault::Store),
+            AreaRead::Memory => return Err(StateFault::Memory),
+        }
+    }
+    Ok(bytes)
+}
+
+/// Reads a whole area.
+pub fn read_area<D: Device>(alloc: Global, device: &mut D, area: u8) -> Result<Vec<u8>, StateFault>
+    requires begun { D.begun device.old ≡ true }
+    requires area { area < 3 }
+    ensures whole { IfOk result (λ bytes. IfSome (D.told device.old) (λ told. bytes.items ≡ (area_at told.disk area).bytes)) }
+    ensures same { OnOk result (D.told device.new ≡ D.told device.old) }
+    ensures stopped { OnErr result (StoppedIn (D.told device.old) (D.told device.new) []) }
+    ensures causes { StateCounts (D.faults device.old) (D.faults device.new) result }
+    ensures begun { D.begun device.new ≡ true }
+{
+    read_front(alloc, device, area, usize::MAX)
+}

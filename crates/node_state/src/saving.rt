@@ -1,0 +1,225 @@
+ghost use Rattle.std.specs.Prelude.{◌≡◌, ◌+◌, ◌-◌, ◌*◌, ◌<◌, ◌≤◌, ◌≢◌, true, ℕ, suc, [], ◌∷◌, ◌++◌, length, IfOk, IfSome, OnErr, OnOk};
+ghost use Rattle.node_acts.specs.StateActs.{append_acts, gate_of_base, state_acts, store_after};
+ghost use Rattle.node_acts.specs.Stores.{Holds, Knows, common};
+ghost use Rattle.node_body.specs.Bodies.{VoteAmong, body, body_of, kept_as};
+ghost use Rattle.node_body.specs.Journals.{change, change_as, spell_change};
+ghost use Rattle.node_body.specs.Slots.{base_of};
+ghost use Rattle.node_body.specs.declared.bases.TheConstants.{MAX_BASE_LEN, MAX_RECORD_LEN};
+ghost use Rattle.node_body.specs.declared.journal.TheConstants.{MAX_RECORDS};
+ghost use Rattle.node_device.specs.Telling.{Did, StoppedIn, WhereTold};
+ghost use Rattle.node_state.specs.Calls.{IsNodeOf, StateCounts};
+ghost use Rattle.node_state.specs.Crashes.{IsHeldBefore, LeavesEither, Saves, StoppedWith};
+ghost use Rattle.node_state.specs.Ends.{NewFits, new_acts, new_end};
+ghost use Rattle.raft_types.specs.Ranges.{IsIndex, IsTerm};
+ghost use Rattle.slots.specs.Opening.{named};
+ghost use Rattle.slots.specs.Saving.{next, save_acts};
+ghost use Rattle.vst_base.specs.declared.node.TheConstants.{MAX_NODES};
+ghost use Rattle.wire_messages.specs.EntryBytes.{entry};
+
+use crate::store::JournalEnd;
+use crate::{StateFault, Store, add_record, save_slot};
+use node_body::{Commands, MAX_RECORDS, Who, make_base_of, make_record};
+use node_device::Device;
+use raft_types::Kept;
+use std::alloc::Global;
+use vst_base::{Entry, Node};
+
+// Saves a state as a base in the slot that the selector does not name.
+pub(crate) fn write_base<D: Device, C: Commands>(
+    alloc: Global,
+    device: &mut D,
+    who: &Who,
+    selector: u8,
+    term: u64,
+    voted: Option<Node>,
+    log: &[Entry<C>],
+) -> Result<JournalEnd, StateFault>
+    requires begun { D.begun device.old ≡ true }
+    requires who { IsNodeOf C.stack who.now }
+    requires term { IsTerm term }
+    requires voted { VoteAmong who.now.nodes voted }
+    requires log { IsIndex (length log.now) }
+    ensures did { OnOk result (Did (D.told device.old) (D.told device.new)
+        (save_acts selector (base_of C.stack C.format who.now (kept_as term voted log.now)))) }
+    ensures fits { OnOk result ((body C.stack C.format).Fits (body_of who.now (kept_as term voted log.now))) }
+    ensures end { IfOk result (λ end. end ≡ record {
+      selector = next selector;
+      gate = gate_of_base C.stack C.format who.now (kept_as term voted log.now);
+      left = MAX_RECORDS;
+    }) }
+    ensures short { IfOk result (λ end. end.gate ≤ MAX_BASE_LEN) }
+    ensures stopped { OnErr result (StoppedWith ((body C.stack C.format).Fits (body_of who.now (kept_as term voted log.now)))
+        (D.told device.old) (D.told device.new) [] (save_acts selector (base_of C.stack C.format who.now (kept_as term voted log.now)))) }
+    ensures causes { StateCounts (D.faults device.old) (D.faults device.new) result }
+    ensures begun { D.begun device.new ≡ true }
+{
+    let base = make_base_of(alloc, who, term, voted, log)?;
+    save_slot(device, selector, &base)?;
+    Ok(JournalEnd {
+        selector: selector.wrapping_add(1),
+        gate: base.len() as u64 - 1,
+        left: MAX_RECORDS,
+    })
+}
+
+// Adds the record that makes a state of the one that is held, of whose log it keeps so many entries.
+pub(crate) fn write_record<D: Device, C: Commands>(
+    alloc: Global,
+    device: &mut D,
+    end: &JournalEnd,
+    term: u64,
+    voted: Option<Node>,
+    keep: u32,
+    entries: &[Entry<C>],
+) -> Result<JournalEnd, StateFault>
+    requires begun { D.begun device.old ≡ true }
+    requires term { IsTerm term }
+    requires voted { VoteAmong MAX_NODES voted }
+    requires index { IsIndex (keep + length entries.now) }
+    requires left { 0 < end.now.left }
+    requires room { end.now.gate + end.now.left * MAX_RECORD_LEN < 18446744073709551616 }
+    ensures did { OnOk result (Did (D.told device.old) (D.told device.new) (append_acts (named end.now.selector) end.now.gate
+        (spell_change (entry C.format) (change_as term voted keep entries.now) ++ 0 ∷ []))) }
+    ensures fits { OnOk result ((nodes : ℕ) → nodes ≤ MAX_NODES → VoteAmong nodes voted
+        → (change nodes (entry C.format)).Fits (change_as term voted keep entries.now)) }
+    ensures end { IfOk result (λ new. new ≡ record {
+      selector = end.now.selector;
+      gate = end.now.gate + length (spell_change (entry C.format) (change_as term voted keep entries.now) ++ 0 ∷ []);
+      left = end.now.left - 1;
+    }) }
+    ensures room { IfOk result (λ new. new.gate + new.left * MAX_RECORD_LEN < 18446744073709551616) }
+    ensures stopped { OnErr result (StoppedWith ((nodes : ℕ) → nodes ≤ MAX_NODES → VoteAmong nodes voted
+        → (change nodes (entry C.format)).Fits (change_as term voted keep entries.now))
+        (D.told device.old) (D.told device.new) []
+        (append_acts (named end.now.selector) end.now.gate
+        (spell_change (entry C.format) (change_as term voted keep entries.now) ++ 0 ∷ []))) }
+    ensures causes { StateCounts (D.faults device.old) (D.faults device.new) result }
+    ensures begun { D.begun device.new ≡ true }
+{
+    let record = make_record(alloc, term, voted, keep, entries)?;
+    add_record(device, end.selector % 2, end.gate, &record)?;
+    Ok(JournalEnd {
+        selector: end.selector,
+        gate: end.gate + record.len() as u64,
+        left: end.left - 1,
+    })
+}
+
+// Makes a state that is new durable, as a base or as a record.
+pub(crate) fn write_new<D: Device, C: Commands>(
+    alloc: Global,
+    device: &mut D,
+    who: &Who,
+    end: &JournalEnd,
+    term: u64,
+    voted: Option<Node>,
+    keep: u32,
+    log: &[Entry<C>],
+) -> Result<JournalEnd, StateFault>
+    requires begun { D.begun device.old ≡ true }
+    requires who { IsNodeOf C.stack who.now }
+    requires term { IsTerm term }
+    requires voted { VoteAmong who.now.nodes voted }
+    requires log { IsIndex (length log.now) }
+    requires keep { keep ≤ length log.now }
+    requires room { end.now.gate + end.now.left * MAX_RECORD_LEN < 18446744073709551616 }
+    ensures did { OnOk result (Did (D.told device.old) (D.told device.new)
+        (new_acts C.stack C.format who.now end.now keep (kept_as term voted log.now))) }
+    ensures fits { OnOk result (NewFits C.stack C.format who.now end.now keep (kept_as term voted log.now)) }
+    ensures end { IfOk result (λ new. new ≡ new_end C.stack C.format who.now end.now keep (kept_as term voted log.now)) }
+    ensures room { IfOk result (λ new. new.gate + new.left * MAX_RECORD_LEN < 18446744073709551616) }
+    ensures stopped { OnErr result (StoppedWith (NewFits C.stack C.format who.now end.now keep (kept_as term voted log.now))
+        (D.told device.old) (D.told device.new) [] (new_acts C.stack C.format who.now end.now keep (kept_as term voted log.now))) }
+    ensures causes { StateCounts (D.faults device.old) (D.faults device.new) result }
+    ensures begun { D.begun device.new ≡ true }
+{
+    if end.left == 0 {
+        write_base(alloc, device, who, end.selector, term, voted, log)
+    } else {
+        write_record(alloc, device, end, term, voted, keep, &log[keep as usize..])
+    }
+}
+
+/// Saves what one event has made of a node's state: the term, the vote, and a log whose first `same` entries are those that are held.
+/// Its cost is that of the entries after these, but for a base. Where the state is held it does nothing. Where no record may follow in
+/// the named slot, it writes a base into the other slot and names that; else it adds a record, and then opens its gate. An `Err` leaves
+/// the store as it was; then the areas are opened again before any save. `O` are the commands of the other stack.
+pub fn save_change<D: Device, C: Commands, O: Commands>(
+    alloc: Global,
+    store: &mut Store,
+    device: &mut D,
+    term: u64,
+    voted: Option<Node>,
+    log: &[Entry<C>],
+    same: usize,
+) -> Result<(), StateFault>
+    requires begun { D.begun device.old ≡ true }
+    requires who { IsNodeOf C.stack store.old.who }
+    requires term { IsTerm term }
+    requires voted { VoteAmong store.old.who.nodes voted }
+    requires log { IsIndex (length log.now) }
+
+    // The areas are as the store knows, and up to the first place where the terms differ the entries are those that are held.
+    requires same { same ≤ common store.old.terms log.now }
+    requires held { IfSome (D.told device.old) (IsHeldBefore C.stack C.format O.stack O.format store.old (kept_as term voted log.now)) }
+
+    // The acts are those of a save of this state, or are cut short.
+    ensures did { OnOk result (Did (D.told device.old) (D.told device.new)
+        (state_acts C.stack C.format store.old (kept_as term voted log.now))) }
+    ensures stopped { OnErr result (StoppedIn (D.told device.old) (D.told device.new)
+        (state_acts C.stack C.format store.old (kept_as term voted log.now))) }
+
+    // Then the store remembers this state, and the areas are as it knows and hold the state.
+    ensures remembers { OnOk result (Knows store.new (kept_as term voted log.now)) }
+    ensures knows { OnOk result (store.new ≡ store_after C.stack C.format store.old (kept_as term voted log.now)) }
+    ensures holds { OnOk result (IfSome (D.told device.new) (λ told.
+        Holds C.stack C.format O.stack O.format store.new (kept_as term voted log.now) told.disk)) }
+    ensures unchanged { OnErr result (store.new ≡ store.old) }
+    ensures who { store.new.who ≡ store.old.who }
+
+    // A crash at any moment of the call leaves the state that was held or this one.
+    ensures keeps { OnOk result (IfSome (D.told device.old)
+        (Saves C.stack C.format O.stack O.format store.old (kept_as term voted log.now))) }
+    ensures crash { WhereTold (D.told device.old) (D.told device.new)
+        (LeavesEither C.stack C.format O.stack O.format store.old (kept_as term voted log.now)) }
+
+    ensures causes { StateCounts (D.faults device.old) (D.faults device.new) result }
+    ensures begun { D.begun device.new ≡ true }
+{
+    store.write(alloc, device, term, voted, log, same)
+}
+
+/// Saves a state, as `save_change` does where nothing is known of which entries are held.
+pub fn save<D: Device, C: Commands, O: Commands>(
+    alloc: Global,
+    store: &mut Store,
+    device: &mut D,
+    kept: &Kept<C>,
+) -> Result<(), StateFault>
+    requires begun { D.begun device.old ≡ true }
+    requires who { IsNodeOf C.stack store.old.who }
+    requires voted { VoteAmong store.old.who.nodes kept.now.voted }
+    requires held { IfSome (D.told device.old) (IsHeldBefore C.stack C.format O.stack O.format store.old kept.now) }
+    ensures did { OnOk result (Did (D.told device.old) (D.told device.new) (state_acts C.stack C.format store.old kept.now)) }
+    ensures stopped { OnErr result (StoppedIn (D.told device.old) (D.told device.new) (state_acts C.stack C.format store.old kept.now)) }
+    ensures remembers { OnOk result (Knows store.new kept.now) }
+    ensures knows { OnOk result (store.new ≡ store_after C.stack C.format store.old kept.now) }
+    ensures holds { OnOk result (IfSome (D.told device.new) (λ told.
+        Holds C.stack C.format O.stack O.format store.new kept.now told.disk)) }
+    ensures unchanged { OnErr result (store.new ≡ store.old) }
+    ensures who { store.new.who ≡ store.old.who }
+    ensures keeps { OnOk result (IfSome (D.told device.old) (Saves C.stack C.format O.stack O.format store.old kept.now)) }
+    ensures crash { WhereTold (D.told device.old) (D.told device.new) (LeavesEither C.stack C.format O.stack O.format store.old kept.now) }
+    ensures causes { StateCounts (D.faults device.old) (D.faults device.new) result }
+    ensures begun { D.begun device.new ≡ true }
+{
+    save_change::<D, C, O>(
+        alloc,
+        store,
+        device,
+        kept.term(),
+        kept.voted(),
+        kept.log(),
+        0,
+    )
+}
