@@ -1,0 +1,4 @@
+pub mod Settings
+pub mod Events
+pub mod Runs
+pub mod Examples
