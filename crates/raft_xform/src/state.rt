@@ -1,9 +1,13 @@
+ghost use Rattle.std.specs.Prelude.{◌≡◌, ◌≤◌, length};
+ghost use Rattle.raft_types.specs.declared.limits.TheConstants.{MAX_INDEX};
+
 use crate::Role;
 use raft_clients::Sessions;
 use raft_commit::Peer;
 use raft_election::Ballot;
 use raft_log::Log;
 use std::marker::Model;
+use vst_base::{Entry, Node};
 
 /// What a node knows (the Raft paper, Figure 2, State): its role; its term, its vote and the votes that it
 /// counted; its log, up to which index it knows it to be committed, and up to which it has applied it; what
@@ -39,4 +43,28 @@ impl<S, C, O> Model for RaftState<S, C, O> {
       machine = s.machine;
       sessions = s.sessions;
     } };
+}
+
+impl<S, C: Drop, O> RaftState<S, C, O> {
+    /// The node's current term, 0 before the first election.
+    pub fn term(&self) -> u64
+        ensures { result ≡ self.now.ballot.term }
+    {
+        self.ballot.term()
+    }
+
+    /// Whom the node voted for in its term.
+    pub fn voted(&self) -> Option<Node>
+        ensures { result ≡ self.now.ballot.voted }
+    {
+        self.ballot.voted()
+    }
+
+    /// The entries of the node's log, from index 1 on.
+    pub fn log(&self) -> &[Entry<C>]
+        ensures entries { result.now ≡ self.now.log }
+        ensures in_range { length result.now ≤ MAX_INDEX }
+    {
+        self.log.entries()
+    }
 }
