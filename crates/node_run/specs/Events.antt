@@ -19,12 +19,8 @@ use Rattle.wire_messages.specs.declared.client.Answer.TheVariants as answer
 use Rattle.wire_messages.specs.declared.client.ClientReply.{ClientReply}
 use Rattle.wire_messages.specs.declared.client.ClientRequest.{ClientRequest}
 use Rattle.node_run.specs.Settings.{Settings}
-
--- what happens to a node: its timer fires, a packet comes from another node, or a client asks something
-pub data Event (C : Type 0) : Type 0 where
-  Tick : Event C
-  Peer : (from : ℕ) → (message : RaftMsg C) → Event C
-  Asked : (request : RaftInput C) → Event C
+use Rattle.node_run.specs.declared.event.Event.{Event}
+use Rattle.node_run.specs.declared.event.Event.TheVariants.{Peer, Asked}
 
 abbrev pub same_address : Address → Address → Bool
 same_address a b = bytes_eq a.ip b.ip && a.port == b.port

@@ -11,7 +11,9 @@ use Rattle.raft_types.specs.declared.msg.RaftMsg.TheVariants as msg
 use Rattle.vst_base.specs.declared.stack.StackId.TheVariants as stack
 use Rattle.wire_messages.specs.KvBytes.{kv_command, kv_output}
 use Rattle.node_run.specs.Settings.{Settings}
-use Rattle.node_run.specs.Events.{Event, Tick, Peer, Asked, event_of}
+use Rattle.node_run.specs.Events.{event_of}
+use Rattle.node_run.specs.declared.event.Event.{Event}
+use Rattle.node_run.specs.declared.event.Event.TheVariants.{Peer, Asked}
 use Rattle.node_run.specs.Runs.{Done, Starting, AreOrderly, node_run, turns_in}
 
 -- the name 00 01 .. 0f

@@ -11,7 +11,9 @@ use Rattle.raft_xform.specs.Raft.{raft, raft_recovery}
 use Rattle.vst_base.specs.Machines.{MachineMeaning}
 use Rattle.wire_fields.specs.Formats.{Format}
 use Rattle.node_run.specs.Settings.{Settings, Due, Timeout, Wait, due, later, period}
-use Rattle.node_run.specs.Events.{Event, Tick, Peer, Asked, event_of, said_by}
+use Rattle.node_run.specs.Events.{event_of, said_by}
+use Rattle.node_run.specs.declared.event.Event.{Event}
+use Rattle.node_run.specs.declared.event.Event.TheVariants.{Tick, Peer, Asked}
 
 -- a node between two turns, and when its timer is to fire
 pub record NodeView (S C O : Type 0) : Type 0 where
