@@ -10,7 +10,9 @@ use Rattle.raft_xform.specs.Nodes.{RaftView, RaftEffect, is_leader}
 use Rattle.raft_xform.specs.Raft.{raft, raft_recovery}
 use Rattle.vst_base.specs.Machines.{MachineMeaning}
 use Rattle.wire_fields.specs.Formats.{Format}
-use Rattle.node_run.specs.Settings.{Settings, Due, Timeout, Wait, due, later, period}
+use Rattle.node_run.specs.Settings.{Settings, due, later, period}
+use Rattle.node_run.specs.declared.due.Due.{Due}
+use Rattle.node_run.specs.declared.due.Due.TheVariants.{Timeout, Wait}
 use Rattle.node_run.specs.Events.{event_of, said_by}
 use Rattle.node_run.specs.declared.event.Event.{Event}
 use Rattle.node_run.specs.declared.event.Event.TheVariants.{Tick, Peer, Asked}

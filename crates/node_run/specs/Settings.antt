@@ -2,6 +2,8 @@
 use Rattle.std.specs.Prelude.{ℕ, ◌+◌, ◌-◌, ◌^◌, nat_le, min, List, Bool, if◌then◌else◌}
 use Rattle.outside.specs.declared.device.Address.{Address}
 use Rattle.vst_base.specs.declared.stack.StackId.{StackId}
+use Rattle.node_run.specs.declared.due.Due.{Due}
+use Rattle.node_run.specs.declared.due.Due.TheVariants.{Timeout, Wait}
 
 -- the stack, the node, by its number from 0, the cluster's name, the addresses of its nodes and of its client slots, and the periods
 -- of a leader and of any other node, in milliseconds
@@ -17,11 +19,6 @@ pub record Settings : Type 0 where
 -- a moment so many milliseconds after another; times stop at the greatest of 64 bits
 abbrev pub later : ℕ → ℕ → ℕ
 later time ms = min (time + ms) (2 ^ 64 - 1)
-
--- what a turn begins with: a timeout, or waiting for a datagram
-pub data Due : Type 0 where
-  Timeout : Due
-  Wait : (ms : ℕ) → Due
 
 -- A node waits at most a minute at a time.
 abbrev pub due : ℕ → ℕ → Due

@@ -2,7 +2,8 @@ ghost use Rattle.std.specs.Prelude.{◌≡◌, ◌^◌, ◌-◌, [], ◌∷◌, 
 ghost use Rattle.disk.specs.Acts.{Now, Quiet, ReceiveFailed, Took};
 ghost use Rattle.node_run.specs.declared.event.Event.TheVariants.{Tick};
 ghost use Rattle.node_run.specs.Examples.{are_orderly, asked_by_1, asked_put, asks, at_port, candidate, cluster, datagram, done, happened, heard, kept_as, number_of_eight, put_a_x, run, settings, three_turns, top, turns, vote, voted_by_1, votes};
-ghost use Rattle.node_run.specs.Settings.{Timeout, Wait, due, later};
+ghost use Rattle.node_run.specs.Settings.{due, later};
+ghost use Rattle.node_run.specs.declared.due.Due.TheVariants.{Timeout, Wait};
 
 /// When a node's timer fires, and how long it waits.
 pub fn worked_waits()
