@@ -1,0 +1,5 @@
+pub mod Agreeing
+pub mod Becoming
+pub mod Leaving
+pub mod Growing
+pub mod Hearing

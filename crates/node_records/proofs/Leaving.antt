@@ -1,0 +1,258 @@
+-- What a crash leaves of one turn, and of acts one after the other.
+use Rattle.std.proofs.Common.{◌≡◌, ℕ, zero, suc, ◌+◌, ◌-◌, ◌<◌, ◌≤◌, true, List, [], ◌∷◌, ◌++◌, length, take, drop, refl, sym, ap, subst, ◌∙◌, arith, ◌⊎◌, inl, inr, append_assoc, length-append, take-append-drop}
+use Rattle.std.proofs.lemmas.Bool.{cases_lt}
+use Rattle.std.proofs.lemmas.List.{append-nil, take-append-le, take_all}
+use Rattle.outside.specs.declared.device.Address.{Address}
+use Rattle.disk.specs.Acts.{Act}
+use Rattle.disk.specs.Disk.{Disk, Image, after, may_hold, may_leave}
+use Rattle.disk.specs.DiskLaws.{Every, IsCutShort}
+use Rattle.disk.proofs.CutShort.{faults_add_nothing, fronts_are_cut_short}
+use Rattle.raft_types.specs.Keeping.{KeptView}
+use Rattle.slots.specs.Opening.{Found, OpensAs}
+use Rattle.slots.specs.SavingLaws.{Rests}
+use Rattle.slots.specs.Turns.{Hears, Says, OnAreas, datagrams}
+use Rattle.slots.specs.TurnLaws.{IsFront, Keeps}
+use Rattle.slots.proofs.Elsewhere.{after_append, every_take, take_both}
+use Rattle.slots.proofs.Turning.{rests_opens}
+use Rattle.vst_base.specs.Machines.{MachineMeaning}
+use Rattle.wire_fields.specs.Formats.{Format}
+use Rattle.node_run.specs.Runs.{Done, NodeView, Stage, Between, done_in, said_in, stage_after}
+use Rattle.node_run.specs.Settings.{Settings}
+use Rattle.node_records.specs.Records.{Stores, HearsAs, kept_by}
+use Rattle.node_records.specs.Moments.{IsAt, Leaves}
+use Rattle.node_records.specs.MomentLaws.{OpensAsEither, OpensThenAs, IsSaving}
+use Rattle.node_records.proofs.ActKinds.{every_as, areas_store, datagrams_append, hears_after, hears_silent, says_after, short_stores, stores_silent}
+use Rattle.node_records.proofs.Folds.{done_append, kept_append, said_append}
+use Rattle.node_records.proofs.Growing.{said_first}
+use Rattle.node_records.proofs.Turning.{Follows, turn_follows, turn_said, turn}
+
+-- moments and fronts
+
+pub past : {T : Type 0} (n : ℕ) (xs ys : List T) → length xs ≤ n → take n (xs ++ ys) ≡ xs ++ take (n - length xs) ys
+past n xs ys l = take_both n xs ys ∙ ap (λ r. r ++ take (n - length xs) ys) (take_all n xs l)
+
+past_all : {T : Type 0} (xs ys : List T) (c : ℕ) → take (length xs + c) (xs ++ ys) ≡ xs ++ take c ys
+past_all xs ys c =
+    let e : length xs + c - length xs ≡ c = omega arith in
+    past (length xs + c) xs ys (omega arith) ∙ ap (λ k. xs ++ take k ys) e
+
+-- so many of the datagrams that were said
+said_front : (said : List Act) (n : ℕ) (ys : List (Address × List ℕ)) → IsFront (datagrams said) ys → IsFront (datagrams (take n said)) ys
+said_front said n ys front = (
+  datagrams (drop n said) ++ front.0,
+  sym (append_assoc (datagrams (take n said)) (datagrams (drop n said)) front.0)
+      ∙ (ap (λ r. r ++ front.0) (sym (datagrams_append (take n said) (drop n said)) ∙ ap datagrams (take-append-drop n said)) ∙ front.1),
+)
+
+-- acts that make a state durable
+
+cut_either : {K : Type 0} (found : List ℕ → Found K) (old new : K) (selector : ℕ) (acts : List Act) (disk : Disk) → Keeps found old new selector acts disk →
+    (did : List Act) → IsCutShort acts did → OpensAsEither found old new disk did
+cut_either found old new selector acts disk k did c n image m =
+    let w = faults_add_nothing disk acts (take n did) image (fronts_are_cut_short acts did n c) m in
+    k.each w.0 image w.2
+
+pub rests_then_opens : {K : Type 0} (found : List ℕ → Found K) (kept : K) (selector : ℕ) (disk : Disk) (acts : List Act) → Rests found kept selector (after disk acts) →
+    OpensThenAs found kept disk acts
+rests_then_opens found kept selector disk acts r image m = rests_opens found kept selector (after disk acts) image r m
+
+pub keeps_is_saving : {K : Type 0} (found : List ℕ → Found K) (old new : K) (selector : ℕ) (acts : List Act) (disk : Disk) → Keeps found old new selector acts disk →
+    IsSaving found old new acts disk
+keeps_is_saving found old new selector acts disk k = record {
+  short = λ did c. (short_stores acts did k.only c, cut_either found old new selector acts disk k did c);
+  whole = (
+    every_as OnAreas Stores acts areas_store k.only,
+    k.each,
+    rests_then_opens found new selector disk acts k.done,
+  );
+}
+
+module _ {S C O : Type 0} (settings : Settings) (m : MachineMeaning S C O) (f : Format C) (g : Format O) where
+  abbrev decides : Stage S C O → List Act → List (Done C)
+  decides stage acts = done_in settings m f g stage acts
+
+  abbrev At : (List ℕ → Found (KeptView C)) → Stage S C O → KeptView C → List Act → Image → Type 0
+  At found stage kept acts image = IsAt settings m f g found stage kept acts image
+
+  -- the same acts, otherwise written
+  abbrev moved : (found : List ℕ → Found (KeptView C)) (stage : Stage S C O) (kept : KeptView C) (xs ys : List Act) (image : Image) → ys ≡ xs →
+      At found stage kept xs image → At found stage kept ys image
+  moved found stage kept xs ys image e at = subst (λ (acts : List Act). At found stage kept acts image) (sym e) at
+
+  abbrev leaves_by : (disk : Disk) (xs ys : List Act) (image : Image) → xs ≡ ys → may_leave disk xs image ≡ true → may_leave disk ys image ≡ true
+  leaves_by disk xs ys image e held = subst (λ (acts : List Act). may_leave disk acts image ≡ true) e held
+
+  -- while it is heard
+
+  fewer : (stage : Stage S C O) (n : ℕ) (hs : List Act) → length (decides stage (take n hs)) ≤ length (decides stage hs)
+  fewer stage n hs =
+      let whole : length (decides stage (take n hs ++ drop n hs)) ≡ length (decides stage hs) = ap (λ acts. length (decides stage acts)) (take-append-drop n hs) in
+      let parts = ap (λ ds. length ds) (done_append settings m f g stage (take n hs) (drop n hs)) in
+      let rest = decides (stage_after settings m f g stage (take n hs)) (drop n hs) in
+      let sum = length-append (decides stage (take n hs)) rest in
+      omega arith
+
+  few : (k : ℕ) → k ≤ 1 → (0 ≡ k) ⊎ (1 ≡ k)
+  few zero l = inl refl
+  few (suc zero) l = inr refl
+  few (suc (suc k)) l = absurd (omega arith)
+
+  pub hearing : (found : List ℕ → Found (KeptView C)) (stage : Stage S C O) (kept : KeptView C) (selector : ℕ) (disk : Disk) (hs : List Act) → Every Hears hs →
+      length (decides stage hs) ≤ 1 → Rests found kept selector disk → Leaves settings m f g found stage kept disk hs
+  hearing found stage kept selector disk hs h l r n image held =
+      let q : Every Hears (take n hs) = every_take Hears n hs h in
+      let some = fewer stage n hs in
+      let all = said_in (take 0 (decides stage (take n hs))) in
+      record {
+        c = 0;
+        near = few (length (decides stage (take n hs))) (omega arith);
+        opens = rests_opens found kept selector disk image r (subst (λ (d : Disk). may_hold d image ≡ true) (hears_after (take n hs) disk q) held);
+        sent = ([], append-nil (datagrams (take n hs)) ∙ hears_silent (take n hs) q);
+      }
+
+  pub quiet_leaves : (found : List ℕ → Found (KeptView C)) (stage next : Stage S C O) (kept : KeptView C) (selector : ℕ) (disk : Disk) (count : ℕ) (hs : List Act) →
+      HearsAs settings m f g stage hs [] count next → Rests found kept selector disk →
+      Leaves settings m f g found stage kept disk hs × (after disk hs ≡ disk)
+  quiet_leaves found stage next kept selector disk count hs h r =
+      let e = ap (λ ds. length ds) h.decides.events in
+      (hearing found stage kept selector disk hs h.hears (omega arith) r, hears_after hs disk h.hears)
+
+  -- and after that
+
+  pub settling : (found : List ℕ → Found (KeptView C)) (stage : Stage S C O) (kept : KeptView C) (count : ℕ) (node : NodeView S C O) (d : Done C) (hs more : List Act)
+      (image : Image) → HearsAs settings m f g stage hs (d ∷ []) count (Between node) → Every Follows more →
+      (OpensAs found kept image × (datagrams more ≡ [])) ⊎ (OpensAs found d.kept image × IsFront (datagrams more) d.said) →
+      At found stage kept (hs ++ more) image
+  settling found stage kept count node d hs more image h fs is = go is
+    where
+      events : decides stage (hs ++ more) ≡ d ∷ []
+      events = (turn settings m f g stage (d ∷ []) count node hs more h fs).events
+
+      one : length (decides stage (hs ++ more)) ≡ 1
+      one = ap (λ ds. length ds) events
+
+      out : datagrams (hs ++ more) ≡ datagrams more
+      out = datagrams_append hs more ∙ ap (λ r. r ++ datagrams more) (hears_silent hs h.hears)
+
+      go : (OpensAs found kept image × (datagrams more ≡ [])) ⊎ (OpensAs found d.kept image × IsFront (datagrams more) d.said) → At found stage kept (hs ++ more) image
+      go (inl o) = record { c = 0; near = inr (sym one); opens = o.0; sent = ([], append-nil (datagrams (hs ++ more)) ∙ (out ∙ o.1)) }
+      go (inr o) = record {
+        c = 1;
+        near = inl (sym one);
+        opens = subst (λ (ds : List (Done C)). OpensAs found (kept_by kept (take 1 ds)) image) (sym events) o.0;
+        sent = (
+          o.1.0,
+          ap (λ r. r ++ o.1.0) out ∙ (o.1.1 ∙ (sym (append-nil d.said) ∙ ap (λ ds. said_in (take 1 ds)) (sym events))),
+        );
+      }
+
+  -- the moments after what was heard
+  pub after_hearing : (found : List ℕ → Found (KeptView C)) (kept : KeptView C) (disk : Disk) (d : Done C) (saves said : List Act) (n : ℕ) (image : Image) →
+      Every Stores saves → Every Says said → IsFront (datagrams said) d.said → OpensAsEither found kept d.kept disk saves →
+      (said ≡ []) ⊎ OpensThenAs found d.kept disk saves → may_leave disk (take n (saves ++ said)) image ≡ true →
+      (OpensAs found kept image × (datagrams (take n (saves ++ said)) ≡ [])) ⊎ (OpensAs found d.kept image × IsFront (datagrams (take n (saves ++ said))) d.said)
+  after_hearing found kept disk d saves said n image st q front either settled held = go settled (cases_lt n (length saves))
+    where
+      -- within the saves
+      saving : take n (saves ++ said) ≡ take n saves →
+          (OpensAs found kept image × (datagrams (take n (saves ++ said)) ≡ [])) ⊎ (OpensAs found d.kept image × IsFront (datagrams (take n (saves ++ said))) d.said)
+      saving e =
+          let none : datagrams (take n (saves ++ said)) ≡ [] = ap datagrams e ∙ stores_silent (take n saves) (every_take Stores n saves st) in
+          elim (either n image (leaves_by disk (take n (saves ++ said)) (take n saves) image e held)) [
+            | inl o ↦ inl (o, none)
+            | inr o ↦ inr (o, (d.said, ap (λ r. r ++ d.said) none))
+          ]
+
+      go : (said ≡ []) ⊎ OpensThenAs found d.kept disk saves → (n < length saves) ⊎ (length saves ≤ n) →
+          (OpensAs found kept image × (datagrams (take n (saves ++ said)) ≡ [])) ⊎ (OpensAs found d.kept image × IsFront (datagrams (take n (saves ++ said))) d.said)
+      go s (inl l) = saving (take-append-le n saves said (omega arith))
+      go (inl nothing) (inr l) = saving (ap (λ r. take n (saves ++ r)) nothing ∙ ap (λ r. take n r) (append-nil saves))
+      go (inr then) (inr l) =
+          let e : take n (saves ++ said) ≡ saves ++ take (n - length saves) said = past n saves said l in
+          let quiet : after disk (saves ++ take (n - length saves) said) ≡ after disk saves =
+          after_append disk saves (take (n - length saves) said) ∙ says_after (take (n - length saves) said) (after disk saves) (every_take Says (n - length saves) said q) in
+          let some = said_front said (n - length saves) d.said front in
+          inr (
+            then image (subst (λ (x : Disk). may_hold x image ≡ true) (ap (λ acts. after disk acts) e ∙ quiet) held),
+            (some.0, ap (λ r. r ++ some.0) (ap datagrams e ∙ turn_said saves (take (n - length saves) said) st) ∙ some.1),
+          )
+
+  follows_take : (n : ℕ) (saves said : List Act) → Every Stores saves → Every Says said → Every Follows (take n (saves ++ said))
+  follows_take n saves said st q = every_take Follows n (saves ++ said) (turn_follows saves said st q)
+
+  event_moments : (found : List ℕ → Found (KeptView C)) (stage : Stage S C O) (kept : KeptView C) (selector : ℕ) (disk : Disk) (count : ℕ) (node : NodeView S C O)
+      (d : Done C) (hs saves said : List Act) → HearsAs settings m f g stage hs (d ∷ []) count (Between node) → Rests found kept selector disk →
+      Every Stores saves → Every Says said → IsFront (datagrams said) d.said → OpensAsEither found kept d.kept disk saves →
+      (said ≡ []) ⊎ OpensThenAs found d.kept disk saves → Leaves settings m f g found stage kept disk (hs ++ (saves ++ said))
+  event_moments found stage kept selector disk count node d hs saves said h r st q front either settled n image held = go (cases_lt n (length hs))
+    where
+      go : (n < length hs) ⊎ (length hs ≤ n) → At found stage kept (take n (hs ++ (saves ++ said))) image
+      go (inl l) =
+          let e : take n (hs ++ (saves ++ said)) ≡ take n hs = take-append-le n hs (saves ++ said) (omega arith) in
+          let few_events = ap (λ ds. length ds) h.decides.events in
+          moved found stage kept (take n hs) (take n (hs ++ (saves ++ said))) image e
+          (hearing found stage kept selector disk hs h.hears (omega arith) r n image (leaves_by disk (take n (hs ++ (saves ++ said))) (take n hs) image e held))
+      go (inr l) =
+          let k = n - length hs in
+          let more = take k (saves ++ said) in
+          let e : take n (hs ++ (saves ++ said)) ≡ hs ++ more = past n hs (saves ++ said) l in
+          let heard : after disk (hs ++ more) ≡ after disk more = after_append disk hs more ∙ ap (λ x. after x more) (hears_after hs disk h.hears) in
+          let left : may_leave disk more image ≡ true = subst (λ (x : Disk). may_hold x image ≡ true) (ap (λ acts. after disk acts) e ∙ heard) held in
+          moved found stage kept (hs ++ more) (take n (hs ++ (saves ++ said))) image e
+          (settling found stage kept count node d hs more image h (follows_take k saves said st q)
+          (after_hearing found kept disk d saves said k image st q front either settled left))
+
+  event_disk : (disk : Disk) (hs saves said : List Act) → Every Hears hs → Every Says said → after disk (hs ++ (saves ++ said)) ≡ after disk saves
+  event_disk disk hs saves said h q =
+      after_append disk hs (saves ++ said)
+      ∙ (ap (λ x. after x (saves ++ said)) (hears_after hs disk h) ∙ (after_append disk saves said ∙ says_after said (after disk saves) q))
+
+  pub event_leaves : (found : List ℕ → Found (KeptView C)) (stage : Stage S C O) (kept : KeptView C) (selector : ℕ) (disk : Disk) (count : ℕ) (node : NodeView S C O)
+      (d : Done C) (hs saves said : List Act) → HearsAs settings m f g stage hs (d ∷ []) count (Between node) → Rests found kept selector disk →
+      Every Stores saves → Every Says said → IsFront (datagrams said) d.said → OpensAsEither found kept d.kept disk saves →
+      (said ≡ []) ⊎ OpensThenAs found d.kept disk saves →
+      Leaves settings m f g found stage kept disk (hs ++ (saves ++ said)) × (after disk (hs ++ (saves ++ said)) ≡ after disk saves)
+  event_leaves found stage kept selector disk count node d hs saves said h r st q front either settled = (
+    event_moments found stage kept selector disk count node d hs saves said h r st q front either settled,
+    event_disk disk hs saves said h.hears q,
+  )
+
+  -- one list of acts after the other
+
+  later : (found : List ℕ → Found (KeptView C)) (stage : Stage S C O) (kept : KeptView C) (xs ys : List Act) (image : Image) →
+      datagrams xs ≡ said_in (decides stage xs) →
+      At found (stage_after settings m f g stage xs) (kept_by kept (decides stage xs)) ys image → At found stage kept (xs ++ ys) image
+  later found stage kept xs ys image said w =
+      let ds = decides stage xs in
+      let es = decides (stage_after settings m f g stage xs) ys in
+      let all : decides stage (xs ++ ys) ≡ ds ++ es = done_append settings m f g stage xs ys in
+      let size : length (decides stage (xs ++ ys)) ≡ length ds + length es = ap (λ r. length r) all ∙ length-append ds es in
+      let first : take (length ds + w.c) (decides stage (xs ++ ys)) ≡ ds ++ take w.c es = ap (λ r. take (length ds + w.c) r) all ∙ past_all ds es w.c in
+      record {
+        c = length ds + w.c;
+        near = elim (w.near) [ inl e ↦ inl (omega (arith, e, size)) | inr e ↦ inr (omega (arith, e, size)) ];
+        opens = subst (λ (k : KeptView C). OpensAs found k image) (sym (ap (λ r. kept_by kept r) first ∙ kept_append kept ds (take w.c es))) w.opens;
+        sent = (
+          w.sent.0,
+          ap (λ r. r ++ w.sent.0) (said_first settings m f g stage xs ys said)
+              ∙ (append_assoc (said_in ds) (datagrams ys) w.sent.0
+              ∙ (ap (λ r. said_in ds ++ r) w.sent.1 ∙ sym (ap said_in first ∙ said_append ds (take w.c es)))),
+        );
+      }
+
+  pub moments_grow : (found : List ℕ → Found (KeptView C)) (stage : Stage S C O) (kept : KeptView C) (disk : Disk) (xs ys : List Act) →
+      Leaves settings m f g found stage kept disk xs → datagrams xs ≡ said_in (decides stage xs) →
+      Leaves settings m f g found (stage_after settings m f g stage xs) (kept_by kept (decides stage xs)) (after disk xs) ys →
+      Leaves settings m f g found stage kept disk (xs ++ ys)
+  moments_grow found stage kept disk xs ys a said b n image held = go (cases_lt n (length xs))
+    where
+      go : (n < length xs) ⊎ (length xs ≤ n) → At found stage kept (take n (xs ++ ys)) image
+      go (inl l) =
+          let e : take n (xs ++ ys) ≡ take n xs = take-append-le n xs ys (omega arith) in
+          moved found stage kept (take n xs) (take n (xs ++ ys)) image e (a n image (leaves_by disk (take n (xs ++ ys)) (take n xs) image e held))
+      go (inr l) =
+          let k = n - length xs in
+          let e : take n (xs ++ ys) ≡ xs ++ take k ys = past n xs ys l in
+          moved found stage kept (xs ++ take k ys) (take n (xs ++ ys)) image e
+          (later found stage kept xs (take k ys) image said
+          (b k image (subst (λ (x : Disk). may_hold x image ≡ true) (ap (λ acts. after disk acts) e ∙ after_append disk xs (take k ys)) held)))

@@ -1,0 +1,72 @@
+-- What a crash leaves at each moment of a turn, whole or cut short, and of turns one after the other.
+use Rattle.std.specs.Prelude.{◌≡◌, ℕ, true, List, [], ◌∷◌, ◌++◌, take, ◌⊎◌}
+use Rattle.disk.specs.Acts.{Act}
+use Rattle.disk.specs.Disk.{Disk, Image, after, may_leave}
+use Rattle.disk.specs.DiskLaws.{Every, IsCutShort}
+use Rattle.raft_types.specs.Keeping.{KeptView}
+use Rattle.slots.specs.Opening.{Found, OpensAs}
+use Rattle.slots.specs.SavingLaws.{Rests}
+use Rattle.slots.specs.Turns.{Says, datagrams}
+use Rattle.slots.specs.TurnLaws.{Keeps, IsFront}
+use Rattle.vst_base.specs.Machines.{MachineMeaning}
+use Rattle.wire_fields.specs.Formats.{Format}
+use Rattle.node_run.specs.Runs.{Done, NodeView, Stage, Between, done_in, said_in, stage_after}
+use Rattle.node_run.specs.Settings.{Settings}
+use Rattle.node_records.specs.Records.{Stores, HearsAs, kept_by}
+use Rattle.node_records.specs.Moments.{Leaves}
+
+-- at each moment of these acts the areas open as the old state or the new one
+abbrev pub OpensAsEither : {K : Type 0} → (List ℕ → Found K) → K → K → Disk → List Act → Type 0
+OpensAsEither found old new disk acts =
+    (n : ℕ) (image : Image) → may_leave disk (take n acts) image ≡ true → OpensAs found old image ⊎ OpensAs found new image
+
+-- after them they open as this state
+abbrev pub OpensThenAs : {K : Type 0} → (List ℕ → Found K) → K → Disk → List Act → Type 0
+OpensThenAs found kept disk acts = (image : Image) → may_leave disk acts image ≡ true → OpensAs found kept image
+
+-- Acts that make a state durable, whole or cut short, are store acts, at each moment of which the areas open as either. If they are
+-- whole, they open as the new state after them.
+pub record IsSaving {K : Type 0} (found : List ℕ → Found K) (old new : K) (acts : List Act) (disk : Disk) : Type 0 where
+  pub short : (did : List Act) → IsCutShort acts did → Every Stores did × OpensAsEither found old new disk did
+  pub whole : Every Stores acts × OpensAsEither found old new disk acts × OpensThenAs found new disk acts
+
+-- Whole acts count among those that were cut short.
+abbrev pub WholeIsCutShort : Type 0
+WholeIsCutShort = (acts : List Act) → IsCutShort acts acts
+
+abbrev pub KeepsIsSaving : Type 0 → Type 0
+KeepsIsSaving K =
+    (found : List ℕ → Found K) (old new : K) (selector : ℕ) (acts : List Act) (disk : Disk) → Keeps found old new selector acts disk →
+    IsSaving found old new acts disk
+
+-- What rests as a state after these acts opens as that state.
+abbrev pub RestsThenOpens : Type 0 → Type 0
+RestsThenOpens K =
+    (found : List ℕ → Found K) (kept : K) (selector : ℕ) (disk : Disk) (acts : List Act) → Rests found kept selector (after disk acts) →
+    OpensThenAs found kept disk acts
+
+-- One list of acts after the other.
+abbrev pub MomentsGrow : {C O : Type 0} → Type 0 → Format C → Format O → Type 0
+MomentsGrow {C} {O} S f g =
+    (settings : Settings) (m : MachineMeaning S C O) (found : List ℕ → Found (KeptView C)) (stage : Stage S C O) (kept : KeptView C)
+    (disk : Disk) (xs ys : List Act) → Leaves settings m f g found stage kept disk xs →
+    datagrams xs ≡ said_in (done_in settings m f g stage xs) →
+    Leaves settings m f g found (stage_after settings m f g stage xs) (kept_by kept (done_in settings m f g stage xs)) (after disk xs) ys →
+    Leaves settings m f g found stage kept disk (xs ++ ys)
+
+-- Acts that only hear, and decide no event.
+abbrev pub QuietTurnsLeave : {C O : Type 0} → Type 0 → Format C → Format O → Type 0
+QuietTurnsLeave {C} {O} S f g =
+    (settings : Settings) (m : MachineMeaning S C O) (found : List ℕ → Found (KeptView C)) (stage next : Stage S C O) (kept : KeptView C)
+    (selector : ℕ) (disk : Disk) (count : ℕ) (hs : List Act) → HearsAs settings m f g stage hs [] count next →
+    Rests found kept selector disk → Leaves settings m f g found stage kept disk hs × (after disk hs ≡ disk)
+
+-- An event is heard; then store acts, and then what was said of it. Nothing was said unless the areas open as the new state.
+abbrev pub EventTurnsLeave : {C O : Type 0} → Type 0 → Format C → Format O → Type 0
+EventTurnsLeave {C} {O} S f g =
+    (settings : Settings) (m : MachineMeaning S C O) (found : List ℕ → Found (KeptView C)) (stage : Stage S C O) (kept : KeptView C)
+    (selector : ℕ) (disk : Disk) (count : ℕ) (node : NodeView S C O) (d : Done C) (hs saves said : List Act) →
+    HearsAs settings m f g stage hs (d ∷ []) count (Between node) → Rests found kept selector disk →
+    Every Stores saves → Every Says said → IsFront (datagrams said) d.said → OpensAsEither found kept d.kept disk saves →
+    (said ≡ []) ⊎ OpensThenAs found d.kept disk saves →
+    Leaves settings m f g found stage kept disk (hs ++ (saves ++ said)) × (after disk (hs ++ (saves ++ said)) ≡ after disk saves)

@@ -1,0 +1,5 @@
+pub mod Causes
+pub mod Listening
+pub mod Acting
+pub mod Serving
+pub mod Stacks

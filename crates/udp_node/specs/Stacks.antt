@@ -1,0 +1,20 @@
+-- The same of a node by its stack: the table of locks, or the key-value store.
+use Rattle.std.specs.Prelude.{ℕ}
+use Rattle.kv_machine.specs.Kv.{kv}
+use Rattle.lock_table.specs.Table.{table}
+use Rattle.node_config.specs.declared.config.Config.{Config}
+use Rattle.node_device.specs.Telling.{Told}
+use Rattle.udp_node.specs.Serving.{EndsWith, HasServed}
+use Rattle.udp_node.specs.declared.fault.NodeFault.{NodeFault}
+use Rattle.vst_base.specs.declared.stack.StackId.{StackId}
+use Rattle.vst_base.specs.declared.stack.StackId.TheVariants as stack
+use Rattle.wire_messages.specs.KvBytes.{kv_command, kv_output}
+use Rattle.wire_messages.specs.TableBytes.{table_command, table_output}
+
+abbrev pub ServedOn : StackId → Config → ℕ → Told → Told → Type 0
+ServedOn stack.TableRaft config = HasServed config table table_command table_output stack.KvRaft kv_command
+ServedOn _ config = HasServed config kv kv_command kv_output stack.TableRaft table_command
+
+abbrev pub EndedOn : StackId → Config → NodeFault → ℕ → Told → Told → Type 0
+EndedOn stack.TableRaft config = EndsWith config table table_command table_output stack.KvRaft kv_command
+EndedOn _ config = EndsWith config kv kv_command kv_output stack.TableRaft table_command

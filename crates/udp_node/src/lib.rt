@@ -1,0 +1,12 @@
+//! A Raft node over its device: it opens its areas, and then takes turn after turn. What it may assume of the device is the device's
+//! contract alone, and what comes is any bytes from any address at any time.
+#![tactic(auto)]
+
+mod fault;
+mod listening;
+mod room;
+mod serving;
+mod turning;
+
+pub use fault::NodeFault;
+pub use serving::serve;

@@ -1,0 +1,175 @@
+ghost use Rattle.std.specs.Prelude.{◌≡◌, ◌≢◌, ◌≤◌, length, true, IfErr, IfOk, IfSome, OnErr, OnOk};
+ghost use Rattle.node_acts.specs.Stores.{Holds};
+ghost use Rattle.node_config.specs.Outcomes.{Fits};
+ghost use Rattle.node_config.specs.declared.limits.TheConstants.{MAX_CLIENTS};
+ghost use Rattle.node_core.specs.Replicas.{IsReady, kept_of, who_of};
+ghost use Rattle.udp_node.specs.Causes.{CountsAfterSends};
+ghost use Rattle.udp_node.specs.Serving.{EndsWith, Halted, HasServed, Served, StillTold, Went};
+ghost use Rattle.udp_node.specs.Stacks.{EndedOn, ServedOn};
+
+use crate::NodeFault;
+use crate::room::Room;
+use crate::turning::turn;
+use handler_trait::Handlers;
+use kv_machine::{KvCmd, KvMachine, KvOut, KvState};
+use lock_table::{TableCmd, TableMachine, TableOut, TableState};
+use node_body::{Commands, Who};
+use node_config::Config;
+use node_core::Shipped;
+use node_device::Device;
+use node_state::{Opened, open};
+use raft_types::{Entries, Kept};
+use raft_xform::Raft;
+use std::alloc::Global;
+use vst_base::{Machine, StackId};
+use wire_messages::Wire;
+
+/// How many turns a node takes at most.
+pub const MAX_TURNS: u32 = 1_000_000_000;
+
+// Opens the areas of a node, and reads its clock for the first time.
+fn start<
+    D: Device,
+    S: Drop,
+    C: Commands,
+    O: Wire,
+    X: Commands,
+    M: Machine<State = S, Cmd = C, Out = O>,
+>(
+    alloc: Global,
+    device: &mut D,
+    raft: &Raft<M>,
+    config: &Config,
+) -> Result<Shipped<S, C, O>, NodeFault>
+    requires begun { D.begun device.old ≡ true }
+    requires other { X.stack ≢ C.stack }
+    requires fits { Fits config.now.me config.now }
+    requires stack { config.now.stack ≡ C.stack }
+    requires nodes { raft.now.nodes ≡ length config.now.peers }
+    ensures ready { IfOk result (λ node. IsReady C.stack node.replica) }
+    ensures who { IfOk result (λ node. node.replica.store.who ≡ who_of config.now) }
+    ensures holds { IfOk result (λ node. IfSome (D.told device.new) (λ told.
+        Holds C.stack C.format X.stack X.format node.replica.store (kept_of node.replica.state) told.disk)) }
+    ensures served { IfOk result (λ node. StillTold (D.told device.old) (D.told device.new)
+        (Served config.now (M.meaning raft.now.machine) C.format O.format X.stack X.format 0 node.replica)) }
+    ensures ended { IfErr result (λ fault. StillTold (D.told device.old) (D.told device.new)
+        (EndsWith config.now (M.meaning raft.now.machine) C.format O.format X.stack X.format fault 0)) }
+    ensures causes { CountsAfterSends (D.faults device.old) (D.faults device.new) result }
+    ensures begun { D.begun device.new ≡ true }
+{
+    let who = Who {
+        stack: config.stack,
+        me: config.me,
+        nodes: raft.nodes(),
+        name: config.cluster,
+    };
+    let (store, kept) = match open::<D, C, X>(alloc, device, &who)? {
+        Opened::Fresh(store) => (store, Kept::new(0, None, Entries::new(Vec::new(alloc)))),
+        Opened::Held(store, kept) => (store, kept),
+    };
+    let now = device.now();
+    Ok(Shipped::start(alloc, raft, config, store, kept, now)?)
+}
+
+// Takes so many turns.
+fn take_turns<
+    D: Device,
+    S: Drop,
+    C: Commands,
+    O: Wire,
+    X: Commands,
+    M: Machine<State = S, Cmd = C, Out = O>,
+>(
+    alloc: Global,
+    device: &mut D,
+    raft: &Raft<M>,
+    config: &Config,
+    node: Shipped<S, C, O>,
+    turns: u32,
+) -> Result<Shipped<S, C, O>, NodeFault>
+    requires begun { D.begun device.old ≡ true }
+    requires other { X.stack ≢ C.stack }
+    requires ready { IsReady C.stack node.replica }
+    requires who { node.replica.store.who ≡ who_of config.now }
+    requires nodes { raft.now.nodes ≡ length config.now.peers }
+    requires clients { length config.now.clients ≤ MAX_CLIENTS }
+    requires holds { IfSome (D.told device.old) (λ told.
+        Holds C.stack C.format X.stack X.format node.replica.store (kept_of node.replica.state) told.disk) }
+    ensures went { IfOk result (λ next. StillTold (D.told device.old) (D.told device.new)
+        (Went config.now (M.meaning raft.now.machine) C.format O.format X.stack X.format node.replica turns next.replica)) }
+    ensures halted { OnErr result (StillTold (D.told device.old) (D.told device.new)
+        (Halted config.now (M.meaning raft.now.machine) C.format O.format X.stack X.format node.replica turns)) }
+    ensures causes { CountsAfterSends (D.faults device.old) (D.faults device.new) result }
+    ensures begun { D.begun device.new ≡ true }
+{
+    let mut room = Room::new(alloc)?;
+    let mut node = node;
+    for _ in 0..turns {
+        node = turn::<D, S, C, O, X, M>(alloc, device, raft, config, node, &mut room)?;
+    }
+    Ok(node)
+}
+
+// The run of a node of one stack; `X` are the commands of the other.
+fn serve_stack<
+    D: Device,
+    S: Drop,
+    C: Commands,
+    O: Wire,
+    X: Commands,
+    M: Machine<State = S, Cmd = C, Out = O>,
+>(
+    alloc: Global,
+    device: &mut D,
+    machine: M,
+    config: &Config,
+    turns: u32,
+) -> Result<(), NodeFault>
+    requires begun { D.begun device.old ≡ true }
+    requires other { X.stack ≢ C.stack }
+    requires fits { Fits config.now.me config.now }
+    requires stack { config.now.stack ≡ C.stack }
+    ensures served { OnOk result (StillTold (D.told device.old) (D.told device.new)
+        (HasServed config.now (M.meaning machine) C.format O.format X.stack X.format turns)) }
+    ensures ended { IfErr result (λ fault. StillTold (D.told device.old) (D.told device.new)
+        (EndsWith config.now (M.meaning machine) C.format O.format X.stack X.format fault turns)) }
+    ensures causes { CountsAfterSends (D.faults device.old) (D.faults device.new) result }
+    ensures begun { D.begun device.new ≡ true }
+{
+    let raft = Raft::new(machine, config.peers.as_slice().len() as u8);
+    let node = start::<D, S, C, O, X, M>(alloc, device, &raft, config)?;
+    take_turns::<D, S, C, O, X, M>(alloc, device, &raft, config, node, turns)?;
+    Ok(())
+}
+
+/// Runs a node for so many turns over a device that has begun. `Ok` comes exactly after the last of them.
+pub fn serve<D: Device>(
+    alloc: Global,
+    device: &mut D,
+    config: &Config,
+    turns: u32,
+) -> Result<(), NodeFault>
+    requires begun { D.begun device.old ≡ true }
+    requires fits { Fits config.now.me config.now }
+    requires some { 1 ≤ turns }
+    requires in_range { turns ≤ MAX_TURNS }
+    ensures served { OnOk result (StillTold (D.told device.old) (D.told device.new) (ServedOn config.now.stack config.now turns)) }
+    ensures ended { IfErr result (λ fault. StillTold (D.told device.old) (D.told device.new)
+        (EndedOn config.now.stack config.now fault turns)) }
+    ensures causes { CountsAfterSends (D.faults device.old) (D.faults device.new) result }
+    ensures begun { D.begun device.new ≡ true }
+{
+    match config.stack {
+        StackId::TableRaft => serve_stack::<
+            D,
+            TableState,
+            TableCmd,
+            TableOut,
+            KvCmd,
+            TableMachine,
+        >(alloc, device, TableMachine, config, turns),
+        _ => serve_stack::<D, KvState, KvCmd, KvOut, TableCmd, KvMachine>(
+            alloc, device, KvMachine, config, turns,
+        ),
+    }
+}
