@@ -20,6 +20,7 @@ use raft_types::{Kept, RaftMsg, RaftOut};
 use raft_xform::Raft;
 use std::alloc::{AllocError, Global};
 use vst_base::{Machine, Node};
+use wire_messages::Wire;
 
 /// How long a node waits for a datagram at most, in milliseconds.
 pub const MAX_WAIT_MS: u32 = 60_000;
@@ -31,7 +32,7 @@ pub struct Shipped<S, C, O> {
     pub(crate) effects: Effects<RaftOut<O>, RaftMsg<C>>,
 }
 
-impl<S: Drop, C: Commands, O: Drop> Shipped<S, C, O> {
+impl<S: Drop, C: Commands, O: Wire> Shipped<S, C, O> {
     /// A node that starts at this time from what its areas hold.
     pub fn start<M: Machine<State = S, Cmd = C, Out = O>>(
         alloc: Global,
@@ -90,12 +91,12 @@ impl<S: Drop, C: Commands, O: Drop> Shipped<S, C, O> {
         requires no_sends { self.old.effects.sends ≡ [] }
         requires room { MAX_SENDS ≤ self.old.effects.send_places }
         ensures state { OnOk result (self.new.replica ≡ record self.old.replica {
-          state = (effect_on config.now (M.meaning raft.now.machine) self.old.replica event.now).state;
+          state = (effect_on config.now (M.meaning raft.now.machine) C.format O.format self.old.replica event.now).state;
         }) }
         ensures outputs { OnOk result (self.new.effects.outputs
-            ≡ (effect_on config.now (M.meaning raft.now.machine) self.old.replica event.now).outputs) }
+            ≡ (effect_on config.now (M.meaning raft.now.machine) C.format O.format self.old.replica event.now).outputs) }
         ensures sends { OnOk result (self.new.effects.sends
-            ≡ (effect_on config.now (M.meaning raft.now.machine) self.old.replica event.now).sends) }
+            ≡ (effect_on config.now (M.meaning raft.now.machine) C.format O.format self.old.replica event.now).sends) }
         ensures is { OnOk result (IsReplica C.stack self.new.replica) }
     {
         let me = Node::new(config.me, raft.nodes()).unwrap();
@@ -116,7 +117,7 @@ impl<S: Drop, C: Commands, O: Drop> Shipped<S, C, O> {
         config: &Config,
         event: &Event<C>,
     ) -> u64
-        ensures { result ≡ deadline_after (settings_of config.now) (M.meaning raft.now.machine) event.now
+        ensures { result ≡ deadline_after (settings_of config.now) (M.meaning raft.now.machine) C.format O.format event.now
             self.now.replica.time self.now.replica.deadline self.now.replica.state }
     {
         if let Event::Asked(_) = event {
@@ -142,11 +143,11 @@ impl<S: Drop, C: Commands, O: Drop> Shipped<S, C, O> {
         requires who { self.replica.store.who ≡ who_of config.now }
         requires nodes { raft.now.nodes ≡ length config.now.peers }
         requires event { IsEventOf config.now event }
-        ensures replica { IfOk result (λ taken. taken.replica ≡ after_event config.now (M.meaning raft.now.machine) self.replica event) }
+        ensures replica { IfOk result (λ taken. taken.replica ≡ after_event config.now (M.meaning raft.now.machine) C.format O.format self.replica event) }
         ensures outputs { IfOk result (λ taken. taken.effects.outputs
-            ≡ (effect_on config.now (M.meaning raft.now.machine) self.replica event).outputs) }
+            ≡ (effect_on config.now (M.meaning raft.now.machine) C.format O.format self.replica event).outputs) }
         ensures sends { IfOk result (λ taken. taken.effects.sends
-            ≡ (effect_on config.now (M.meaning raft.now.machine) self.replica event).sends) }
+            ≡ (effect_on config.now (M.meaning raft.now.machine) C.format O.format self.replica event).sends) }
         ensures taken { IfOk result (λ taken. IsTaken C.stack taken) }
 
         // What the areas hold, this state continues.

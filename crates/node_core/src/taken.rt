@@ -59,21 +59,32 @@ impl<S: Drop, C: Commands, O: Drop> Taken<S, C, O> {
         ensures begun { D.begun device.new ≡ true }
     {
         let Taken {
-            mut replica,
+            replica,
             effects,
             same,
         } = self;
-        let term = replica.state.term();
-        let voted = replica.state.voted();
+        let Replica {
+            state,
+            deadline,
+            time,
+            mut store,
+        } = replica;
+        let log = state.log();
         save_change::<D, C, X>(
             alloc,
-            &mut replica.store,
+            &mut store,
             device,
-            term,
-            voted,
-            replica.state.log(),
+            state.term(),
+            state.voted(),
+            log,
             same,
         )?;
+        let replica = Replica {
+            state,
+            deadline,
+            time,
+            store,
+        };
         Ok(Saved { replica, effects })
     }
 }

@@ -1,11 +1,11 @@
 -- Datagrams one after another, where they are told.
-use Rattle.std.proofs.Common.{◌≡◌, ◌≤◌, ◌<◌, ◌+◌, ℕ, List, [], ◌∷◌, ◌++◌, length, take, drop, get_or, Option, Some, None, Result, Ok, Err, OnErr, refl, sym, ap, subst, ◌∙◌, arith, append_assoc, append-nil, take-append-drop, ◌⊎◌, inl, inr}
+use Rattle.std.proofs.Common.{◌≡◌, ◌≤◌, ◌<◌, ◌+◌, ℕ, List, [], ◌∷◌, ◌++◌, length, take, drop, get_or, Option, Some, None, Result, Ok, Err, OnOk, OnErr, refl, sym, ap, subst, ◌∙◌, arith, append_assoc, append-nil, take-append-drop, ◌⊎◌, inl, inr}
 use Rattle.std.specs.List.{flat_map}
 use Rattle.std.proofs.lemmas.Grind.{flat_map-append}
 use Rattle.std.proofs.lemmas.List.{take_all, take_more}
+use Rattle.std.proofs.lemmas.Result.{on_err_weaker, on_ok_weaker}
 use Rattle.disk.specs.Acts.{Act, Sent, SendFailed}
 use Rattle.disk.specs.Disk.{Disk}
-use Rattle.disk.specs.DiskLaws.{Every}
 use Rattle.node_device.specs.Faults.{Faults, NoFewer, SendCounts}
 use Rattle.node_device.specs.Outcomes.{Sends}
 use Rattle.node_device.specs.Telling.{Told, told_after, Did, WhereTold}
@@ -13,7 +13,6 @@ use Rattle.node_device.specs.declared.device.Shipped.{Shipped}
 use Rattle.node_device.specs.declared.device.Shipped.TheVariants as shipped
 use Rattle.outside.specs.declared.device.Address.{Address}
 use Rattle.slots.proofs.Elsewhere.{after_append, every_append}
-use Rattle.slots.specs.TurnLaws.{IsFront}
 use Rattle.slots.specs.Turns.{Says, datagrams}
 use Rattle.node_datagrams.specs.Saying.{HasBegunToSay, HasSaid, SendsOnly}
 
@@ -32,9 +31,6 @@ told_of acts disk = record { acts = acts; disk = disk }
 joined : {xs ys : List Act} {d e : Disk} → xs ≡ ys → d ≡ e → told_of xs d ≡ told_of ys e
 joined p q = rw (p, q) refl
 
-after_none : (t : Told) → t ≡ told_after t []
-after_none t = joined (sym (append-nil t.acts)) refl
-
 after_both : (t : Told) (xs ys : List Act) → told_after (told_after t xs) ys ≡ told_after t (xs ++ ys)
 after_both t xs ys = joined (append_assoc t.acts xs ys) (sym (after_append t.disk xs ys))
 
@@ -43,9 +39,6 @@ after_both_is a b c xs ys p q = q ∙ (ap (λ t. told_after t ys) p ∙ after_bo
 
 said_first : (xs ys : List Act) (said : Datagrams) → datagrams xs ≡ said → datagrams (xs ++ ys) ≡ said ++ datagrams ys
 said_first xs ys said e = datagrams_append xs ys ∙ ap (λ r. r ++ datagrams ys) e
-
-nothing_said : (a : Told) → HasSaid [] a a
-nothing_said a = record { did = []; is = after_none a; says = tt; datagrams = refl }
 
 both_said : (said more : Datagrams) (a b c : Told) → HasSaid said a b → HasSaid more b c → HasSaid (said ++ more) a c
 both_said said more a b c h k = record {
@@ -69,15 +62,7 @@ said_and_begun said more a b c h k =
       );
     }
 
--- a part of the first of two lists
-begun_of_both : (said more : Datagrams) (a b : Told) → HasBegunToSay said a b → HasBegunToSay (said ++ more) a b
-begun_of_both said more a b k = record {
-  did = k.did;
-  is = k.is;
-  says = k.says;
-  datagrams = (k.datagrams.0 ++ more, sym (append_assoc (datagrams k.did) k.datagrams.0 more) ∙ ap (λ r. r ++ more) k.datagrams.1);
-}
-
+-- the first of two lists, and no more
 begun_of_said : (said more : Datagrams) (a b : Told) → HasSaid said a b → HasBegunToSay (said ++ more) a b
 begun_of_said said more a b h = record { did = h.did; is = h.is; says = h.says; datagrams = (more, ap (λ r. r ++ more) h.datagrams) }
 
@@ -92,20 +77,25 @@ where_both P Q R both (Some x) None c h k = absurd h
 where_both P Q R both (Some x) (Some y) None h k = k
 where_both P Q R both (Some x) (Some y) (Some z) h k = both x y z h k
 
-pub says_nothing : (a : Option Told) → WhereTold a a (HasSaid [])
-says_nothing None = refl
-says_nothing (Some a) = nothing_said a
-
-pub says_both : (said more : Datagrams) (a b c : Option Told) → WhereTold a b (HasSaid said) → WhereTold b c (HasSaid more) → WhereTold a c (HasSaid (said ++ more))
+says_both : (said more : Datagrams) (a b c : Option Told) → WhereTold a b (HasSaid said) → WhereTold b c (HasSaid more)
+    → WhereTold a c (HasSaid (said ++ more))
 says_both said more a b c h k = where_both (HasSaid said) (HasSaid more) (HasSaid (said ++ more)) (both_said said more) a b c h k
 
-pub stops_late : (said more : Datagrams) (a b c : Option Told) → WhereTold a b (HasSaid said) → WhereTold b c (HasBegunToSay more) → WhereTold a c (HasBegunToSay (said ++ more))
-stops_late said more a b c h k = where_both (HasSaid said) (HasBegunToSay more) (HasBegunToSay (said ++ more)) (said_and_begun said more) a b c h k
+stops_late : (said more : Datagrams) (a b c : Option Told) → WhereTold a b (HasSaid said) → WhereTold b c (HasBegunToSay more)
+    → WhereTold a c (HasBegunToSay (said ++ more))
+stops_late said more a b c h k =
+    where_both (HasSaid said) (HasBegunToSay more) (HasBegunToSay (said ++ more)) (said_and_begun said more) a b c h k
 
-pub stops_early : (said more : Datagrams) (a b : Option Told) → WhereTold a b (HasBegunToSay said) → WhereTold a b (HasBegunToSay (said ++ more))
-stops_early said more a b h = where_each (HasBegunToSay said) (HasBegunToSay (said ++ more)) (begun_of_both said more) a b h
+-- the second of two lists, where the first was said
+pub says_next : {T E : Type 0} (r : Result T E) (said more : Datagrams) (a b c : Option Told) → WhereTold a b (HasSaid said)
+    → OnOk r (WhereTold b c (HasSaid more)) → OnOk r (WhereTold a c (HasSaid (said ++ more)))
+says_next r said more a b c h k = on_ok_weaker r (says_both said more a b c h) k
 
-pub stops_after : (said more : Datagrams) (a b : Option Told) → WhereTold a b (HasSaid said) → WhereTold a b (HasBegunToSay (said ++ more))
+pub stops_next : {T E : Type 0} (r : Result T E) (said more : Datagrams) (a b c : Option Told) → WhereTold a b (HasSaid said)
+    → OnErr r (WhereTold b c (HasBegunToSay more)) → OnErr r (WhereTold a c (HasBegunToSay (said ++ more)))
+stops_next r said more a b c h k = on_err_weaker r (stops_late said more a b c h) k
+
+stops_after : (said more : Datagrams) (a b : Option Told) → WhereTold a b (HasSaid said) → WhereTold a b (HasBegunToSay (said ++ more))
 stops_after said more a b h = where_each (HasSaid said) (HasBegunToSay (said ++ more)) (begun_of_said said more) a b h
 
 -- one act that sends

@@ -9,14 +9,22 @@ use vst_base::{ClientId, Node};
 pub fn address_of_node(config: &Config, node: Node) -> Option<Address>
     ensures { result ≡ slice_get config.now.peers node }
 {
-    config.peers.as_slice().get(usize::from(node.index())).copied()
+    config
+        .peers
+        .as_slice()
+        .get(usize::from(node.index()))
+        .copied()
 }
 
 /// The address of a client, who is known by the number of its slot, and `None` where there is no such slot.
 pub fn address_of_client(config: &Config, client: ClientId) -> Option<Address>
     ensures { result ≡ slice_get config.now.clients client }
 {
-    config.clients.as_slice().get(client.number() as usize).copied()
+    config
+        .clients
+        .as_slice()
+        .get(client.number() as usize)
+        .copied()
 }
 
 // Whether two addresses are the same.

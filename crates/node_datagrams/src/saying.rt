@@ -67,7 +67,9 @@ fn put_output<O: Wire>(out: &mut Vec<u8>, output: &RaftOut<O>) -> Result<(), All
 {
     match output {
         RaftOut::Reply {
-            request, output, ..
+            request,
+            output,
+            ..
         } => {
             put_u64(out, request.number())?;
             out.push(1)?;

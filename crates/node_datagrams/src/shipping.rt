@@ -123,6 +123,7 @@ fn ship_replies<D: Device, O: Wire>(
 /// Sends what an event makes: all packets in order, and then all outputs in order. A client without a slot is told nothing, and a send
 /// that fails is a loss as any other. An `Err` says that memory was wanted: then a front of the datagrams went out or was lost.
 /// `bytes` is room for one datagram, whatever it holds.
+#[tactic(auto, using(crate::proofs::Sayings::says_next, crate::proofs::Sayings::stops_next))]
 pub fn ship<D: Device, C: Wire, O: Wire>(
     device: &mut D,
     config: &Config,

@@ -20,7 +20,8 @@ vote_among nodes (Some node) h = h
 
 module _ {S C O : Type 0} (f : Format C) (g : Format O) where
   leaves : (settings : Settings) (m : MachineMeaning S C O) (s : RaftView S C O) (event : Event C) →
-      IsLeft s.log (effect_of settings m f g s event).state.log (left_by event (length s.log) (length (effect_of settings m f g s event).state.log)) (brought event)
+      let log = (effect_of settings m f g s event).state.log in
+      IsLeft s.log log (left_by event (length s.log) (length log)) (brought event)
   leaves settings m s event = event_leaves event s.log (effect_of settings m f g s event).state.log (log_becomes f g settings m s event)
 
   pub log_continues : LogContinues S f g

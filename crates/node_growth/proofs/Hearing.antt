@@ -42,7 +42,8 @@ module _ {C : Type 0} (f : Format C) (is_f : IsFormat f) (settings : Settings) (
   abbrev nodes : ℕ
   nodes = length settings.peers
 
-  of_peer : (node : ℕ) (body : List ℕ) → node < nodes → (o : Option (RaftMsg C)) → read_whole (raft_message f) body ≡ o → peer_event node o ≡ Some event → IsOfCluster nodes event
+  of_peer : (node : ℕ) (body : List ℕ) → node < nodes → (o : Option (RaftMsg C)) → read_whole (raft_message f) body ≡ o →
+      peer_event node o ≡ Some event → IsOfCluster nodes event
   of_peer node body below None read e = absurd (cc e)
   of_peer node body below (Some message) read e =
       let same : Peer node message ≡ event = cc e in
@@ -60,11 +61,14 @@ module _ {C : Type 0} (f : Format C) (is_f : IsFormat f) (settings : Settings) (
     where
       go : (b : Bool) → (not (m.heading.from == settings.me) && is_at (slice_get settings.peers m.heading.from) from) ≡ b →
           (if b then peer_event m.heading.from (read_whole (raft_message f) m.body) else None) ≡ Some event → IsOfCluster nodes event
-      go true there e = of_peer m.heading.from m.body (is_within settings.peers m.heading.from from (and_parts _ _ there).1) (read_whole (raft_message f) m.body) refl e
+      go true there e =
+          let below = is_within settings.peers m.heading.from from (and_parts _ _ there).1 in
+          of_peer m.heading.from m.body below (read_whole (raft_message f) m.body) refl e
       go false there e = absurd (cc e)
   of_kind m kind.Request e = go (is_at (slice_get settings.clients m.heading.from) from) e
     where
-      go : (b : Bool) → (if b then request_event m.heading.from (read_whole (client_request f) m.body) else None) ≡ Some event → IsOfCluster nodes event
+      go : (b : Bool) → (if b then request_event m.heading.from (read_whole (client_request f) m.body) else None) ≡ Some event →
+          IsOfCluster nodes event
       go true e = of_request m.heading.from (read_whole (client_request f) m.body) e
       go false e = absurd (cc e)
   of_kind m kind.Reply e = absurd (cc e)

@@ -18,6 +18,10 @@ pub record IsLeft {C : Type 0} (old new : List (EntryView C)) (left more : ℕ) 
   pub in_common : left ≤ common (terms_of old) new
   pub few : length new ≤ left + more
 
+-- what is left where entries came for the places after an index
+abbrev left_of : {C : Type 0} → ℕ → List (EntryView C) → List (EntryView C) → List (EntryView C) → ℕ
+left_of prev es old new = if nat_eq (length new) (prev + length es) then min (length old) prev else min (length old) (length new)
+
 -- of a log that reaches an index, and takes entries for the places after it
 module _ {C : Type 0} (prev : ℕ) (es old : List (EntryView C)) (reaches : prev ≤ length old) where
   abbrev log : List (EntryView C)
@@ -35,10 +39,11 @@ module _ {C : Type 0} (prev : ℕ) (es old : List (EntryView C)) (reaches : prev
   short : length log ≤ max (length old) (prev + length es)
   short = accepted_no_longer old prev es reaches
 
-  accepted_left : IsLeft old log (if nat_eq (length log) (prev + length es) then min (length old) prev else min (length old) (length log)) (length es)
+  accepted_left : IsLeft old log (left_of prev es old log) (length es)
   accepted_left = go (eqb (length log) (prev + length es)) refl
     where
-      go : (b : Bool) → eqb (length log) (prev + length es) ≡ b → IsLeft old log (if b then min (length old) prev else min (length old) (length log)) (length es)
+      go : (b : Bool) → eqb (length log) (prev + length es) ≡ b →
+          IsLeft old log (if b then min (length old) prev else min (length old) (length log)) (length es)
       go true ends = record {
         agree = agree_accepted old prev es;
         in_common = omega (arith, terms);
@@ -52,7 +57,8 @@ module _ {C : Type 0} (prev : ℕ) (es old : List (EntryView C)) (reaches : prev
 
 module _ {C : Type 0} where
   one_left : (old new : List (EntryView C)) → IsWithOne old new → IsLeft old new (min (length old) (length new)) 1
-  one_left old new (inl same) = rw same (record { agree = refl; in_common = let all = common_same old in omega (arith, all); few = omega arith })
+  one_left old new (inl same) =
+      let all = common_same old in rw same (record { agree = refl; in_common = omega (arith, all); few = omega arith })
   one_left old new (inr more) =
       let e : EntryView C = more.0 in
       rw (more.1) (record {
@@ -62,15 +68,20 @@ module _ {C : Type 0} where
       })
 
   taken_left : (prev : ℕ) (es old new : List (EntryView C)) → IsTaking prev es old new →
-      IsLeft old new (if nat_eq (length new) (prev + length es) then min (length old) prev else min (length old) (length new)) (length es)
+      IsLeft old new (left_of prev es old new) (length es)
   taken_left prev es old new (inl same) = rw same (go (eqb (length old) (prev + length es)) refl)
     where
-      go : (b : Bool) → eqb (length old) (prev + length es) ≡ b → IsLeft old old (if b then min (length old) prev else min (length old) (length old)) (length es)
-      go true ends = let all = common_same old in let end = eqb-true _ _ ends in record { agree = refl; in_common = omega (arith, all); few = omega (arith, end) }
+      go : (b : Bool) → eqb (length old) (prev + length es) ≡ b →
+          IsLeft old old (if b then min (length old) prev else min (length old) (length old)) (length es)
+      go true ends =
+          let all = common_same old in
+          let end = eqb-true _ _ ends in
+          record { agree = refl; in_common = omega (arith, all); few = omega (arith, end) }
       go false goes_on = let all = common_same old in record { agree = refl; in_common = omega (arith, all); few = omega arith }
   taken_left prev es old new (inr taken) = rw (taken.1) (accepted_left prev es old (taken.0))
 
-  pub event_leaves : (event : Event C) (old new : List (EntryView C)) → Becomes event old new → IsLeft old new (left_by event (length old) (length new)) (brought event)
+  pub event_leaves : (event : Event C) (old new : List (EntryView C)) → Becomes event old new →
+      IsLeft old new (left_by event (length old) (length new)) (brought event)
   event_leaves Tick old new h = one_left old new h
   event_leaves (Asked request) old new h = one_left old new h
   event_leaves (Peer from (msg.RequestVote r)) old new h = one_left old new h

@@ -17,7 +17,9 @@ use Rattle.node_growth.specs.Growth.{Becomes, IsKept, IsOfCluster, brought, left
 
 -- Of a list of terms and a log whose first entries have the first n of them, the rest is counted from there on.
 abbrev pub CountsOn : Type 0 → Type 0
-CountsOn C = (terms : List ℕ) (log : List (EntryView C)) (n : ℕ) → n ≤ common terms log → common terms log ≡ n + common (drop n terms) (drop n log)
+CountsOn C =
+    (terms : List ℕ) (log : List (EntryView C)) (n : ℕ) → n ≤ common terms log →
+    common terms log ≡ n + common (drop n terms) (drop n log)
 
 module _ (S : Type 0) {C O : Type 0} (f : Format C) (g : Format O) where
   -- the log stays, has one entry more, or takes those of a leader
@@ -56,7 +58,8 @@ module _ (S : Type 0) {C O : Type 0} (f : Format C) (g : Format O) where
 
 -- what a sound node keeps is in range
 abbrev pub KeptFits : Type 0 → Type 0 → Type 0 → Type 0
-KeptFits S C O = (m : MachineMeaning S C O) (nodes me : ℕ) (s : RaftView S C O) → IsSoundNode nodes me s → IsKept nodes ((raft_recovery m).keep s)
+KeptFits S C O =
+    (m : MachineMeaning S C O) (nodes me : ℕ) (s : RaftView S C O) → IsSoundNode nodes me s → IsKept nodes ((raft_recovery m).keep s)
 
 -- each datagram that is an event is one of the cluster
 abbrev pub HeardIsOfCluster : {C : Type 0} → Format C → Type 0

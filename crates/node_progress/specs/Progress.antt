@@ -14,7 +14,8 @@ use Rattle.node_records.specs.Records.{AreRecord, IsStopped, kept_by, store_by}
 use Rattle.node_records.specs.Moments.{Leaves}
 
 -- s is the stack of the node, with commands of the format f and outputs of the format g; t is the other stack, with commands of h
-module _ {S C D O : Type 0} (settings : Settings) (m : MachineMeaning S C O) (s : StackId) (f : Format C) (t : StackId) (h : Format D) (g : Format O) (who : Who) where
+module _ {S C D O : Type 0} (settings : Settings) (m : MachineMeaning S C O) (s : StackId) (f : Format C) (t : StackId) (h : Format D)
+    (g : Format O) (who : Who) where
   -- Whole turns: from this stage, kept state and knowledge of the areas, a node went through so many, and stands between two turns as
   -- this one; its areas hold what it keeps. At each moment a crash leaves what it may.
   pub record Goes (stage : Stage S C O) (kept : KeptView C) (store : StoreView) (count : ℕ) (node : NodeView S C O) (kept_now : KeptView C)

@@ -1,5 +1,5 @@
 -- How turns follow each other, what one turn is, and each way in which one is cut short.
-use Rattle.std.specs.Prelude.{◌≡◌, ℕ, ◌+◌, List, [], ◌∷◌, ◌++◌, ◌⊎◌}
+use Rattle.std.specs.Prelude.{◌≡◌, ℕ, ◌+◌, ◌≤◌, List, [], ◌∷◌, ◌++◌, length}
 use Rattle.disk.specs.Acts.{Act, Now}
 use Rattle.disk.specs.DiskLaws.{Every, IsCutShort}
 use Rattle.raft_types.specs.Keeping.{KeptView}
@@ -66,34 +66,34 @@ module _ {C D O : Type 0} (S : Type 0) (s : StackId) (f : Format C) (t : StackId
   -- What was heard is no event: nothing is new.
   abbrev pub QuietGoes : Type 0
   QuietGoes =
-      (settings : Settings) (m : MachineMeaning S C O) (who : Who) (stage : Stage S C O) (kept : KeptView C) (store : StoreView) (count : ℕ)
-      (node : NodeView S C O) (hs : List Act) (before : Told) → HearsAs settings m f g stage hs [] count (Between node) →
+      (settings : Settings) (m : MachineMeaning S C O) (who : Who) (stage : Stage S C O) (kept : KeptView C) (store : StoreView)
+      (count : ℕ) (node : NodeView S C O) (hs : List Act) (before : Told) → HearsAs settings m f g stage hs [] count (Between node) →
       Holds s f t h store kept before.disk → store.who ≡ who →
       Goes settings m s f t h g who stage kept store count node kept store before (told_after before hs)
 
-  -- It is one; the state after it was saved, and then all was said that the event says.
+  -- What was heard is an event; the state after it was saved, and then all was said that the event says.
   abbrev pub EventGoes : Type 0
   EventGoes =
-      (settings : Settings) (m : MachineMeaning S C O) (who : Who) (stage : Stage S C O) (kept : KeptView C) (store : StoreView) (count : ℕ)
-      (node : NodeView S C O) (d : Done C) (hs said : List Act) (before now : Told) → settings.stack ≡ s →
+      (settings : Settings) (m : MachineMeaning S C O) (who : Who) (stage : Stage S C O) (kept : KeptView C) (store : StoreView)
+      (count : ℕ) (node : NodeView S C O) (d : Done C) (hs said : List Act) (before now : Told) → settings.stack ≡ s →
       HearsAs settings m f g stage hs (d ∷ []) count (Between node) → Holds s f t h store kept before.disk → store.who ≡ who →
       StateSaved s f t h store kept d.kept (told_after before hs).disk → Every Says said → datagrams said ≡ d.said →
       now ≡ told_after (told_after (told_after before hs) (state_acts s f store d.kept)) said →
       Goes settings m s f t h g who stage kept store count node d.kept (store_after s f store d.kept) before now
 
-  -- A turn is cut short in what it hears, or right after it.
+  -- A turn is cut short in what it hears, with one event at most.
   abbrev pub HeardHalts : Type 0
   HeardHalts =
       (settings : Settings) (m : MachineMeaning S C O) (who : Who) (stage next : Stage S C O) (kept : KeptView C) (store : StoreView)
       (done : List (Done C)) (count : ℕ) (hs : List Act) (before : Told) → HearsAs settings m f g stage hs done count next →
-      (done ≡ []) ⊎ ((d : Done C) × (done ≡ d ∷ [])) → Holds s f t h store kept before.disk → store.who ≡ who →
+      length done ≤ 1 → Holds s f t h store kept before.disk → store.who ≡ who →
       Halts settings m s f t h g who stage kept store count before (told_after before hs)
 
   -- In its save: at each moment of the acts of it that were done, a crash leaves the state before the event or the one after it.
   abbrev pub SaveHalts : Type 0
   SaveHalts =
-      (settings : Settings) (m : MachineMeaning S C O) (who : Who) (stage : Stage S C O) (kept : KeptView C) (store : StoreView) (count : ℕ)
-      (node : NodeView S C O) (d : Done C) (hs did : List Act) (before now : Told) → settings.stack ≡ s →
+      (settings : Settings) (m : MachineMeaning S C O) (who : Who) (stage : Stage S C O) (kept : KeptView C) (store : StoreView)
+      (count : ℕ) (node : NodeView S C O) (d : Done C) (hs did : List Act) (before now : Told) → settings.stack ≡ s →
       HearsAs settings m f g stage hs (d ∷ []) count (Between node) → Holds s f t h store kept before.disk → store.who ≡ who →
       IsCutShort (state_acts s f store d.kept) did → OpensAsEither (found_by s f t h who) kept d.kept (told_after before hs).disk did →
       now.acts ≡ (told_after before hs).acts ++ did →
@@ -102,8 +102,8 @@ module _ {C D O : Type 0} (S : Type 0) (s : StackId) (f : Format C) (t : StackId
   -- In what its event says, of which a front was said.
   abbrev pub SayHalts : Type 0
   SayHalts =
-      (settings : Settings) (m : MachineMeaning S C O) (who : Who) (stage : Stage S C O) (kept : KeptView C) (store : StoreView) (count : ℕ)
-      (node : NodeView S C O) (d : Done C) (hs said : List Act) (before now : Told) → settings.stack ≡ s →
+      (settings : Settings) (m : MachineMeaning S C O) (who : Who) (stage : Stage S C O) (kept : KeptView C) (store : StoreView)
+      (count : ℕ) (node : NodeView S C O) (d : Done C) (hs said : List Act) (before now : Told) → settings.stack ≡ s →
       HearsAs settings m f g stage hs (d ∷ []) count (Between node) → Holds s f t h store kept before.disk → store.who ≡ who →
       StateSaved s f t h store kept d.kept (told_after before hs).disk → Every Says said → IsFront (datagrams said) d.said →
       now ≡ told_after (told_after (told_after before hs) (state_acts s f store d.kept)) said →

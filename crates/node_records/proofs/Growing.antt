@@ -43,7 +43,8 @@ module _ {S C O : Type 0} (settings : Settings) (m : MachineMeaning S C O) (f : 
       ∙ saves_append settings.stack f store (decides stage xs) (decides (stands stage xs) ys)
 
   pub records_grow : (stage : Stage S C O) (store : StoreView) (a b : ℕ) (xs ys : List Act) → AreRecord settings m f g stage store a xs →
-      AreRecord settings m f g (stands stage xs) (store_by settings.stack f store (decides stage xs)) b ys → AreRecord settings m f g stage store (a + b) (xs ++ ys)
+      AreRecord settings m f g (stands stage xs) (store_by settings.stack f store (decides stage xs)) b ys →
+      AreRecord settings m f g stage store (a + b) (xs ++ ys)
   records_grow stage store a b xs ys x y = record {
     orderly = orderly_append settings m f g stage xs ys x.orderly y.orderly;
     turns = let e = turns_append settings m f g stage xs ys in let p = x.turns in let q = y.turns in omega arith;
@@ -72,7 +73,8 @@ module _ {S C O : Type 0} (settings : Settings) (m : MachineMeaning S C O) (f : 
     );
   }
 
-  pub record_stops : (stage : Stage S C O) (store : StoreView) (count : ℕ) (acts : List Act) → AreRecord settings m f g stage store count acts →
+  pub record_stops : (stage : Stage S C O) (store : StoreView) (count : ℕ) (acts : List Act) →
+      AreRecord settings m f g stage store count acts →
       IsStopped settings m f g stage store count acts
   record_stops stage store count acts x = record {
     orderly = x.orderly;

@@ -55,7 +55,8 @@ module _ {S C O : Type 0} (settings : Settings) (m : MachineMeaning S C O) (f : 
   ends : (stage : Stage S C O) → Decides settings m f g stage [] [] 0 stage
   ends stage = record { orderly = tt; events = refl; turns = refl; stands = refl }
 
-  begins_by : (stage next : Stage S C O) (act : Act) (acts : List Act) (taken : Step S C O) (done : List (Done C)) (count : ℕ) → goes stage act ≡ taken →
+  begins_by : (stage next : Stage S C O) (act : Act) (acts : List Act) (taken : Step S C O) (done : List (Done C)) (count : ℕ) →
+      goes stage act ≡ taken →
       IsOrderly settings m f g stage act → Decides settings m f g taken.stage acts done count next →
       Decides settings m f g stage (act ∷ acts) (taken.done ++ done) (taken.turns + count) next
   begins_by stage next act acts taken done count s o r = record {
@@ -73,11 +74,13 @@ module _ {S C O : Type 0} (settings : Settings) (m : MachineMeaning S C O) (f : 
 
   -- what was heard decides the turn
   pub turn : (stage : Stage S C O) (done : List (Done C)) (count : ℕ) (node : NodeView S C O) (hs more : List Act) →
-      HearsAs settings m f g stage hs done count (Between node) → Every Follows more → Decides settings m f g stage (hs ++ more) done count (Between node)
+      HearsAs settings m f g stage hs done count (Between node) → Every Follows more →
+      Decides settings m f g stage (hs ++ more) done count (Between node)
   turn stage done count node hs more h fs =
       let r = follows node more fs in
       record {
-        orderly = orderly_append settings m f g stage hs more h.decides.orderly (subst (λ (x : Stage S C O). AreOrderly settings m f g x more) (sym h.decides.stands) r.orderly);
+        orderly = orderly_append settings m f g stage hs more h.decides.orderly
+            (subst (λ (x : Stage S C O). AreOrderly settings m f g x more) (sym h.decides.stands) r.orderly);
         events = done_append settings m f g stage hs more
             ∙ (ap (λ (x : Stage S C O). decides stage hs ++ decides x more) h.decides.stands
             ∙ (ap (λ es. decides stage hs ++ es) r.events ∙ (append-nil (decides stage hs) ∙ h.decides.events)));
@@ -86,23 +89,32 @@ module _ {S C O : Type 0} (settings : Settings) (m : MachineMeaning S C O) (f : 
             let b = r.turns in
             let c = h.decides.turns in
             omega arith;
-        stands = stage_append settings m f g stage hs more ∙ (ap (λ (x : Stage S C O). stage_after settings m f g x more) h.decides.stands ∙ r.stands);
+        stands = stage_append settings m f g stage hs more
+            ∙ (ap (λ (x : Stage S C O). stage_after settings m f g x more) h.decides.stands ∙ r.stands);
       }
+
+  pub turn_decides : (stage : Stage S C O) (done : List (Done C)) (count : ℕ) (node : NodeView S C O) (hs saves said : List Act) →
+      HearsAs settings m f g stage hs done count (Between node) → Every Stores saves → Every Says said →
+      Decides settings m f g stage (hs ++ (saves ++ said)) done count (Between node)
+  turn_decides stage done count node hs saves said h st q = turn stage done count node hs (saves ++ said) h (turn_follows saves said st q)
 
   -- nothing follows a receive that failed
 
-  broken_ends : (acts : List Act) (node : NodeView S C O) → AreOrderly settings m f g Broken acts → stage_after settings m f g Broken acts ≡ Between node → ⊥
+  broken_ends : (acts : List Act) (node : NodeView S C O) → AreOrderly settings m f g Broken acts →
+      stage_after settings m f g Broken acts ≡ Between node → ⊥
   broken_ends [] node o e = cc
   broken_ends (act ∷ acts) node o e = o.0
 
-  receive_failed : (stage : Stage S C O) (wait : ℕ) (acts : List Act) (node : NodeView S C O) → AreOrderly settings m f g stage (ReceiveFailed wait ∷ acts) →
+  receive_failed : (stage : Stage S C O) (wait : ℕ) (acts : List Act) (node : NodeView S C O) →
+      AreOrderly settings m f g stage (ReceiveFailed wait ∷ acts) →
       stage_after settings m f g stage (ReceiveFailed wait ∷ acts) ≡ Between node → ⊥
   receive_failed (Starting kept) wait acts node o e = o.0
   receive_failed (Between n) wait acts node o e = o.0
   receive_failed (Waiting n time) wait acts node o e = broken_ends acts node o.1 e
   receive_failed Broken wait acts node o e = o.0
 
-  hears_faultless : (stage : Stage S C O) (acts : List Act) (node : NodeView S C O) → Every Hears acts → AreOrderly settings m f g stage acts →
+  hears_faultless : (stage : Stage S C O) (acts : List Act) (node : NodeView S C O) → Every Hears acts →
+      AreOrderly settings m f g stage acts →
       stage_after settings m f g stage acts ≡ Between node → Every IsNoFault acts
   hears_faultless stage [] node h o e = tt
   hears_faultless stage (Now ms ∷ acts) node h o e = (tt, hears_faultless (goes stage (Now ms)).stage acts node h.1 o.1 e)
@@ -126,7 +138,8 @@ module _ {S C O : Type 0} (settings : Settings) (m : MachineMeaning S C O) (f : 
     faultless = hears_faultless stage hs node h.hears h.decides.orderly h.decides.stands;
   }
 
-  stored_in_turn : (hs saves said : List Act) → Every Hears hs → Every Stores saves → Every Says said → store_acts (hs ++ (saves ++ said)) ≡ saves
+  stored_in_turn : (hs saves said : List Act) → Every Hears hs → Every Stores saves → Every Says said →
+      store_acts (hs ++ (saves ++ said)) ≡ saves
   stored_in_turn hs saves said h s q =
       store_acts_append hs (saves ++ said)
       ∙ (ap (λ r. r ++ store_acts (saves ++ said)) (hears_store hs h)
@@ -143,7 +156,7 @@ module _ {S C O : Type 0} (settings : Settings) (m : MachineMeaning S C O) (f : 
   event_turn stage store count node d hs saves said h is q e =
       let on : Every OnAreas saves = subst (λ (xs : List Act). Every OnAreas xs) (sym is) (save_on_areas settings.stack f store d.kept) in
       let st : Every Stores saves = every_as OnAreas Stores saves areas_store on in
-      let t = turn stage (d ∷ []) count node hs (saves ++ said) h (turn_follows saves said st q) in
+      let t = turn_decides stage (d ∷ []) count node hs saves said h st q in
       record {
         orderly = t.orderly;
         turns = t.turns;
@@ -166,13 +179,14 @@ module _ {S C O : Type 0} (settings : Settings) (m : MachineMeaning S C O) (f : 
   }
 
   pub event_stops : (stage : Stage S C O) (store : StoreView) (count : ℕ) (node : NodeView S C O) (d : Done C) (hs saves said : List Act) →
-      HearsAs settings m f g stage hs (d ∷ []) count (Between node) → IsCutShort (state_acts settings.stack f store d.kept) saves → Every Says said →
+      HearsAs settings m f g stage hs (d ∷ []) count (Between node) → IsCutShort (state_acts settings.stack f store d.kept) saves →
+      Every Says said →
       IsFront (datagrams said) d.said → IsStopped settings m f g stage store count (hs ++ (saves ++ said))
   event_stops stage store count node d hs saves said h short q front =
       let all = hs ++ (saves ++ said) in
       let whole_save = state_acts settings.stack f store d.kept in
       let st : Every Stores saves = save_stores settings.stack f store d.kept saves short in
-      let t = turn stage (d ∷ []) count node hs (saves ++ said) h (turn_follows saves said st q) in
+      let t = turn_decides stage (d ∷ []) count node hs saves said h st q in
       let owed : saves_of settings.stack f store (decides stage all) ≡ whole_save =
       ap (λ r. saves_of settings.stack f store r) t.events ∙ append-nil whole_save in
       record {
@@ -188,7 +202,8 @@ module _ {S C O : Type 0} (settings : Settings) (m : MachineMeaning S C O) (f : 
 
   -- what a node hears
 
-  abbrev hears_as : (stage next : Stage S C O) (acts : List Act) (done : List (Done C)) (count : ℕ) → Every Hears acts → Decides settings m f g stage acts done count next →
+  abbrev hears_as : (stage next : Stage S C O) (acts : List Act) (done : List (Done C)) (count : ℕ) → Every Hears acts →
+      Decides settings m f g stage acts done count next →
       HearsAs settings m f g stage acts done count next
   hears_as stage next acts done count h r = record { hears = h; decides = r }
 
@@ -196,11 +211,13 @@ module _ {S C O : Type 0} (settings : Settings) (m : MachineMeaning S C O) (f : 
       Decides settings m f g stage (act ∷ []) (taken.done ++ []) (taken.turns + 0) taken.stage
   alone stage act taken e o = begins_by stage taken.stage act [] taken [] 0 e o (ends taken.stage)
 
-  clock : (node : NodeView S C O) (time : ℕ) (is : Due) → due node.deadline time ≡ is → goes (Between node) (Now time) ≡ begins settings m f g node time is
+  clock : (node : NodeView S C O) (time : ℕ) (is : Due) → due node.deadline time ≡ is →
+      goes (Between node) (Now time) ≡ begins settings m f g node time is
   clock node time is e = ap (λ d. begins settings m f g node time d) e
 
   -- a turn that waits
-  waits_then : (node : NodeView S C O) (time wait : ℕ) (act : Act) (taken : Step S C O) → due node.deadline time ≡ Wait wait → goes (Waiting node time) act ≡ taken →
+  waits_then : (node : NodeView S C O) (time wait : ℕ) (act : Act) (taken : Step S C O) → due node.deadline time ≡ Wait wait →
+      goes (Waiting node time) act ≡ taken →
       Hears act → IsOrderly settings m f g (Waiting node time) act →
       HearsAs settings m f g (Between node) (Now time ∷ act ∷ []) (taken.done ++ []) (0 + (taken.turns + 0)) taken.stage
   waits_then node time wait act taken is e h o =

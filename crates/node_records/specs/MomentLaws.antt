@@ -45,6 +45,12 @@ RestsThenOpens K =
     (found : List ℕ → Found K) (kept : K) (selector : ℕ) (disk : Disk) (acts : List Act) → Rests found kept selector (after disk acts) →
     OpensThenAs found kept disk acts
 
+-- Where a turn was cut short before any act of its save.
+abbrev pub NothingOpensAsEither : Type 0 → Type 0
+NothingOpensAsEither K =
+    (found : List ℕ → Found K) (old new : K) (selector : ℕ) (disk : Disk) → Rests found old selector disk →
+    OpensAsEither found old new disk []
+
 -- One list of acts after the other.
 abbrev pub MomentsGrow : {C O : Type 0} → Type 0 → Format C → Format O → Type 0
 MomentsGrow {C} {O} S f g =

@@ -18,7 +18,7 @@ use Rattle.node_run.specs.Settings.{Settings, due}
 use Rattle.node_run.specs.declared.due.Due.TheVariants.{Timeout, Wait}
 use Rattle.node_run.specs.declared.event.Event.{Event}
 use Rattle.node_run.specs.declared.event.Event.TheVariants.{Tick}
-use Rattle.node_records.specs.Records.{Stores, AreRecord, HearsAs, IsStopped, kept_by, store_by}
+use Rattle.node_records.specs.Records.{Stores, AreRecord, Decides, HearsAs, IsStopped, kept_by, store_by}
 
 module _ {S C O : Type 0} (settings : Settings) (m : MachineMeaning S C O) (f : Format C) (g : Format O) where
   -- what two lists of acts make, the one after the other
@@ -70,7 +70,8 @@ abbrev pub RecordsGrow : {C O : Type 0} → Type 0 → Format C → Format O →
 RecordsGrow {C} {O} S f g =
     (settings : Settings) (m : MachineMeaning S C O) (stage : Stage S C O) (store : StoreView) (a b : ℕ) (xs ys : List Act) →
     AreRecord settings m f g stage store a xs →
-    AreRecord settings m f g (stage_after settings m f g stage xs) (store_by settings.stack f store (done_in settings m f g stage xs)) b ys →
+    AreRecord settings m f g (stage_after settings m f g stage xs)
+    (store_by settings.stack f store (done_in settings m f g stage xs)) b ys →
     AreRecord settings m f g stage store (a + b) (xs ++ ys)
 
 -- No act is a record of no turn.
@@ -91,6 +92,13 @@ EventTurnIsRecord {C} {O} S f g =
     (d : Done C) (hs saves said : List Act) → HearsAs settings m f g stage hs (d ∷ []) count (Between node) →
     saves ≡ state_acts settings.stack f store d.kept → Every Says said → datagrams said ≡ d.said →
     AreRecord settings m f g stage store count (hs ++ (saves ++ said))
+
+-- What was heard decides the turn, whatever of its acts follows.
+abbrev pub TurnDecides : {C O : Type 0} → Type 0 → Format C → Format O → Type 0
+TurnDecides {C} {O} S f g =
+    (settings : Settings) (m : MachineMeaning S C O) (stage : Stage S C O) (done : List (Done C)) (count : ℕ) (node : NodeView S C O)
+    (hs saves said : List Act) → HearsAs settings m f g stage hs done count (Between node) → Every Stores saves → Every Says said →
+    Decides settings m f g stage (hs ++ (saves ++ said)) done count (Between node)
 
 -- Whole turns alone.
 abbrev pub RecordIsStopped : {C O : Type 0} → Type 0 → Format C → Format O → Type 0
@@ -117,7 +125,8 @@ abbrev pub StopsGrow : {C O : Type 0} → Type 0 → Format C → Format O → T
 StopsGrow {C} {O} S f g =
     (settings : Settings) (m : MachineMeaning S C O) (stage : Stage S C O) (store : StoreView) (a b : ℕ) (xs ys : List Act) →
     AreRecord settings m f g stage store a xs →
-    IsStopped settings m f g (stage_after settings m f g stage xs) (store_by settings.stack f store (done_in settings m f g stage xs)) b ys →
+    IsStopped settings m f g (stage_after settings m f g stage xs)
+    (store_by settings.stack f store (done_in settings m f g stage xs)) b ys →
     IsStopped settings m f g stage store (a + b) (xs ++ ys)
 
 -- The acts of a save, whole or cut short, are store acts.

@@ -1,4 +1,4 @@
-ghost use Rattle.node_records.specs.MomentLaws.{EventTurnsLeave, KeepsIsSaving, MomentsGrow, QuietTurnsLeave, RestsThenOpens, WholeIsCutShort};
+ghost use Rattle.node_records.specs.MomentLaws.{EventTurnsLeave, KeepsIsSaving, MomentsGrow, NothingOpensAsEither, QuietTurnsLeave, RestsThenOpens, WholeIsCutShort};
 ghost use Rattle.node_records.specs.RecordLaws.{SavesStore};
 
 use wire_messages::Wire;
@@ -11,6 +11,9 @@ pub fn saves_store<C: Wire>()
 /// Acts that make a state durable, whole or cut short, open as the old state or the new one at each moment, and whole as the new one.
 pub fn saves_open_as_either<K>()
     ensures either { KeepsIsSaving K }
+
+    // Before the first of them it is the old state.
+    ensures nothing { NothingOpensAsEither K }
 
     // What rests as a state after them opens as that one.
     ensures rests { RestsThenOpens K }

@@ -1,0 +1,4 @@
+pub mod Going
+pub mod Turns
+pub mod Halting
+pub mod Worked
