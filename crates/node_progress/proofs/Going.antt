@@ -27,7 +27,7 @@ told_twice told xs ys = λ i. record { acts = append_assoc told.acts xs ys i; di
 
 -- a save changes nothing of whose state it is
 
-who_after : {C : Type 0} (s : StackId) (f : Format C) (store : StoreView) (kept : KeptView C) →
+pub who_after : {C : Type 0} (s : StackId) (f : Format C) (store : StoreView) (kept : KeptView C) →
     (store_after s f store kept).who ≡ store.who
 who_after s f store kept = by (is_held store kept) (store.left == 0)
   where

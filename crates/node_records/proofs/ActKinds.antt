@@ -1,6 +1,7 @@
 -- What acts of one kind do to the disk, and which store acts and datagrams are among them.
-use Rattle.std.proofs.Common.{◌≡◌, Bool, true, false, List, [], ◌∷◌, ◌++◌, refl, ap, ◌∙◌, if◌then◌else◌, ◌==◌, inl, inr}
-use Rattle.disk.specs.Acts.{Act, Now, Took, Quiet, ReceiveFailed, Sent, SendFailed, Wrote, Cut, Synced, StoreFailed}
+use Rattle.std.proofs.Common.{◌≡◌, ℕ, suc, ◌+◌, Bool, true, false, List, [], ◌∷◌, ◌++◌, length, refl, sym, ap, ◌∙◌, append_assoc, if◌then◌else◌, ◌==◌, ◌⊎◌, inl, inr}
+use Rattle.outside.specs.declared.device.Address.{Address}
+use Rattle.disk.specs.Acts.{Act, Began, BeginFailed, Now, Took, Quiet, ReceiveFailed, Sent, SendFailed, Wrote, Cut, Synced, StoreFailed}
 use Rattle.disk.specs.Disk.{Disk, effect, after}
 use Rattle.disk.specs.DiskLaws.{Every, Fails, IsReadFault, IsCutShort}
 use Rattle.raft_types.specs.Keeping.{KeptView}
@@ -105,16 +106,12 @@ areas_faultless acts h = every_as OnAreas IsNoFault acts areas_no_fault h
 
 -- a save is acts on the areas
 by_test : {C : Type 0} (s : StackId) (f : Format C) (store : StoreView) (kept : KeptView C) (same full : Bool) →
-    Every OnAreas
-    (if same then []
-    else if full then save_acts store.selector (base_of s f store.who kept)
-    else append_acts (named store.selector) store.gate (record_bytes f store kept))
+    Every OnAreas (if same then [] else if full then save_acts store.selector (base_of s f store.who kept) else append_acts (named store.selector) store.gate (record_bytes f store kept))
 by_test s f store kept true full = tt
 by_test s f store kept false true = (tt, (tt, (tt, (tt, (tt, tt)))))
 by_test s f store kept false false = (tt, (tt, (tt, (tt, tt))))
 
-pub save_on_areas : {C : Type 0} (s : StackId) (f : Format C) (store : StoreView) (kept : KeptView C) →
-    Every OnAreas (state_acts s f store kept)
+pub save_on_areas : {C : Type 0} (s : StackId) (f : Format C) (store : StoreView) (kept : KeptView C) → Every OnAreas (state_acts s f store kept)
 save_on_areas s f store kept = by_test s f store kept (is_held store kept) (store.left == 0)
 
 -- also where a fault cuts them short
@@ -138,11 +135,6 @@ short_stores [] (d ∷ did) on c = ends_storing d did (read_stores d c.0) c.1
 short_stores (act ∷ acts) (d ∷ did) on (inl c) = (rw c.0 (areas_store act on.0), short_stores acts did on.1 c.1)
 short_stores (act ∷ acts) (d ∷ did) on (inr c) =
     ends_storing d did (elim (c.0) [ inl e ↦ fails_store act d e | inr r ↦ read_stores d r ]) c.1
-
-pub save_stores : {C : Type 0} (s : StackId) (f : Format C) (store : StoreView) (kept : KeptView C) (did : List Act) →
-    IsCutShort (state_acts s f store kept) did →
-    Every Stores did
-save_stores s f store kept did c = short_stores (state_acts s f store kept) did (save_on_areas s f store kept) c
 
 pub whole : (acts : List Act) → IsCutShort acts acts
 whole [] = tt

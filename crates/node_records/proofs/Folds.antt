@@ -1,5 +1,5 @@
 -- What is folded over acts, or over events, that stand one after the other.
-use Rattle.std.proofs.Common.{◌≡◌, ◌+◌, List, [], ◌∷◌, ◌++◌, refl, sym, ap, ◌∙◌, append_assoc, arith}
+use Rattle.std.proofs.Common.{◌≡◌, ℕ, ◌+◌, List, [], ◌∷◌, ◌++◌, refl, sym, ap, ◌∙◌, append_assoc, arith}
 use Rattle.disk.specs.Acts.{Act}
 use Rattle.disk.specs.Disk.{Disk}
 use Rattle.raft_types.specs.Keeping.{KeptView}
@@ -24,8 +24,7 @@ pub kept_append : {C : Type 0} (kept : KeptView C) (ds es : List (Done C)) → k
 kept_append kept [] es = refl
 kept_append kept (d ∷ ds) es = kept_append d.kept ds es
 
-pub store_append : {C : Type 0} (s : StackId) (f : Format C) (store : StoreView) (ds es : List (Done C)) →
-    store_by s f store (ds ++ es) ≡ store_by s f (store_by s f store ds) es
+pub store_append : {C : Type 0} (s : StackId) (f : Format C) (store : StoreView) (ds es : List (Done C)) → store_by s f store (ds ++ es) ≡ store_by s f (store_by s f store ds) es
 store_append s f store [] es = refl
 store_append s f store (d ∷ ds) es = store_append s f (store_after s f store d.kept) ds es
 
@@ -65,14 +64,12 @@ module _ {S C O : Type 0} (settings : Settings) (m : MachineMeaning S C O) (f : 
   turns_append stage [] ys = omega arith
   turns_append stage (x ∷ xs) ys = omega (arith, turns_append (goes stage x).stage xs ys)
 
-  pub orderly_append : (stage : Stage S C O) (xs ys : List Act) → AreOrderly settings m f g stage xs →
-      AreOrderly settings m f g (stands stage xs) ys →
+  pub orderly_append : (stage : Stage S C O) (xs ys : List Act) → AreOrderly settings m f g stage xs → AreOrderly settings m f g (stands stage xs) ys →
       AreOrderly settings m f g stage (xs ++ ys)
   orderly_append stage [] ys a b = b
   orderly_append stage (x ∷ xs) ys a b = (a.0, orderly_append (goes stage x).stage xs ys a.1 b)
 
-  pub joins : (stage : Stage S C O) (store : StoreView) (kept : KeptView C) (disk : Disk) (xs ys : List Act) →
-      IsJoined settings m f g stage store kept disk xs ys
+  pub joins : (stage : Stage S C O) (store : StoreView) (kept : KeptView C) (disk : Disk) (xs ys : List Act) → IsJoined settings m f g stage store kept disk xs ys
   joins stage store kept disk xs ys =
       let events = done_append stage xs ys in
       let ds = decides stage xs in

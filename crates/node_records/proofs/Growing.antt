@@ -1,14 +1,16 @@
 -- Records one after the other.
-use Rattle.std.proofs.Common.{◌≡◌, ℕ, ◌+◌, List, [], ◌++◌, sym, ap, subst, ◌∙◌, append_assoc, arith}
+use Rattle.std.proofs.Common.{◌≡◌, ℕ, ◌+◌, ◌≤◌, List, [], ◌∷◌, ◌++◌, refl, sym, ap, subst, ◌∙◌, append_assoc, arith}
 use Rattle.std.proofs.lemmas.List.{append-nil}
+use Rattle.outside.specs.declared.device.Address.{Address}
 use Rattle.disk.specs.Acts.{Act}
 use Rattle.disk.specs.DiskLaws.{IsCutShort}
 use Rattle.slots.specs.Turns.{datagrams}
+use Rattle.slots.specs.TurnLaws.{IsFront}
 use Rattle.slots.proofs.Elsewhere.{every_append}
 use Rattle.vst_base.specs.Machines.{MachineMeaning}
 use Rattle.wire_fields.specs.Formats.{Format}
 use Rattle.node_acts.specs.Stores.{StoreView}
-use Rattle.node_run.specs.Runs.{Done, Stage, done_in, said_in, stage_after}
+use Rattle.node_run.specs.Runs.{Done, Stage, done_in, said_in, stage_after, turns_in}
 use Rattle.node_run.specs.Settings.{Settings}
 use Rattle.node_records.specs.Records.{AreRecord, IsNoFault, IsStopped, saves_of, store_acts, store_by}
 use Rattle.node_records.proofs.ActKinds.{cut_short_behind, datagrams_append, whole, store_acts_append}
@@ -43,8 +45,7 @@ module _ {S C O : Type 0} (settings : Settings) (m : MachineMeaning S C O) (f : 
       ∙ saves_append settings.stack f store (decides stage xs) (decides (stands stage xs) ys)
 
   pub records_grow : (stage : Stage S C O) (store : StoreView) (a b : ℕ) (xs ys : List Act) → AreRecord settings m f g stage store a xs →
-      AreRecord settings m f g (stands stage xs) (store_by settings.stack f store (decides stage xs)) b ys →
-      AreRecord settings m f g stage store (a + b) (xs ++ ys)
+      AreRecord settings m f g (stands stage xs) (store_by settings.stack f store (decides stage xs)) b ys → AreRecord settings m f g stage store (a + b) (xs ++ ys)
   records_grow stage store a b xs ys x y = record {
     orderly = orderly_append settings m f g stage xs ys x.orderly y.orderly;
     turns = let e = turns_append settings m f g stage xs ys in let p = x.turns in let q = y.turns in omega arith;
@@ -73,8 +74,7 @@ module _ {S C O : Type 0} (settings : Settings) (m : MachineMeaning S C O) (f : 
     );
   }
 
-  pub record_stops : (stage : Stage S C O) (store : StoreView) (count : ℕ) (acts : List Act) →
-      AreRecord settings m f g stage store count acts →
+  pub record_stops : (stage : Stage S C O) (store : StoreView) (count : ℕ) (acts : List Act) → AreRecord settings m f g stage store count acts →
       IsStopped settings m f g stage store count acts
   record_stops stage store count acts x = record {
     orderly = x.orderly;

@@ -12,7 +12,7 @@ use Rattle.slots.specs.Opening.{Found, OpensAs}
 use Rattle.slots.specs.SavingLaws.{Rests}
 use Rattle.slots.specs.Turns.{Hears, Says, OnAreas, datagrams}
 use Rattle.slots.specs.TurnLaws.{IsFront, Keeps}
-use Rattle.slots.proofs.Elsewhere.{after_append, every_take, take_both, take_none}
+use Rattle.slots.proofs.Elsewhere.{after_append, every_append, every_take, take_both}
 use Rattle.slots.proofs.Turning.{rests_opens}
 use Rattle.vst_base.specs.Machines.{MachineMeaning}
 use Rattle.wire_fields.specs.Formats.{Format}
@@ -46,32 +46,20 @@ said_front said n ys front = (
 
 -- acts that make a state durable
 
-cut_either : {K : Type 0} (found : List ℕ → Found K) (old new : K) (selector : ℕ) (acts : List Act) (disk : Disk) →
-    Keeps found old new selector acts disk →
+cut_either : {K : Type 0} (found : List ℕ → Found K) (old new : K) (selector : ℕ) (acts : List Act) (disk : Disk) → Keeps found old new selector acts disk →
     (did : List Act) → IsCutShort acts did → OpensAsEither found old new disk did
 cut_either found old new selector acts disk k did c n image m =
     let w = faults_add_nothing disk acts (take n did) image (fronts_are_cut_short acts did n c) m in
     k.each w.0 image w.2
 
-pub rests_then_opens : {K : Type 0} (found : List ℕ → Found K) (kept : K) (selector : ℕ) (disk : Disk) (acts : List Act) →
-    Rests found kept selector (after disk acts) →
-    OpensThenAs found kept disk acts
-rests_then_opens found kept selector disk acts r image m = rests_opens found kept selector (after disk acts) image r m
-
-pub nothing_either : {K : Type 0} (found : List ℕ → Found K) (old new : K) (selector : ℕ) (disk : Disk) → Rests found old selector disk →
-    OpensAsEither found old new disk []
-nothing_either found old new selector disk r n image m =
-    inl (rests_opens found old selector disk image r (subst (λ (acts : List Act). may_leave disk acts image ≡ true) (take_none Act n [] refl) m))
-
-pub keeps_is_saving : {K : Type 0} (found : List ℕ → Found K) (old new : K) (selector : ℕ) (acts : List Act) (disk : Disk) →
-    Keeps found old new selector acts disk →
+pub keeps_is_saving : {K : Type 0} (found : List ℕ → Found K) (old new : K) (selector : ℕ) (acts : List Act) (disk : Disk) → Keeps found old new selector acts disk →
     IsSaving found old new acts disk
 keeps_is_saving found old new selector acts disk k = record {
   short = λ did c. (short_stores acts did k.only c, cut_either found old new selector acts disk k did c);
   whole = (
     every_as OnAreas Stores acts areas_store k.only,
     k.each,
-    rests_then_opens found new selector disk acts k.done,
+    λ image m. rests_opens found new selector (after disk acts) image k.done m,
   );
 }
 
@@ -83,13 +71,11 @@ module _ {S C O : Type 0} (settings : Settings) (m : MachineMeaning S C O) (f : 
   At found stage kept acts image = IsAt settings m f g found stage kept acts image
 
   -- the same acts, otherwise written
-  abbrev moved : (found : List ℕ → Found (KeptView C)) (stage : Stage S C O) (kept : KeptView C) (xs ys : List Act) (image : Image) →
-      ys ≡ xs →
+  abbrev moved : (found : List ℕ → Found (KeptView C)) (stage : Stage S C O) (kept : KeptView C) (xs ys : List Act) (image : Image) → ys ≡ xs →
       At found stage kept xs image → At found stage kept ys image
   moved found stage kept xs ys image e at = subst (λ (acts : List Act). At found stage kept acts image) (sym e) at
 
-  abbrev leaves_by : (disk : Disk) (xs ys : List Act) (image : Image) → xs ≡ ys → may_leave disk xs image ≡ true →
-      may_leave disk ys image ≡ true
+  abbrev leaves_by : (disk : Disk) (xs ys : List Act) (image : Image) → xs ≡ ys → may_leave disk xs image ≡ true → may_leave disk ys image ≡ true
   leaves_by disk xs ys image e held = subst (λ (acts : List Act). may_leave disk acts image ≡ true) e held
 
   -- while it is heard
@@ -107,12 +93,12 @@ module _ {S C O : Type 0} (settings : Settings) (m : MachineMeaning S C O) (f : 
   few (suc zero) l = inr refl
   few (suc (suc k)) l = absurd (omega arith)
 
-  hearing : (found : List ℕ → Found (KeptView C)) (stage : Stage S C O) (kept : KeptView C) (selector : ℕ) (disk : Disk)
-      (hs : List Act) → Every Hears hs →
+  pub hearing : (found : List ℕ → Found (KeptView C)) (stage : Stage S C O) (kept : KeptView C) (selector : ℕ) (disk : Disk) (hs : List Act) → Every Hears hs →
       length (decides stage hs) ≤ 1 → Rests found kept selector disk → Leaves settings m f g found stage kept disk hs
   hearing found stage kept selector disk hs h l r n image held =
       let q : Every Hears (take n hs) = every_take Hears n hs h in
       let some = fewer stage n hs in
+      let all = said_in (take 0 (decides stage (take n hs))) in
       record {
         c = 0;
         near = few (length (decides stage (take n hs))) (omega arith);
@@ -120,25 +106,18 @@ module _ {S C O : Type 0} (settings : Settings) (m : MachineMeaning S C O) (f : 
         sent = ([], append-nil (datagrams (take n hs)) ∙ hears_silent (take n hs) q);
       }
 
-  pub quiet_leaves : (found : List ℕ → Found (KeptView C)) (stage next : Stage S C O) (kept : KeptView C) (selector : ℕ) (disk : Disk)
-      (count : ℕ) (hs : List Act) →
+  pub quiet_leaves : (found : List ℕ → Found (KeptView C)) (stage next : Stage S C O) (kept : KeptView C) (selector : ℕ) (disk : Disk) (count : ℕ) (hs : List Act) →
       HearsAs settings m f g stage hs [] count next → Rests found kept selector disk →
       Leaves settings m f g found stage kept disk hs × (after disk hs ≡ disk)
   quiet_leaves found stage next kept selector disk count hs h r =
-      let e = ap (λ ds. length ds) h.decides.events in
+      let e = ap (λ ds. length ds) h.events in
       (hearing found stage kept selector disk hs h.hears (omega arith) r, hears_after hs disk h.hears)
 
   -- and after that
 
-  -- before anything is said it is the old state, and then the new one
-  abbrev IsEither : (List ℕ → Found (KeptView C)) → KeptView C → Done C → List Act → Image → Type 0
-  IsEither found kept d acts image =
-      (OpensAs found kept image × (datagrams acts ≡ [])) ⊎ (OpensAs found d.kept image × IsFront (datagrams acts) d.said)
-
-  settling : (found : List ℕ → Found (KeptView C)) (stage : Stage S C O) (kept : KeptView C) (count : ℕ) (node : NodeView S C O)
-      (d : Done C) (hs more : List Act)
+  pub settling : (found : List ℕ → Found (KeptView C)) (stage : Stage S C O) (kept : KeptView C) (count : ℕ) (node : NodeView S C O) (d : Done C) (hs more : List Act)
       (image : Image) → HearsAs settings m f g stage hs (d ∷ []) count (Between node) → Every Follows more →
-      IsEither found kept d more image →
+      (OpensAs found kept image × (datagrams more ≡ [])) ⊎ (OpensAs found d.kept image × IsFront (datagrams more) d.said) →
       At found stage kept (hs ++ more) image
   settling found stage kept count node d hs more image h fs is = go is
     where
@@ -151,8 +130,7 @@ module _ {S C O : Type 0} (settings : Settings) (m : MachineMeaning S C O) (f : 
       out : datagrams (hs ++ more) ≡ datagrams more
       out = datagrams_append hs more ∙ ap (λ r. r ++ datagrams more) (hears_silent hs h.hears)
 
-      go : IsEither found kept d more image →
-          At found stage kept (hs ++ more) image
+      go : (OpensAs found kept image × (datagrams more ≡ [])) ⊎ (OpensAs found d.kept image × IsFront (datagrams more) d.said) → At found stage kept (hs ++ more) image
       go (inl o) = record { c = 0; near = inr (sym one); opens = o.0; sent = ([], append-nil (datagrams (hs ++ more)) ∙ (out ∙ o.1)) }
       go (inr o) = record {
         c = 1;
@@ -165,16 +143,15 @@ module _ {S C O : Type 0} (settings : Settings) (m : MachineMeaning S C O) (f : 
       }
 
   -- the moments after what was heard
-  after_hearing : (found : List ℕ → Found (KeptView C)) (kept : KeptView C) (disk : Disk) (d : Done C) (saves said : List Act)
-      (n : ℕ) (image : Image) →
+  pub after_hearing : (found : List ℕ → Found (KeptView C)) (kept : KeptView C) (disk : Disk) (d : Done C) (saves said : List Act) (n : ℕ) (image : Image) →
       Every Stores saves → Every Says said → IsFront (datagrams said) d.said → OpensAsEither found kept d.kept disk saves →
       (said ≡ []) ⊎ OpensThenAs found d.kept disk saves → may_leave disk (take n (saves ++ said)) image ≡ true →
-      IsEither found kept d (take n (saves ++ said)) image
+      (OpensAs found kept image × (datagrams (take n (saves ++ said)) ≡ [])) ⊎ (OpensAs found d.kept image × IsFront (datagrams (take n (saves ++ said))) d.said)
   after_hearing found kept disk d saves said n image st q front either settled held = go settled (cases_lt n (length saves))
     where
       -- within the saves
       saving : take n (saves ++ said) ≡ take n saves →
-          IsEither found kept d (take n (saves ++ said)) image
+          (OpensAs found kept image × (datagrams (take n (saves ++ said)) ≡ [])) ⊎ (OpensAs found d.kept image × IsFront (datagrams (take n (saves ++ said))) d.said)
       saving e =
           let none : datagrams (take n (saves ++ said)) ≡ [] = ap datagrams e ∙ stores_silent (take n saves) (every_take Stores n saves st) in
           elim (either n image (leaves_by disk (take n (saves ++ said)) (take n saves) image e held)) [
@@ -183,27 +160,24 @@ module _ {S C O : Type 0} (settings : Settings) (m : MachineMeaning S C O) (f : 
           ]
 
       go : (said ≡ []) ⊎ OpensThenAs found d.kept disk saves → (n < length saves) ⊎ (length saves ≤ n) →
-          IsEither found kept d (take n (saves ++ said)) image
+          (OpensAs found kept image × (datagrams (take n (saves ++ said)) ≡ [])) ⊎ (OpensAs found d.kept image × IsFront (datagrams (take n (saves ++ said))) d.said)
       go s (inl l) = saving (take-append-le n saves said (omega arith))
       go (inl nothing) (inr l) = saving (ap (λ r. take n (saves ++ r)) nothing ∙ ap (λ r. take n r) (append-nil saves))
       go (inr then) (inr l) =
           let e : take n (saves ++ said) ≡ saves ++ take (n - length saves) said = past n saves said l in
-          let some = take (n - length saves) said in
-          let quiet : after disk (saves ++ some) ≡ after disk saves =
-          after_append disk saves some ∙ says_after some (after disk saves) (every_take Says (n - length saves) said q) in
-          let out = said_front said (n - length saves) d.said front in
+          let quiet : after disk (saves ++ take (n - length saves) said) ≡ after disk saves =
+          after_append disk saves (take (n - length saves) said) ∙ says_after (take (n - length saves) said) (after disk saves) (every_take Says (n - length saves) said q) in
+          let some = said_front said (n - length saves) d.said front in
           inr (
             then image (subst (λ (x : Disk). may_hold x image ≡ true) (ap (λ acts. after disk acts) e ∙ quiet) held),
-            (out.0, ap (λ r. r ++ out.0) (ap datagrams e ∙ turn_said saves some st) ∙ out.1),
+            (some.0, ap (λ r. r ++ some.0) (ap datagrams e ∙ turn_said saves (take (n - length saves) said) st) ∙ some.1),
           )
 
   follows_take : (n : ℕ) (saves said : List Act) → Every Stores saves → Every Says said → Every Follows (take n (saves ++ said))
   follows_take n saves said st q = every_take Follows n (saves ++ said) (turn_follows saves said st q)
 
-  event_moments : (found : List ℕ → Found (KeptView C)) (stage : Stage S C O) (kept : KeptView C) (selector : ℕ) (disk : Disk)
-      (count : ℕ) (node : NodeView S C O)
-      (d : Done C) (hs saves said : List Act) → HearsAs settings m f g stage hs (d ∷ []) count (Between node) →
-      Rests found kept selector disk →
+  event_moments : (found : List ℕ → Found (KeptView C)) (stage : Stage S C O) (kept : KeptView C) (selector : ℕ) (disk : Disk) (count : ℕ) (node : NodeView S C O)
+      (d : Done C) (hs saves said : List Act) → HearsAs settings m f g stage hs (d ∷ []) count (Between node) → Rests found kept selector disk →
       Every Stores saves → Every Says said → IsFront (datagrams said) d.said → OpensAsEither found kept d.kept disk saves →
       (said ≡ []) ⊎ OpensThenAs found d.kept disk saves → Leaves settings m f g found stage kept disk (hs ++ (saves ++ said))
   event_moments found stage kept selector disk count node d hs saves said h r st q front either settled n image held = go (cases_lt n (length hs))
@@ -211,7 +185,7 @@ module _ {S C O : Type 0} (settings : Settings) (m : MachineMeaning S C O) (f : 
       go : (n < length hs) ⊎ (length hs ≤ n) → At found stage kept (take n (hs ++ (saves ++ said))) image
       go (inl l) =
           let e : take n (hs ++ (saves ++ said)) ≡ take n hs = take-append-le n hs (saves ++ said) (omega arith) in
-          let few_events = ap (λ ds. length ds) h.decides.events in
+          let few_events = ap (λ ds. length ds) h.events in
           moved found stage kept (take n hs) (take n (hs ++ (saves ++ said))) image e
           (hearing found stage kept selector disk hs h.hears (omega arith) r n image (leaves_by disk (take n (hs ++ (saves ++ said))) (take n hs) image e held))
       go (inr l) =
@@ -224,16 +198,13 @@ module _ {S C O : Type 0} (settings : Settings) (m : MachineMeaning S C O) (f : 
           (settling found stage kept count node d hs more image h (follows_take k saves said st q)
           (after_hearing found kept disk d saves said k image st q front either settled left))
 
-  event_disk : (disk : Disk) (hs saves said : List Act) → Every Hears hs → Every Says said →
-      after disk (hs ++ (saves ++ said)) ≡ after disk saves
+  event_disk : (disk : Disk) (hs saves said : List Act) → Every Hears hs → Every Says said → after disk (hs ++ (saves ++ said)) ≡ after disk saves
   event_disk disk hs saves said h q =
       after_append disk hs (saves ++ said)
       ∙ (ap (λ x. after x (saves ++ said)) (hears_after hs disk h) ∙ (after_append disk saves said ∙ says_after said (after disk saves) q))
 
-  pub event_leaves : (found : List ℕ → Found (KeptView C)) (stage : Stage S C O) (kept : KeptView C) (selector : ℕ) (disk : Disk)
-      (count : ℕ) (node : NodeView S C O)
-      (d : Done C) (hs saves said : List Act) → HearsAs settings m f g stage hs (d ∷ []) count (Between node) →
-      Rests found kept selector disk →
+  pub event_leaves : (found : List ℕ → Found (KeptView C)) (stage : Stage S C O) (kept : KeptView C) (selector : ℕ) (disk : Disk) (count : ℕ) (node : NodeView S C O)
+      (d : Done C) (hs saves said : List Act) → HearsAs settings m f g stage hs (d ∷ []) count (Between node) → Rests found kept selector disk →
       Every Stores saves → Every Says said → IsFront (datagrams said) d.said → OpensAsEither found kept d.kept disk saves →
       (said ≡ []) ⊎ OpensThenAs found d.kept disk saves →
       Leaves settings m f g found stage kept disk (hs ++ (saves ++ said)) × (after disk (hs ++ (saves ++ said)) ≡ after disk saves)

@@ -3,5 +3,3 @@ pub mod Folds
 pub mod Growing
 pub mod Turning
 pub mod Leaving
-pub mod Leading
-pub mod Worked

@@ -1,8 +1,10 @@
 -- One turn: what was heard, and then store acts and what was said, by which a node between two turns does not move.
-use Rattle.std.proofs.Common.{◌≡◌, ℕ, ◌+◌, List, [], ◌∷◌, ◌++◌, refl, sym, ap, subst, ◌∙◌, arith, ◌⊎◌, inl, inr}
+use Rattle.std.proofs.Common.{◌≡◌, ℕ, ◌+◌, ◌≤◌, List, [], ◌∷◌, ◌++◌, Option, Some, None, refl, sym, ap, subst, ◌∙◌, arith, ◌⊎◌, inl, inr}
 use Rattle.std.proofs.lemmas.List.{append-nil}
-use Rattle.disk.specs.Acts.{Act, Now, Took, Quiet, ReceiveFailed, Sent, SendFailed, Wrote, Cut, Synced, StoreFailed}
+use Rattle.outside.specs.declared.device.Address.{Address}
+use Rattle.disk.specs.Acts.{Act, Began, BeginFailed, Now, Took, Quiet, ReceiveFailed, Sent, SendFailed, Wrote, Cut, Synced, StoreFailed}
 use Rattle.disk.specs.DiskLaws.{Every, IsCutShort}
+use Rattle.raft_types.specs.Keeping.{KeptView}
 use Rattle.slots.specs.Turns.{Hears, Says, OnAreas, datagrams}
 use Rattle.slots.specs.TurnLaws.{IsFront}
 use Rattle.slots.proofs.Elsewhere.{every_append}
@@ -10,14 +12,16 @@ use Rattle.vst_base.specs.Machines.{MachineMeaning}
 use Rattle.wire_fields.specs.Formats.{Format}
 use Rattle.node_acts.specs.StateActs.{state_acts}
 use Rattle.node_acts.specs.Stores.{StoreView}
+use Rattle.node_run.specs.Events.{event_of}
 use Rattle.node_run.specs.Runs.{Done, NodeView, Stage, Starting, Between, Waiting, Broken, Step, AreOrderly, IsOrderly, begins, done_in, goes_to, passes, said_in, stage_after, step, takes, takes_if, turns_in}
 use Rattle.node_run.specs.Settings.{Settings, due}
 use Rattle.node_run.specs.declared.due.Due.{Due}
 use Rattle.node_run.specs.declared.due.Due.TheVariants.{Timeout, Wait}
+use Rattle.node_run.specs.declared.event.Event.{Event}
 use Rattle.node_run.specs.declared.event.Event.TheVariants.{Tick}
-use Rattle.node_records.specs.Records.{Stores, IsNoFault, AreRecord, Decides, IsStopped, HearsAs, saves_of, store_acts}
+use Rattle.node_records.specs.Records.{Stores, IsNoFault, AreRecord, IsStopped, HearsAs, saves_of, store_acts}
 use Rattle.node_records.specs.RecordLaws.{Turns}
-use Rattle.node_records.proofs.ActKinds.{every_as, areas_faultless, areas_store, datagrams_append, hears_silent, hears_store, save_on_areas, says_faultless, says_store, save_stores, store_acts_append, stores_silent, stores_store}
+use Rattle.node_records.proofs.ActKinds.{every_as, areas_faultless, areas_store, datagrams_append, hears_silent, hears_store, save_on_areas, says_faultless, says_store, short_stores, store_acts_append, stores_silent, stores_store}
 use Rattle.node_records.proofs.Folds.{done_append, orderly_append, stage_append, turns_append}
 
 -- an act that follows what was heard
@@ -52,13 +56,19 @@ module _ {S C O : Type 0} (settings : Settings) (m : MachineMeaning S C O) (f : 
   follows_one node (StoreFailed call) h = record { orderly = tt; step = refl }
   follows_one node act h = absurd (elim h [ inl s ↦ s | inr s ↦ s ])
 
-  ends : (stage : Stage S C O) → Decides settings m f g stage [] [] 0 stage
+  -- the acts are orderly, decide these events and so many turns, and then the node stands there
+  pub record Decides (stage : Stage S C O) (acts : List Act) (done : List (Done C)) (count : ℕ) (next : Stage S C O) : Type 0 where
+    pub orderly : AreOrderly settings m f g stage acts
+    pub events : decides stage acts ≡ done
+    pub turns : turns_in settings m f g stage acts ≡ count
+    pub stands : stage_after settings m f g stage acts ≡ next
+
+  ends : (stage : Stage S C O) → Decides stage [] [] 0 stage
   ends stage = record { orderly = tt; events = refl; turns = refl; stands = refl }
 
-  begins_by : (stage next : Stage S C O) (act : Act) (acts : List Act) (taken : Step S C O) (done : List (Done C)) (count : ℕ) →
-      goes stage act ≡ taken →
-      IsOrderly settings m f g stage act → Decides settings m f g taken.stage acts done count next →
-      Decides settings m f g stage (act ∷ acts) (taken.done ++ done) (taken.turns + count) next
+  begins_by : (stage next : Stage S C O) (act : Act) (acts : List Act) (taken : Step S C O) (done : List (Done C)) (count : ℕ) → goes stage act ≡ taken →
+      IsOrderly settings m f g stage act → Decides taken.stage acts done count next →
+      Decides stage (act ∷ acts) (taken.done ++ done) (taken.turns + count) next
   begins_by stage next act acts taken done count s o r = record {
     orderly = (o, subst (λ (x : Step S C O). AreOrderly settings m f g x.stage acts) (sym s) r.orderly);
     events = ap (λ (x : Step S C O). x.done ++ decides x.stage acts) s ∙ ap (λ es. taken.done ++ es) r.events;
@@ -66,7 +76,7 @@ module _ {S C O : Type 0} (settings : Settings) (m : MachineMeaning S C O) (f : 
     stands = ap (λ (x : Step S C O). stage_after settings m f g x.stage acts) s ∙ r.stands;
   }
 
-  follows : (node : NodeView S C O) (acts : List Act) → Every Follows acts → Decides settings m f g (Between node) acts [] 0 (Between node)
+  follows : (node : NodeView S C O) (acts : List Act) → Every Follows acts → Decides (Between node) acts [] 0 (Between node)
   follows node [] h = ends (Between node)
   follows node (act ∷ acts) h =
       let s = follows_one node act h.0 in
@@ -74,47 +84,36 @@ module _ {S C O : Type 0} (settings : Settings) (m : MachineMeaning S C O) (f : 
 
   -- what was heard decides the turn
   pub turn : (stage : Stage S C O) (done : List (Done C)) (count : ℕ) (node : NodeView S C O) (hs more : List Act) →
-      HearsAs settings m f g stage hs done count (Between node) → Every Follows more →
-      Decides settings m f g stage (hs ++ more) done count (Between node)
+      HearsAs settings m f g stage hs done count (Between node) → Every Follows more → Decides stage (hs ++ more) done count (Between node)
   turn stage done count node hs more h fs =
       let r = follows node more fs in
       record {
-        orderly = orderly_append settings m f g stage hs more h.decides.orderly
-            (subst (λ (x : Stage S C O). AreOrderly settings m f g x more) (sym h.decides.stands) r.orderly);
+        orderly = orderly_append settings m f g stage hs more h.orderly (subst (λ (x : Stage S C O). AreOrderly settings m f g x more) (sym h.stands) r.orderly);
         events = done_append settings m f g stage hs more
-            ∙ (ap (λ (x : Stage S C O). decides stage hs ++ decides x more) h.decides.stands
-            ∙ (ap (λ es. decides stage hs ++ es) r.events ∙ (append-nil (decides stage hs) ∙ h.decides.events)));
+            ∙ (ap (λ (x : Stage S C O). decides stage hs ++ decides x more) h.stands
+            ∙ (ap (λ es. decides stage hs ++ es) r.events ∙ (append-nil (decides stage hs) ∙ h.events)));
         turns = let e = turns_append settings m f g stage hs more in
-            let a = ap (λ (x : Stage S C O). turns_in settings m f g x more) h.decides.stands in
+            let a = ap (λ (x : Stage S C O). turns_in settings m f g x more) h.stands in
             let b = r.turns in
-            let c = h.decides.turns in
+            let c = h.turns in
             omega arith;
-        stands = stage_append settings m f g stage hs more
-            ∙ (ap (λ (x : Stage S C O). stage_after settings m f g x more) h.decides.stands ∙ r.stands);
+        stands = stage_append settings m f g stage hs more ∙ (ap (λ (x : Stage S C O). stage_after settings m f g x more) h.stands ∙ r.stands);
       }
-
-  pub turn_decides : (stage : Stage S C O) (done : List (Done C)) (count : ℕ) (node : NodeView S C O) (hs saves said : List Act) →
-      HearsAs settings m f g stage hs done count (Between node) → Every Stores saves → Every Says said →
-      Decides settings m f g stage (hs ++ (saves ++ said)) done count (Between node)
-  turn_decides stage done count node hs saves said h st q = turn stage done count node hs (saves ++ said) h (turn_follows saves said st q)
 
   -- nothing follows a receive that failed
 
-  broken_ends : (acts : List Act) (node : NodeView S C O) → AreOrderly settings m f g Broken acts →
-      stage_after settings m f g Broken acts ≡ Between node → ⊥
+  broken_ends : (acts : List Act) (node : NodeView S C O) → AreOrderly settings m f g Broken acts → stage_after settings m f g Broken acts ≡ Between node → ⊥
   broken_ends [] node o e = cc
   broken_ends (act ∷ acts) node o e = o.0
 
-  receive_failed : (stage : Stage S C O) (wait : ℕ) (acts : List Act) (node : NodeView S C O) →
-      AreOrderly settings m f g stage (ReceiveFailed wait ∷ acts) →
+  receive_failed : (stage : Stage S C O) (wait : ℕ) (acts : List Act) (node : NodeView S C O) → AreOrderly settings m f g stage (ReceiveFailed wait ∷ acts) →
       stage_after settings m f g stage (ReceiveFailed wait ∷ acts) ≡ Between node → ⊥
   receive_failed (Starting kept) wait acts node o e = o.0
   receive_failed (Between n) wait acts node o e = o.0
   receive_failed (Waiting n time) wait acts node o e = broken_ends acts node o.1 e
   receive_failed Broken wait acts node o e = o.0
 
-  hears_faultless : (stage : Stage S C O) (acts : List Act) (node : NodeView S C O) → Every Hears acts →
-      AreOrderly settings m f g stage acts →
+  hears_faultless : (stage : Stage S C O) (acts : List Act) (node : NodeView S C O) → Every Hears acts → AreOrderly settings m f g stage acts →
       stage_after settings m f g stage acts ≡ Between node → Every IsNoFault acts
   hears_faultless stage [] node h o e = tt
   hears_faultless stage (Now ms ∷ acts) node h o e = (tt, hears_faultless (goes stage (Now ms)).stage acts node h.1 o.1 e)
@@ -131,15 +130,14 @@ module _ {S C O : Type 0} (settings : Settings) (m : MachineMeaning S C O) (f : 
   pub quiet_turn : (stage : Stage S C O) (store : StoreView) (count : ℕ) (node : NodeView S C O) (hs : List Act) →
       HearsAs settings m f g stage hs [] count (Between node) → AreRecord settings m f g stage store count hs
   quiet_turn stage store count node hs h = record {
-    orderly = h.decides.orderly;
-    turns = h.decides.turns;
-    stored = hears_store hs h.hears ∙ sym (ap (λ r. saves_of settings.stack f store r) h.decides.events);
-    said = hears_silent hs h.hears ∙ sym (ap said_in h.decides.events);
-    faultless = hears_faultless stage hs node h.hears h.decides.orderly h.decides.stands;
+    orderly = h.orderly;
+    turns = h.turns;
+    stored = hears_store hs h.hears ∙ sym (ap (λ r. saves_of settings.stack f store r) h.events);
+    said = hears_silent hs h.hears ∙ sym (ap said_in h.events);
+    faultless = hears_faultless stage hs node h.hears h.orderly h.stands;
   }
 
-  stored_in_turn : (hs saves said : List Act) → Every Hears hs → Every Stores saves → Every Says said →
-      store_acts (hs ++ (saves ++ said)) ≡ saves
+  stored_in_turn : (hs saves said : List Act) → Every Hears hs → Every Stores saves → Every Says said → store_acts (hs ++ (saves ++ said)) ≡ saves
   stored_in_turn hs saves said h s q =
       store_acts_append hs (saves ++ said)
       ∙ (ap (λ r. r ++ store_acts (saves ++ said)) (hears_store hs h)
@@ -156,14 +154,14 @@ module _ {S C O : Type 0} (settings : Settings) (m : MachineMeaning S C O) (f : 
   event_turn stage store count node d hs saves said h is q e =
       let on : Every OnAreas saves = subst (λ (xs : List Act). Every OnAreas xs) (sym is) (save_on_areas settings.stack f store d.kept) in
       let st : Every Stores saves = every_as OnAreas Stores saves areas_store on in
-      let t = turn_decides stage (d ∷ []) count node hs saves said h st q in
+      let t = turn stage (d ∷ []) count node hs (saves ++ said) h (turn_follows saves said st q) in
       record {
         orderly = t.orderly;
         turns = t.turns;
         stored = stored_in_turn hs saves said h.hears st q
             ∙ (is ∙ (sym (append-nil (state_acts settings.stack f store d.kept)) ∙ sym (ap (λ r. saves_of settings.stack f store r) t.events)));
         said = said_in_turn hs saves said h.hears st ∙ (e ∙ (sym (append-nil d.said) ∙ sym (ap said_in t.events)));
-        faultless = every_append IsNoFault hs (saves ++ said) (hears_faultless stage hs node h.hears h.decides.orderly h.decides.stands)
+        faultless = every_append IsNoFault hs (saves ++ said) (hears_faultless stage hs node h.hears h.orderly h.stands)
             (every_append IsNoFault saves said (areas_faultless saves on) (says_faultless said q));
       }
 
@@ -172,21 +170,20 @@ module _ {S C O : Type 0} (settings : Settings) (m : MachineMeaning S C O) (f : 
   pub heard_stops : (stage : Stage S C O) (store : StoreView) (done : List (Done C)) (count : ℕ) (next : Stage S C O) (hs : List Act) →
       HearsAs settings m f g stage hs done count next → IsStopped settings m f g stage store count hs
   heard_stops stage store done count next hs h = record {
-    orderly = h.decides.orderly;
-    turns = let e = h.decides.turns in omega arith;
+    orderly = h.orderly;
+    turns = let e = h.turns in omega arith;
     stored = subst (λ (r : List Act). IsCutShort (saves_of settings.stack f store (decides stage hs)) r) (sym (hears_store hs h.hears)) tt;
     said = (said_in (decides stage hs), ap (λ r. r ++ said_in (decides stage hs)) (hears_silent hs h.hears));
   }
 
   pub event_stops : (stage : Stage S C O) (store : StoreView) (count : ℕ) (node : NodeView S C O) (d : Done C) (hs saves said : List Act) →
-      HearsAs settings m f g stage hs (d ∷ []) count (Between node) → IsCutShort (state_acts settings.stack f store d.kept) saves →
-      Every Says said →
+      HearsAs settings m f g stage hs (d ∷ []) count (Between node) → IsCutShort (state_acts settings.stack f store d.kept) saves → Every Says said →
       IsFront (datagrams said) d.said → IsStopped settings m f g stage store count (hs ++ (saves ++ said))
   event_stops stage store count node d hs saves said h short q front =
       let all = hs ++ (saves ++ said) in
       let whole_save = state_acts settings.stack f store d.kept in
-      let st : Every Stores saves = save_stores settings.stack f store d.kept saves short in
-      let t = turn_decides stage (d ∷ []) count node hs saves said h st q in
+      let st : Every Stores saves = short_stores whole_save saves (save_on_areas settings.stack f store d.kept) short in
+      let t = turn stage (d ∷ []) count node hs (saves ++ said) h (turn_follows saves said st q) in
       let owed : saves_of settings.stack f store (decides stage all) ≡ whole_save =
       ap (λ r. saves_of settings.stack f store r) t.events ∙ append-nil whole_save in
       record {
@@ -202,22 +199,19 @@ module _ {S C O : Type 0} (settings : Settings) (m : MachineMeaning S C O) (f : 
 
   -- what a node hears
 
-  abbrev hears_as : (stage next : Stage S C O) (acts : List Act) (done : List (Done C)) (count : ℕ) → Every Hears acts →
-      Decides settings m f g stage acts done count next →
+  abbrev hears_as : (stage next : Stage S C O) (acts : List Act) (done : List (Done C)) (count : ℕ) → Every Hears acts → Decides stage acts done count next →
       HearsAs settings m f g stage acts done count next
-  hears_as stage next acts done count h r = record { hears = h; decides = r }
+  hears_as stage next acts done count h r = record { hears = h; orderly = r.orderly; events = r.events; turns = r.turns; stands = r.stands }
 
   abbrev alone : (stage : Stage S C O) (act : Act) (taken : Step S C O) → goes stage act ≡ taken → IsOrderly settings m f g stage act →
-      Decides settings m f g stage (act ∷ []) (taken.done ++ []) (taken.turns + 0) taken.stage
+      Decides stage (act ∷ []) (taken.done ++ []) (taken.turns + 0) taken.stage
   alone stage act taken e o = begins_by stage taken.stage act [] taken [] 0 e o (ends taken.stage)
 
-  clock : (node : NodeView S C O) (time : ℕ) (is : Due) → due node.deadline time ≡ is →
-      goes (Between node) (Now time) ≡ begins settings m f g node time is
+  clock : (node : NodeView S C O) (time : ℕ) (is : Due) → due node.deadline time ≡ is → goes (Between node) (Now time) ≡ begins settings m f g node time is
   clock node time is e = ap (λ d. begins settings m f g node time d) e
 
   -- a turn that waits
-  waits_then : (node : NodeView S C O) (time wait : ℕ) (act : Act) (taken : Step S C O) → due node.deadline time ≡ Wait wait →
-      goes (Waiting node time) act ≡ taken →
+  waits_then : (node : NodeView S C O) (time wait : ℕ) (act : Act) (taken : Step S C O) → due node.deadline time ≡ Wait wait → goes (Waiting node time) act ≡ taken →
       Hears act → IsOrderly settings m f g (Waiting node time) act →
       HearsAs settings m f g (Between node) (Now time ∷ act ∷ []) (taken.done ++ []) (0 + (taken.turns + 0)) taken.stage
   waits_then node time wait act taken is e h o =
@@ -227,10 +221,8 @@ module _ {S C O : Type 0} (settings : Settings) (m : MachineMeaning S C O) (f : 
 
   pub turns_hear : Turns settings m f g
   turns_hear = record {
-    nothing = λ stage. record { hears = tt; decides = ends stage };
-    first = λ kept time.
-        let taken = goes (Starting kept) (Now time) in
-        hears_as (Starting kept) taken.stage (Now time ∷ []) [] 0 (tt, tt) (alone (Starting kept) (Now time) taken refl tt);
+    nothing = λ stage. record { hears = tt; orderly = tt; events = refl; turns = refl; stands = refl };
+    first = λ kept time. record { hears = (tt, tt); orderly = (tt, tt); events = refl; turns = refl; stands = refl };
     timeout = λ node time is.
         let taken = takes settings m f g node time Tick in
         hears_as (Between node) taken.stage (Now time ∷ []) taken.done 1 (tt, tt)

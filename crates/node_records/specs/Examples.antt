@@ -1,22 +1,20 @@
 -- The turns of node 0 by which it votes for node 1, with the save of the vote and its answer.
-use Rattle.std.specs.Prelude.{ℕ, List, [], ◌∷◌, ◌++◌, Some, None}
-use Rattle.disk.specs.Acts.{Act, Now, Took, Sent, Wrote, Synced}
+use Rattle.std.specs.Prelude.{◌≡◌, ℕ, List, [], ◌∷◌, ◌++◌, Option, Some, None}
+use Rattle.disk.specs.Acts.{Act, Now, Took, Quiet, Sent, SendFailed, Wrote, Cut, Synced, StoreFailed, Sync}
 use Rattle.disk.specs.Disk.{Disk, Image, settled}
-use Rattle.kv_machine.specs.Kv.{Store, kv}
+use Rattle.kv_machine.specs.Kv.{kv}
 use Rattle.kv_machine.specs.declared.cmd.KvCmd.{KvCmd}
-use Rattle.kv_machine.specs.declared.out.KvOut.{KvOut}
 use Rattle.raft_types.specs.Keeping.{KeptView}
 use Rattle.slots.specs.Opening.{Found, Is}
 use Rattle.wire_messages.specs.KvBytes.{kv_command, kv_output}
 use Rattle.node_body.specs.Examples.{vote_record}
 use Rattle.node_acts.specs.Examples.{knowing}
 use Rattle.node_acts.specs.Stores.{StoreView}
-use Rattle.node_run.specs.Examples.{at_port, candidate, datagram, done, kept_as, number_of_eight, put_a_x, settings, votes}
-use Rattle.node_run.specs.Runs.{Done, Starting, stage_after}
+use Rattle.node_run.specs.Examples.{at_port, candidate, datagram, done, kept_as, number_of_eight, put_a_x, settings, three_turns, votes}
+use Rattle.node_run.specs.Runs.{Done, Starting}
 use Rattle.node_run.specs.declared.event.Event.TheVariants.{Tick}
 use Rattle.node_records.specs.Records.{AreRecord, IsStopped, saves_of, store_by}
 use Rattle.node_records.specs.Moments.{IsAt, Leaves}
-use Rattle.node_records.specs.Leading.{Place, Leads, Halts}
 
 -- of the first state and of the vote; a thousand records may follow the first gate
 abbrev pub first : KeptView KvCmd
@@ -39,11 +37,8 @@ abbrev pub answered : Act
 answered = Sent (at_port 7001) answer
 
 -- the vote is an event, and then the timer fires, by which nothing is kept that is new
-abbrev pub voting : Done KvCmd
-voting = done (candidate 1 1) voted ((at_port 7001, answer) ∷ [])
-
 abbrev pub two_events : List (Done KvCmd)
-two_events = voting ∷ done Tick voted [] ∷ []
+two_events = done (candidate 1 1) voted ((at_port 7001, answer) ∷ []) ∷ done Tick voted [] ∷ []
 
 abbrev pub saves_then : StoreView → List (Done KvCmd) → List Act
 saves_then store events = saves_of settings.stack kv_command store events
@@ -80,15 +75,3 @@ leaves acts = Leaves settings kv kv_command kv_output by_length (Starting first)
 abbrev pub refused_request : List Act
 refused_request =
     Now 0 ∷ Now 0 ∷ Took 300 (at_port 7100) put_a_x ∷ Sent (at_port 7100) (datagram 5 2 0 0 (number_of_eight 1 ++ 2 ∷ [])) ∷ []
-
-abbrev pub start : Place Store KvCmd KvOut
-start = record { stage = Starting first; store = known; kept = first }
-
--- that acts lead to where the node knows this, and its areas hold this
-abbrev pub leads : ℕ → List Act → StoreView → KeptView KvCmd → Type 0
-leads count acts store kept =
-    Leads settings kv kv_command kv_output by_length at_rest start count acts
-    (record { stage = stage_after settings kv kv_command kv_output (Starting first) acts; store = store; kept = kept })
-
-abbrev pub halts : ℕ → List Act → Type 0
-halts most acts = Halts settings kv kv_command kv_output by_length at_rest start most acts

@@ -2,6 +2,4 @@ pub mod Records
 pub mod RecordLaws
 pub mod Moments
 pub mod MomentLaws
-pub mod Leading
-pub mod LeadingLaws
 pub mod Examples

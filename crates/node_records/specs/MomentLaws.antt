@@ -30,7 +30,7 @@ pub record IsSaving {K : Type 0} (found : List ℕ → Found K) (old new : K) (a
   pub short : (did : List Act) → IsCutShort acts did → Every Stores did × OpensAsEither found old new disk did
   pub whole : Every Stores acts × OpensAsEither found old new disk acts × OpensThenAs found new disk acts
 
--- Whole acts count among those that were cut short.
+-- Acts that nothing cut short are the longest of those that were.
 abbrev pub WholeIsCutShort : Type 0
 WholeIsCutShort = (acts : List Act) → IsCutShort acts acts
 
@@ -38,18 +38,6 @@ abbrev pub KeepsIsSaving : Type 0 → Type 0
 KeepsIsSaving K =
     (found : List ℕ → Found K) (old new : K) (selector : ℕ) (acts : List Act) (disk : Disk) → Keeps found old new selector acts disk →
     IsSaving found old new acts disk
-
--- What rests as a state after these acts opens as that state.
-abbrev pub RestsThenOpens : Type 0 → Type 0
-RestsThenOpens K =
-    (found : List ℕ → Found K) (kept : K) (selector : ℕ) (disk : Disk) (acts : List Act) → Rests found kept selector (after disk acts) →
-    OpensThenAs found kept disk acts
-
--- Where a turn was cut short before any act of its save.
-abbrev pub NothingOpensAsEither : Type 0 → Type 0
-NothingOpensAsEither K =
-    (found : List ℕ → Found K) (old new : K) (selector : ℕ) (disk : Disk) → Rests found old selector disk →
-    OpensAsEither found old new disk []
 
 -- One list of acts after the other.
 abbrev pub MomentsGrow : {C O : Type 0} → Type 0 → Format C → Format O → Type 0
@@ -64,8 +52,8 @@ MomentsGrow {C} {O} S f g =
 abbrev pub QuietTurnsLeave : {C O : Type 0} → Type 0 → Format C → Format O → Type 0
 QuietTurnsLeave {C} {O} S f g =
     (settings : Settings) (m : MachineMeaning S C O) (found : List ℕ → Found (KeptView C)) (stage next : Stage S C O) (kept : KeptView C)
-    (selector : ℕ) (disk : Disk) (count : ℕ) (hs : List Act) → HearsAs settings m f g stage hs [] count next →
-    Rests found kept selector disk → Leaves settings m f g found stage kept disk hs × (after disk hs ≡ disk)
+    (selector : ℕ) (disk : Disk) (count : ℕ) (hs : List Act) → HearsAs settings m f g stage hs [] count next → Rests found kept selector disk →
+    Leaves settings m f g found stage kept disk hs × (after disk hs ≡ disk)
 
 -- An event is heard; then store acts, and then what was said of it. Nothing was said unless the areas open as the new state.
 abbrev pub EventTurnsLeave : {C O : Type 0} → Type 0 → Format C → Format O → Type 0

@@ -15,8 +15,7 @@ use Rattle.node_records.specs.Records.{kept_by}
 module _ {S C O : Type 0} (settings : Settings) (m : MachineMeaning S C O) (f : Format C) (g : Format O) where
   -- After these acts, from this stage and kept state on, an image opens as the state after c events: all that the acts decided, or
   -- all but the last. What went out is a front of what these c events say.
-  pub record IsAt (found : List ℕ → Found (KeptView C)) (stage : Stage S C O) (kept : KeptView C)
-      (acts : List Act) (image : Image) : Type 0 where
+  pub record IsAt (found : List ℕ → Found (KeptView C)) (stage : Stage S C O) (kept : KeptView C) (acts : List Act) (image : Image) : Type 0 where
     pub c : ℕ
     pub near : (c ≡ length (done_in settings m f g stage acts)) ⊎ (suc c ≡ length (done_in settings m f g stage acts))
     pub opens : OpensAs found (kept_by kept (take c (done_in settings m f g stage acts))) image

@@ -1,5 +1,5 @@
 -- How records grow turn by turn, and what one turn is.
-use Rattle.std.specs.Prelude.{◌≡◌, ℕ, ◌+◌, List, [], ◌∷◌, ◌++◌, Some, None}
+use Rattle.std.specs.Prelude.{◌≡◌, ℕ, ◌+◌, List, [], ◌∷◌, ◌++◌, Option, Some, None}
 use Rattle.outside.specs.declared.device.Address.{Address}
 use Rattle.disk.specs.Acts.{Act, Now, Took, Quiet, ReceiveFailed}
 use Rattle.disk.specs.Disk.{Disk, after}
@@ -8,7 +8,6 @@ use Rattle.raft_types.specs.Keeping.{KeptView}
 use Rattle.slots.specs.Turns.{Says, datagrams}
 use Rattle.slots.specs.TurnLaws.{IsFront}
 use Rattle.vst_base.specs.Machines.{MachineMeaning}
-use Rattle.vst_base.specs.declared.stack.StackId.{StackId}
 use Rattle.wire_fields.specs.Formats.{Format}
 use Rattle.node_acts.specs.StateActs.{state_acts}
 use Rattle.node_acts.specs.Stores.{StoreView}
@@ -18,7 +17,7 @@ use Rattle.node_run.specs.Settings.{Settings, due}
 use Rattle.node_run.specs.declared.due.Due.TheVariants.{Timeout, Wait}
 use Rattle.node_run.specs.declared.event.Event.{Event}
 use Rattle.node_run.specs.declared.event.Event.TheVariants.{Tick}
-use Rattle.node_records.specs.Records.{Stores, AreRecord, Decides, HearsAs, IsStopped, kept_by, store_by}
+use Rattle.node_records.specs.Records.{AreRecord, HearsAs, IsStopped, kept_by, store_by}
 
 module _ {S C O : Type 0} (settings : Settings) (m : MachineMeaning S C O) (f : Format C) (g : Format O) where
   -- what two lists of acts make, the one after the other
@@ -30,7 +29,7 @@ module _ {S C O : Type 0} (settings : Settings) (m : MachineMeaning S C O) (f : 
         ≡ turns_in settings m f g stage xs + turns_in settings m f g (stage_after settings m f g stage xs) ys
     pub store : store_by settings.stack f known (done_in settings m f g stage (xs ++ ys))
         ≡ store_by settings.stack f (store_by settings.stack f known (done_in settings m f g stage xs))
-        (done_in settings m f g (stage_after settings m f g stage xs) ys)
+              (done_in settings m f g (stage_after settings m f g stage xs) ys)
     pub kept : kept_by held (done_in settings m f g stage (xs ++ ys))
         ≡ kept_by (kept_by held (done_in settings m f g stage xs)) (done_in settings m f g (stage_after settings m f g stage xs) ys)
     pub disk : after first (xs ++ ys) ≡ after (after first xs) ys
@@ -45,8 +44,8 @@ module _ {S C O : Type 0} (settings : Settings) (m : MachineMeaning S C O) (f : 
     pub first : (kept : KeptView C) (time : ℕ) → HearsStep (Starting kept) (Now time ∷ []) (step settings m f g (Starting kept) (Now time))
     pub timeout : (node : NodeView S C O) (time : ℕ) → due node.deadline time ≡ Timeout →
         HearsStep (Between node) (Now time ∷ []) (takes settings m f g node time Tick)
-    pub event : (node : NodeView S C O) (time wait : ℕ) (from : Address) (bytes : List ℕ) (event : Event C) →
-        due node.deadline time ≡ Wait wait → event_of settings f from bytes ≡ Some event →
+    pub event : (node : NodeView S C O) (time wait : ℕ) (from : Address) (bytes : List ℕ) (event : Event C) → due node.deadline time ≡ Wait wait →
+        event_of settings f from bytes ≡ Some event →
         HearsStep (Between node) (Now time ∷ Took wait from bytes ∷ []) (takes settings m f g node time event)
     pub no_event : (node : NodeView S C O) (time wait : ℕ) (from : Address) (bytes : List ℕ) → due node.deadline time ≡ Wait wait →
         event_of settings f from bytes ≡ None →
@@ -59,64 +58,52 @@ module _ {S C O : Type 0} (settings : Settings) (m : MachineMeaning S C O) (f : 
     pub waits : (node : NodeView S C O) (time wait : ℕ) → due node.deadline time ≡ Wait wait →
         HearsAs settings m f g (Between node) (Now time ∷ []) [] 0 (Waiting node time)
 
--- One list of acts after the other.
 abbrev pub ActsJoin : {C O : Type 0} → Type 0 → Format C → Format O → Type 0
 ActsJoin {C} {O} S f g =
-    (settings : Settings) (m : MachineMeaning S C O) (stage : Stage S C O) (store : StoreView) (kept : KeptView C) (disk : Disk)
-    (xs ys : List Act) → IsJoined settings m f g stage store kept disk xs ys
+    (settings : Settings) (m : MachineMeaning S C O) (stage : Stage S C O) (store : StoreView) (kept : KeptView C) (disk : Disk) (xs ys : List Act) →
+    IsJoined settings m f g stage store kept disk xs ys
 
--- Whole turns after whole turns.
 abbrev pub RecordsGrow : {C O : Type 0} → Type 0 → Format C → Format O → Type 0
 RecordsGrow {C} {O} S f g =
     (settings : Settings) (m : MachineMeaning S C O) (stage : Stage S C O) (store : StoreView) (a b : ℕ) (xs ys : List Act) →
     AreRecord settings m f g stage store a xs →
-    AreRecord settings m f g (stage_after settings m f g stage xs)
-    (store_by settings.stack f store (done_in settings m f g stage xs)) b ys →
+    AreRecord settings m f g (stage_after settings m f g stage xs) (store_by settings.stack f store (done_in settings m f g stage xs)) b ys →
     AreRecord settings m f g stage store (a + b) (xs ++ ys)
 
--- No act is a record of no turn.
+-- No act is a record of no turn, and so is the first clock value. A turn without an event is one of one turn.
 abbrev pub NothingIsRecord : {C O : Type 0} → Type 0 → Format C → Format O → Type 0
 NothingIsRecord {C} {O} S f g =
     (settings : Settings) (m : MachineMeaning S C O) (stage : Stage S C O) (store : StoreView) → AreRecord settings m f g stage store 0 []
 
--- What is heard without an event is a record: a turn, or the first clock value, which is none.
 abbrev pub QuietTurnIsRecord : {C O : Type 0} → Type 0 → Format C → Format O → Type 0
 QuietTurnIsRecord {C} {O} S f g =
-    (settings : Settings) (m : MachineMeaning S C O) (stage : Stage S C O) (store : StoreView) (count : ℕ) (node : NodeView S C O)
-    (hs : List Act) → HearsAs settings m f g stage hs [] count (Between node) → AreRecord settings m f g stage store count hs
+    (settings : Settings) (m : MachineMeaning S C O) (stage : Stage S C O) (store : StoreView) (count : ℕ) (node : NodeView S C O) (hs : List Act) →
+    HearsAs settings m f g stage hs [] count (Between node) → AreRecord settings m f g stage store count hs
 
--- So is what is heard of an event, with the save of the state after it, and what it says.
+-- one with an event: what was heard, the save of the state after it, and what it says
 abbrev pub EventTurnIsRecord : {C O : Type 0} → Type 0 → Format C → Format O → Type 0
 EventTurnIsRecord {C} {O} S f g =
-    (settings : Settings) (m : MachineMeaning S C O) (stage : Stage S C O) (store : StoreView) (count : ℕ) (node : NodeView S C O)
-    (d : Done C) (hs saves said : List Act) → HearsAs settings m f g stage hs (d ∷ []) count (Between node) →
+    (settings : Settings) (m : MachineMeaning S C O) (stage : Stage S C O) (store : StoreView) (count : ℕ) (node : NodeView S C O) (d : Done C)
+    (hs saves said : List Act) → HearsAs settings m f g stage hs (d ∷ []) count (Between node) →
     saves ≡ state_acts settings.stack f store d.kept → Every Says said → datagrams said ≡ d.said →
     AreRecord settings m f g stage store count (hs ++ (saves ++ said))
 
--- What was heard decides the turn, whatever of its acts follows.
-abbrev pub TurnDecides : {C O : Type 0} → Type 0 → Format C → Format O → Type 0
-TurnDecides {C} {O} S f g =
-    (settings : Settings) (m : MachineMeaning S C O) (stage : Stage S C O) (done : List (Done C)) (count : ℕ) (node : NodeView S C O)
-    (hs saves said : List Act) → HearsAs settings m f g stage hs done count (Between node) → Every Stores saves → Every Says said →
-    Decides settings m f g stage (hs ++ (saves ++ said)) done count (Between node)
-
--- Whole turns alone.
+-- Whole turns, and none that was cut short.
 abbrev pub RecordIsStopped : {C O : Type 0} → Type 0 → Format C → Format O → Type 0
 RecordIsStopped {C} {O} S f g =
     (settings : Settings) (m : MachineMeaning S C O) (stage : Stage S C O) (store : StoreView) (count : ℕ) (acts : List Act) →
     AreRecord settings m f g stage store count acts → IsStopped settings m f g stage store count acts
 
--- A turn that was cut short in what it hears.
+-- A turn that was cut short: in what it hears, in the save of its event, or in what this says.
 abbrev pub HeardIsStopped : {C O : Type 0} → Type 0 → Format C → Format O → Type 0
 HeardIsStopped {C} {O} S f g =
     (settings : Settings) (m : MachineMeaning S C O) (stage : Stage S C O) (store : StoreView) (done : List (Done C)) (count : ℕ)
     (next : Stage S C O) (hs : List Act) → HearsAs settings m f g stage hs done count next → IsStopped settings m f g stage store count hs
 
--- One that was cut short in the save of its event, or in what this says.
 abbrev pub EventIsStopped : {C O : Type 0} → Type 0 → Format C → Format O → Type 0
 EventIsStopped {C} {O} S f g =
-    (settings : Settings) (m : MachineMeaning S C O) (stage : Stage S C O) (store : StoreView) (count : ℕ) (node : NodeView S C O)
-    (d : Done C) (hs saves said : List Act) → HearsAs settings m f g stage hs (d ∷ []) count (Between node) →
+    (settings : Settings) (m : MachineMeaning S C O) (stage : Stage S C O) (store : StoreView) (count : ℕ) (node : NodeView S C O) (d : Done C)
+    (hs saves said : List Act) → HearsAs settings m f g stage hs (d ∷ []) count (Between node) →
     IsCutShort (state_acts settings.stack f store d.kept) saves → Every Says said → IsFront (datagrams said) d.said →
     IsStopped settings m f g stage store count (hs ++ (saves ++ said))
 
@@ -125,14 +112,8 @@ abbrev pub StopsGrow : {C O : Type 0} → Type 0 → Format C → Format O → T
 StopsGrow {C} {O} S f g =
     (settings : Settings) (m : MachineMeaning S C O) (stage : Stage S C O) (store : StoreView) (a b : ℕ) (xs ys : List Act) →
     AreRecord settings m f g stage store a xs →
-    IsStopped settings m f g (stage_after settings m f g stage xs)
-    (store_by settings.stack f store (done_in settings m f g stage xs)) b ys →
+    IsStopped settings m f g (stage_after settings m f g stage xs) (store_by settings.stack f store (done_in settings m f g stage xs)) b ys →
     IsStopped settings m f g stage store (a + b) (xs ++ ys)
-
--- The acts of a save, whole or cut short, are store acts.
-abbrev pub SavesStore : {C : Type 0} → Format C → Type 0
-SavesStore {C} f =
-    (s : StackId) (store : StoreView) (kept : KeptView C) (did : List Act) → IsCutShort (state_acts s f store kept) did → Every Stores did
 
 abbrev pub TurnsHear : {C O : Type 0} → Type 0 → Format C → Format O → Type 0
 TurnsHear {C} {O} S f g = (settings : Settings) (m : MachineMeaning S C O) → Turns settings m f g

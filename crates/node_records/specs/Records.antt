@@ -69,14 +69,10 @@ module _ {S C O : Type 0} (settings : Settings) (m : MachineMeaning S C O) (f : 
     pub stored : IsCutShort (saves_of settings.stack f store (done_in settings m f g stage acts)) (store_acts acts)
     pub said : IsFront (datagrams acts) (said_in (done_in settings m f g stage acts))
 
-  -- The acts are orderly, decide these events and so many turns, and then the node stands there.
-  pub record Decides (stage : Stage S C O) (acts : List Act) (done : List (Done C)) (count : ℕ) (next : Stage S C O) : Type 0 where
+  -- The acts only hear: they decide these events and so many turns, and then the node stands there.
+  pub record HearsAs (stage : Stage S C O) (acts : List Act) (done : List (Done C)) (count : ℕ) (next : Stage S C O) : Type 0 where
+    pub hears : Every Hears acts
     pub orderly : AreOrderly settings m f g stage acts
     pub events : done_in settings m f g stage acts ≡ done
     pub turns : turns_in settings m f g stage acts ≡ count
     pub stands : stage_after settings m f g stage acts ≡ next
-
-  -- The same of acts that only hear.
-  pub record HearsAs (stage : Stage S C O) (acts : List Act) (done : List (Done C)) (count : ℕ) (next : Stage S C O) : Type 0 where
-    pub hears : Every Hears acts
-    pub decides : Decides stage acts done count next

@@ -1,7 +1,7 @@
 ghost use Rattle.std.specs.Prelude.{◌≡◌, [], ◌∷◌, ◌++◌, drop, take};
 ghost use Rattle.disk.specs.Acts.{Cut, Now, Quiet, ReceiveFailed, SendFailed, Sent, StoreFailed, Sync, Synced, Wrote};
 ghost use Rattle.node_acts.specs.Examples.{knowing};
-ghost use Rattle.node_records.specs.Examples.{answer, answered, are_record, first, halts, is_at, is_stopped, known, knows_then, leads, leaves, refused_request, save, saves_then, two_events, voted};
+ghost use Rattle.node_records.specs.Examples.{answer, answered, are_record, first, is_at, is_stopped, known, knows_then, leaves, refused_request, save, saves_then, two_events, voted};
 ghost use Rattle.node_records.specs.Records.{kept_by, store_acts};
 ghost use Rattle.node_run.specs.Examples.{at_port, three_turns};
 
@@ -51,7 +51,8 @@ pub fn worked_stops()
     ensures after_a_fault { is_stopped 4 (three_turns ++ (save ++ (answered ∷ Now 0 ∷ ReceiveFailed 300 ∷ Now 0 ∷ []))) → ⊥ }
 {}
 
-/// What a crash may leave at moments of these turns: before the vote was heard the first state, and from its answer on the vote.
+/// What a crash may leave at moments of these turns: before the vote was heard the first state, and from its answer on the vote. A
+/// request that a node refuses keeps nothing that is new.
 #[tactic(auto, unfolding(wire_fields::specs::Bytes::number_bytes, wire_fields::specs::Bytes::number_in, wire_fields::specs::Bytes::has_bytes, wire_fields::specs::Bytes::read_number))]
 pub fn worked_moments()
     ensures before { is_at (take 6 three_turns) [] }
@@ -62,17 +63,5 @@ pub fn worked_moments()
     ensures answered_first { is_at (three_turns ++ (save ++ answered ∷ [])) [] → ⊥ }
     ensures answered_before_the_save { is_at (three_turns ++ answered ∷ []) [] → ⊥ }
     ensures answered_too_soon { leaves (three_turns ++ answered ∷ save) → ⊥ }
-{}
-
-/// Where acts lead, and where they halt: a request that a node refuses keeps nothing that is new. A vote that was heard and not saved
-/// is none, and is not answered.
-#[tactic(auto, unfolding(wire_fields::specs::Bytes::number_bytes, wire_fields::specs::Bytes::number_in, wire_fields::specs::Bytes::has_bytes, wire_fields::specs::Bytes::read_number))]
-pub fn worked_loops()
-    ensures nothing { leads 0 [] known first }
-    ensures refused { leads 1 refused_request known first }
-    ensures refused_otherwise { leads 1 refused_request known voted → ⊥ }
-    ensures voted { leads 3 (three_turns ++ (save ++ answered ∷ [])) (knowing 0 56 999 voted) voted }
-    ensures voted_too_soon { leads 3 (three_turns ++ answered ∷ save) (knowing 0 56 999 voted) voted → ⊥ }
-    ensures heard { halts 3 three_turns }
-    ensures answered_too_soon { halts 3 (three_turns ++ answered ∷ []) → ⊥ }
+    ensures refused { leaves refused_request }
 {}

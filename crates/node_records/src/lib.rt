@@ -3,13 +3,9 @@
 #![tactic(auto)]
 
 mod examples;
-mod loops;
 mod moments;
 mod records;
 
-pub use examples::{worked_folds, worked_loops, worked_moments, worked_records, worked_stops};
-pub use loops::{disks_stay, faults_halt, turns_lead};
-pub use moments::{
-    event_turns_leave, moments_grow, quiet_turns_leave, saves_open_as_either, saves_store,
-};
+pub use examples::{worked_folds, worked_moments, worked_records, worked_stops};
+pub use moments::{event_turns_leave, moments_grow, quiet_turns_leave, saves_open_as_either};
 pub use records::{fault_turns_are_orderly, records_grow, turn_is_record, turns_hear};

@@ -1,22 +1,10 @@
-ghost use Rattle.node_records.specs.MomentLaws.{EventTurnsLeave, KeepsIsSaving, MomentsGrow, NothingOpensAsEither, QuietTurnsLeave, RestsThenOpens, WholeIsCutShort};
-ghost use Rattle.node_records.specs.RecordLaws.{SavesStore};
+ghost use Rattle.node_records.specs.MomentLaws.{EventTurnsLeave, KeepsIsSaving, MomentsGrow, QuietTurnsLeave, WholeIsCutShort};
 
 use wire_messages::Wire;
-
-/// The acts of a save of a node's state, whole or cut short, are store acts.
-pub fn saves_store<C: Wire>()
-    ensures { SavesStore C.format }
-{}
 
 /// Acts that make a state durable, whole or cut short, open as the old state or the new one at each moment, and whole as the new one.
 pub fn saves_open_as_either<K>()
     ensures either { KeepsIsSaving K }
-
-    // Before the first of them it is the old state.
-    ensures nothing { NothingOpensAsEither K }
-
-    // What rests as a state after them opens as that one.
-    ensures rests { RestsThenOpens K }
 
     // Whole acts count among those that were cut short.
     ensures whole { WholeIsCutShort }

@@ -1,4 +1,4 @@
-ghost use Rattle.node_records.specs.RecordLaws.{ActsJoin, EventIsStopped, EventTurnIsRecord, HeardIsStopped, NothingIsRecord, QuietTurnIsRecord, RecordIsStopped, RecordsGrow, StopsGrow, TurnDecides, TurnsHear};
+ghost use Rattle.node_records.specs.RecordLaws.{ActsJoin, EventIsStopped, EventTurnIsRecord, HeardIsStopped, NothingIsRecord, QuietTurnIsRecord, RecordIsStopped, RecordsGrow, StopsGrow, TurnsHear};
 
 use wire_messages::Wire;
 
@@ -26,9 +26,6 @@ pub fn turn_is_record<S, C: Wire, O: Wire>()
 
     // So are an event, the save of the state after it, and what it says, in this order.
     ensures event { EventTurnIsRecord S C.format O.format }
-
-    // What was heard decides what happens in it, whole or cut short.
-    ensures decides { TurnDecides S C.format O.format }
 {}
 
 /// A turn that a fault, or want of memory, cuts short is orderly too, saves a part of what it is to save, and says a front of what its

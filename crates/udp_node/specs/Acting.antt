@@ -21,14 +21,14 @@ use Rattle.vst_base.specs.declared.stack.StackId.{StackId}
 use Rattle.wire_fields.specs.Formats.{Format}
 
 -- `t` and `h` are the other stack and the format of its commands.
-module _ {S C O D : Type 0} (config : Config) (m : MachineMeaning S C O) (f : Format C) (g : Format O) (t : StackId) (h : Format D) (replica : Replica S C O) (event : Event C) where
+module _ {S C O D : Type 0} (s : StackId) (config : Config) (m : MachineMeaning S C O) (f : Format C) (g : Format O) (t : StackId) (h : Format D) (replica : Replica S C O) (event : Event C) where
   -- what it keeps after the event
   abbrev pub kept_then : KeptView C
   kept_then = kept_of (after_event config m f g replica event).state
 
   -- the acts that make this durable
   abbrev pub saves : List Act
-  saves = state_acts config.stack f replica.store kept_then
+  saves = state_acts s f replica.store kept_then
 
   -- what it then says
   abbrev pub says : List (Address × List ℕ)
@@ -36,12 +36,12 @@ module _ {S C O D : Type 0} (config : Config) (m : MachineMeaning S C O) (f : Fo
 
   -- the node after all of that
   abbrev pub next_replica : Replica S C O
-  next_replica = record (after_event config m f g replica event) { store = store_after config.stack f replica.store kept_then }
+  next_replica = record (after_event config m f g replica event) { store = store_after s f replica.store kept_then }
 
   -- The acts were the save, and then some by which this was said.
   pub record SavedAndSaid (said : List Act) (before now : Told) : Type 0 where
     pub is : now ≡ told_after (told_after before saves) said
-    pub saved : StateSaved config.stack f t h replica.store (kept_of replica.state) kept_then before.disk
+    pub saved : StateSaved s f t h replica.store (kept_of replica.state) kept_then before.disk
     pub only : Every Says said
 
   pub record Acted (before now : Told) : Type 0 where
@@ -55,8 +55,8 @@ module _ {S C O D : Type 0} (config : Config) (m : MachineMeaning S C O) (f : Fo
     pub acts : now.acts ≡ before.acts ++ did
     pub short : IsCutShort saves did
     pub either : (n : ℕ) (image : Image) → may_leave before.disk (take n did) image ≡ true →
-        OpensAs (found_by config.stack f t h (who_of config)) (kept_of replica.state) image
-        ⊎ OpensAs (found_by config.stack f t h (who_of config)) kept_then image
+        OpensAs (found_by s f t h (who_of config)) (kept_of replica.state) image
+        ⊎ OpensAs (found_by s f t h (who_of config)) kept_then image
 
   -- all was saved, and a front of it was said
   pub record SaidInPart (before now : Told) : Type 0 where

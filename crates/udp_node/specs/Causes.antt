@@ -1,5 +1,5 @@
 -- Why a node ended, and what its calls do to the counts of faults.
-use Rattle.std.specs.Prelude.{◌≡◌, Result, Ok, Err}
+use Rattle.std.specs.Prelude.{◌≡◌, ◌≤◌, Result, Ok, Err}
 use Rattle.outside.specs.Counting.{Rose}
 use Rattle.node_datagrams.specs.Saying.{SendsOnly}
 use Rattle.node_device.specs.Faults.{Faults, CountsStore}
@@ -34,6 +34,30 @@ abbrev pub Counts : {T : Type 0} → Faults → Faults → Result T NodeFault �
 Counts old new (Ok x) = new ≡ old
 Counts old new (Err e) = CountsFault old new e
 
--- the same, after sends of which any may have failed
-abbrev pub CountsAfterSends : {T : Type 0} → Faults → Faults → Result T NodeFault → Type 0
-CountsAfterSends old new result = (mid : Faults) × SendsOnly old mid × Counts mid new result
+-- The same of calls that sent too, where any send may have failed.
+pub record RoseReceive (old new : Faults) : Type 0 where
+  pub begin : new.begin ≡ old.begin
+  pub receive : Rose old.receive new.receive
+  pub store : new.store ≡ old.store
+  pub send : old.send ≤ new.send
+
+pub record RoseStore (old new : Faults) : Type 0 where
+  pub begin : new.begin ≡ old.begin
+  pub receive : new.receive ≡ old.receive
+  pub store : Rose old.store new.store
+  pub send : old.send ≤ new.send
+
+abbrev pub RanFault : Faults → Faults → NodeFault → Type 0
+RanFault old new fault.Receive = RoseReceive old new
+RanFault old new fault.Store = RoseStore old new
+RanFault old new (fault.Refused why) = SendsOnly old new
+RanFault old new fault.Memory = SendsOnly old new
+
+abbrev pub CountsRun : {T : Type 0} → Faults → Faults → Result T NodeFault → Type 0
+CountsRun old new (Ok x) = SendsOnly old new
+CountsRun old new (Err e) = RanFault old new e
+
+-- no turn is refused
+abbrev pub IsOfATurn : NodeFault → Type 0
+IsOfATurn (fault.Refused why) = ⊥
+IsOfATurn fault = Unit {0}

@@ -1,5 +1,5 @@
 -- What a node hears in a turn, as its device tells it.
-use Rattle.std.specs.Prelude.{◌≡◌, ◌≤◌, ℕ, List, [], ◌∷◌, Option, Some, None, ◌⊎◌}
+use Rattle.std.specs.Prelude.{◌≡◌, ◌≤◌, ℕ, List, [], ◌∷◌, length, Option, Some, None}
 use Rattle.disk.specs.Acts.{Act, Took, Quiet, ReceiveFailed}
 use Rattle.node_device.specs.Telling.{Told, told_after}
 use Rattle.node_records.specs.Records.{HearsAs}
@@ -40,10 +40,6 @@ module _ {S C O : Type 0} (settings : Settings) (m : MachineMeaning S C O) (f : 
   Hears node time acts (Some event) =
       let step : Step S C O = takes settings m f g node time event in HearsAs settings m f g (Between node) acts step.done step.turns step.stage
 
-  -- nothing was decided, or an event was, which the node has yet to take
-  abbrev pub DecidesOne : List (Done C) → Stage S C O → Type 0
-  DecidesOne done next = (done ≡ []) ⊎ ((d : Done C) × (node : NodeView S C O) × (done ≡ d ∷ []) × (next ≡ Between node))
-
   -- The node was cut off as it heard.
   pub record StopsHearing (node : NodeView S C O) (acts : List Act) : Type 0 where
     pub done : List (Done C)
@@ -51,7 +47,7 @@ module _ {S C O : Type 0} (settings : Settings) (m : MachineMeaning S C O) (f : 
     pub next : Stage S C O
     pub heard : HearsAs settings m f g (Between node) acts done count next
     pub few : count ≤ 1
-    pub one : DecidesOne done next
+    pub one : length done ≤ 1
 
 -- the same for every machine, as the device tells it
 pub record HasHeard {C O : Type 0} (S : Type 0) (settings : Settings) (f : Format C) (g : Format O) (node : NodeView S C O) (time : ℕ) (event : Option (Event C)) (before now : Told) : Type 0 where

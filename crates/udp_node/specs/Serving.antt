@@ -1,20 +1,19 @@
 -- What a node does from its opening on, as its device tells it.
-use Rattle.std.specs.Prelude.{◌≡◌, ◌≢◌, ℕ, true, length, take, Option, Some, None, ◌⊎◌}
+use Rattle.std.specs.Prelude.{◌≡◌, ℕ, List, Option, Some, None, ◌⊎◌}
 use Rattle.disk.specs.Acts.{Act}
-use Rattle.disk.specs.Disk.{Disk, Image, contents, may_leave}
+use Rattle.disk.specs.Disk.{contents}
 use Rattle.node_acts.specs.StateActs.{first_kept, opening_acts}
-use Rattle.node_acts.specs.StateLaws.{IsAsFound}
 use Rattle.node_acts.specs.Stores.{StoreView, found_by}
-use Rattle.node_body.specs.declared.who.Who.{Who}
 use Rattle.node_config.specs.declared.config.Config.{Config}
 use Rattle.node_core.specs.Replicas.{kept_of, view_of, who_of}
 use Rattle.node_core.specs.declared.replica.Replica.{Replica}
 use Rattle.node_datagrams.specs.Configured.{settings_of}
 use Rattle.node_device.specs.Telling.{Told, told_after, StoppedIn}
 use Rattle.node_progress.specs.Progress.{Goes, Halts}
-use Rattle.node_run.specs.Runs.{NodeView, Stage, Starting, Between}
+use Rattle.node_run.specs.Runs.{Stage, Starting, Between}
 use Rattle.node_state.specs.Answers.{refusal_of}
 use Rattle.node_state.specs.Crashes.{LeavesFound}
+use Rattle.node_state.specs.declared.opening.Refusal.{Refusal}
 use Rattle.raft_types.specs.Keeping.{KeptView}
 use Rattle.slots.specs.Opening.{Opening, Fresh, Held, Refused, opening}
 use Rattle.slots.specs.Saving.{sync_acts}
@@ -37,19 +36,43 @@ StartsFrom (Held found selector) kept = kept ≡ found
 StartsFrom (Refused why) kept = ⊥
 
 -- `t` and `h` are the other stack and the format of its commands.
-module _ {S C O D : Type 0} (config : Config) (m : MachineMeaning S C O) (f : Format C) (g : Format O) (t : StackId) (h : Format D) where
-  -- the acts of its opening
+module _ {C D : Type 0} (s : StackId) (config : Config) (f : Format C) (t : StackId) (h : Format D) where
+  -- the acts of the node's opening
   abbrev pub opening_of : Told → List Act
-  opening_of before = opening_acts config.stack f t h (who_of config) (contents before.disk)
+  opening_of before = opening_acts s f t h (who_of config) (contents before.disk)
 
+  -- The areas were opened, and at each moment of that a crash leaves what was found. The node starts from this.
+  pub record HasOpened (kept : KeptView C) (before opened : Told) : Type 0 where
+    pub from : StartsFrom (opening (found_by s f t h (who_of config)) (contents before.disk)) kept
+    pub is : opened ≡ told_after before (opening_of before)
+    pub leaves : LeavesFound s f t h (who_of config) before opened
+
+  -- An opening that was cut short: a crash leaves what was found.
+  pub record Unopened (before now : Told) : Type 0 where
+    pub stopped : StoppedIn (Some before) (Some now) (opening_of before)
+    pub leaves : LeavesFound s f t h (who_of config) before now
+
+  -- Where the areas are refused they were synced, and nothing else was done.
+  pub record IsRefused (why : Refusal) (before now : Told) : Type 0 where
+    pub is : now ≡ told_after before sync_acts
+    pub refused : opening (found_by s f t h (who_of config)) (contents before.disk) ≡ Refused (refusal_of why)
+
+  -- how an opening ends by a fault
+  abbrev pub OpeningEnds : NodeFault → Told → Told → Type 0
+  OpeningEnds (fault.Refused why) before now = IsRefused why before now
+  OpeningEnds fault.Receive before now = ⊥
+  OpeningEnds fault.Store before now = Unopened before now
+  OpeningEnds fault.Memory before now = Unopened before now
+
+module _ {S C O D : Type 0} (s : StackId) (config : Config) (m : MachineMeaning S C O) (f : Format C) (g : Format O) (t : StackId) (h : Format D) where
   -- whole turns of a node, and turns of which the last was cut short
   abbrev pub TurnsGo : Stage S C O → KeptView C → StoreView → ℕ → Replica S C O → Told → Told → Type 0
   TurnsGo stage kept store count next before now =
-      Goes config.stack f t h g (settings_of config) m (who_of config) stage kept store count (view_of next) (kept_of next.state) next.store before now
+      Goes (settings_of config) m s f t h g (who_of config) stage kept store count (view_of next) (kept_of next.state) next.store before now
 
   abbrev pub TurnsHalt : Stage S C O → KeptView C → StoreView → ℕ → Told → Told → Type 0
   TurnsHalt stage kept store most before now =
-      Halts config.stack f t h g (settings_of config) m (who_of config) stage kept store most before now
+      Halts (settings_of config) m s f t h g (who_of config) stage kept store most before now
 
   -- the same from a node that stands between two turns
   abbrev pub Went : Replica S C O → ℕ → Replica S C O → Told → Told → Type 0
@@ -58,18 +81,12 @@ module _ {S C O D : Type 0} (config : Config) (m : MachineMeaning S C O) (f : Fo
   abbrev pub Halted : Replica S C O → ℕ → Told → Told → Type 0
   Halted replica most before now = TurnsHalt (Between (view_of replica)) (kept_of replica.state) replica.store most before now
 
-  -- The areas were opened, and at each moment of that a crash leaves what was found. The node starts from this.
-  pub record Opened (kept : KeptView C) (before opened : Told) : Type 0 where
-    pub from : StartsFrom (opening (found_by config.stack f t h (who_of config)) (contents before.disk)) kept
-    pub is : opened ≡ told_after before (opening_of before)
-    pub leaves : LeavesFound config.stack f t h (who_of config) before opened
-
   -- Its opening, its first clock value, and so many whole turns, after which it is this.
   pub record Served (count : ℕ) (next : Replica S C O) (before now : Told) : Type 0 where
     pub kept : KeptView C
     pub store : StoreView
     pub opened : Told
-    pub opening : Opened kept before opened
+    pub opening : HasOpened s config f t h kept before opened
     pub turns : TurnsGo (Starting kept) kept store count next opened now
 
   abbrev pub HasServed : ℕ → Told → Told → Type 0
@@ -80,22 +97,12 @@ module _ {S C O D : Type 0} (config : Config) (m : MachineMeaning S C O) (f : Fo
     pub kept : KeptView C
     pub store : StoreView
     pub opened : Told
-    pub opening : Opened kept before opened
+    pub opening : HasOpened s config f t h kept before opened
     pub turns : TurnsHalt (Starting kept) kept store most opened now
 
-  -- An opening that was cut short: a crash leaves what was found.
-  pub record Unopened (before now : Told) : Type 0 where
-    pub stopped : StoppedIn (Some before) (Some now) (opening_of before)
-    pub leaves : LeavesFound config.stack f t h (who_of config) before now
-
-  abbrev pub Stopped : ℕ → Told → Told → Type 0
-  Stopped most before now = Unopened before now ⊎ Interrupted most before now
-
-  -- How it ends by a fault. Where its areas are refused they were synced, and nothing else was done.
+  -- How it ends by a fault: in its opening, or in a turn.
   abbrev pub EndsWith : NodeFault → ℕ → Told → Told → Type 0
-  EndsWith (fault.Refused why) most before now =
-      (now ≡ told_after before sync_acts)
-      × (opening (found_by config.stack f t h (who_of config)) (contents before.disk) ≡ Refused (refusal_of why))
+  EndsWith (fault.Refused why) most before now = IsRefused s config f t h why before now
   EndsWith fault.Receive most before now = Interrupted most before now
-  EndsWith fault.Store most before now = Stopped most before now
-  EndsWith fault.Memory most before now = Stopped most before now
+  EndsWith fault.Store most before now = Unopened s config f t h before now ⊎ Interrupted most before now
+  EndsWith fault.Memory most before now = Unopened s config f t h before now ⊎ Interrupted most before now

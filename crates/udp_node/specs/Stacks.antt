@@ -12,9 +12,9 @@ use Rattle.wire_messages.specs.KvBytes.{kv_command, kv_output}
 use Rattle.wire_messages.specs.TableBytes.{table_command, table_output}
 
 abbrev pub ServedOn : StackId → Config → ℕ → Told → Told → Type 0
-ServedOn stack.TableRaft config = HasServed config table table_command table_output stack.KvRaft kv_command
-ServedOn _ config = HasServed config kv kv_command kv_output stack.TableRaft table_command
+ServedOn stack.TableRaft config = HasServed stack.TableRaft config table table_command table_output stack.KvRaft kv_command
+ServedOn _ config = HasServed stack.KvRaft config kv kv_command kv_output stack.TableRaft table_command
 
 abbrev pub EndedOn : StackId → Config → NodeFault → ℕ → Told → Told → Type 0
-EndedOn stack.TableRaft config = EndsWith config table table_command table_output stack.KvRaft kv_command
-EndedOn _ config = EndsWith config kv kv_command kv_output stack.TableRaft table_command
+EndedOn stack.TableRaft config = EndsWith stack.TableRaft config table table_command table_output stack.KvRaft kv_command
+EndedOn _ config = EndsWith stack.KvRaft config kv kv_command kv_output stack.TableRaft table_command

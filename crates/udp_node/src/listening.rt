@@ -1,8 +1,8 @@
-ghost use Rattle.std.specs.Prelude.{◌≡◌, true, IfOk, IfSome, OnErr};
+ghost use Rattle.std.specs.Prelude.{◌≡◌, true, IfErr, IfOk, IfSome, OnErr};
 ghost use Rattle.node_core.specs.Replicas.{view_of};
 ghost use Rattle.node_datagrams.specs.Configured.{IsEventOf, settings_of};
 ghost use Rattle.node_device.specs.Telling.{WhereTold};
-ghost use Rattle.udp_node.specs.Causes.{Counts};
+ghost use Rattle.udp_node.specs.Causes.{Counts, IsOfATurn};
 ghost use Rattle.udp_node.specs.Listening.{HasCutOff, HasHeard, HasReceived, HasStoppedHearing};
 ghost use Rattle.udp_node.specs.Serving.{StillTold};
 
@@ -29,6 +29,7 @@ fn listen<D: Device, C: Wire>(
         (HasReceived (settings_of config.now) C.format wait_ms event)) }
     ensures comes { IfOk result (λ event. IfSome event (IsEventOf config.now)) }
     ensures cut_off { OnErr result (WhereTold (D.told device.old) (D.told device.new) (HasCutOff wait_ms)) }
+    ensures of_a_turn { IfErr result IsOfATurn }
     ensures causes { Counts (D.faults device.old) (D.faults device.new) result }
     ensures begun { D.begun device.new ≡ true }
 {
@@ -55,6 +56,7 @@ pub(crate) fn await_event<D: Device, S: Drop, C: Commands, O: Wire>(
     ensures comes { IfOk result (λ event. IfSome event (IsEventOf config.now)) }
     ensures stopped { OnErr result (StillTold (D.told device.old) (D.told device.new)
         (HasStoppedHearing S (settings_of config.now) C.format O.format (view_of node.old.replica))) }
+    ensures of_a_turn { IfErr result IsOfATurn }
     ensures causes { Counts (D.faults device.old) (D.faults device.new) result }
     ensures begun { D.begun device.new ≡ true }
 {

@@ -1,23 +1,25 @@
 ghost use Rattle.std.specs.Prelude.{◌≡◌, ◌≢◌, ◌≤◌, length, true, IfErr, IfOk, IfSome, OnErr, OnOk};
-ghost use Rattle.node_acts.specs.Stores.{Holds};
+ghost use Rattle.node_acts.specs.Stores.{Holds, Knows};
+ghost use Rattle.node_body.specs.Bodies.{VoteAmong};
 ghost use Rattle.node_config.specs.Outcomes.{Fits};
 ghost use Rattle.node_config.specs.declared.limits.TheConstants.{MAX_CLIENTS};
 ghost use Rattle.node_core.specs.Replicas.{IsReady, kept_of, who_of};
-ghost use Rattle.udp_node.specs.Causes.{CountsAfterSends};
-ghost use Rattle.udp_node.specs.Serving.{EndsWith, Halted, HasServed, Served, StillTold, Went};
+ghost use Rattle.node_device.specs.Telling.{WhereTold};
+ghost use Rattle.node_state.specs.Calls.{IsNodeOf};
+ghost use Rattle.udp_node.specs.Causes.{Counts, CountsRun, IsOfATurn};
+ghost use Rattle.udp_node.specs.Serving.{EndsWith, Halted, HasOpened, HasServed, OpeningEnds, Served, StillTold, Went};
 ghost use Rattle.udp_node.specs.Stacks.{EndedOn, ServedOn};
 
 use crate::NodeFault;
 use crate::room::Room;
 use crate::turning::turn;
-use handler_trait::Handlers;
 use kv_machine::{KvCmd, KvMachine, KvOut, KvState};
 use lock_table::{TableCmd, TableMachine, TableOut, TableState};
 use node_body::{Commands, Who};
 use node_config::Config;
 use node_core::Shipped;
 use node_device::Device;
-use node_state::{Opened, open};
+use node_state::{Opened, Store, open};
 use raft_types::{Entries, Kept};
 use raft_xform::Raft;
 use std::alloc::Global;
@@ -26,6 +28,44 @@ use wire_messages::Wire;
 
 /// How many turns a node takes at most.
 pub const MAX_TURNS: u32 = 1_000_000_000;
+
+// Opens the areas of a node, and answers what it knows of them and what they hold.
+fn open_areas<D: Device, C: Commands, X: Commands>(
+    alloc: Global,
+    device: &mut D,
+    config: &Config,
+) -> Result<(Store, Kept<C>), NodeFault>
+    requires begun { D.begun device.old ≡ true }
+    requires other { X.stack ≢ C.stack }
+    requires fits { Fits config.now.me config.now }
+    requires stack { config.now.stack ≡ C.stack }
+    ensures of { IfOk result (λ p. IsNodeOf C.stack p.0.who) }
+    ensures who { IfOk result (λ p. p.0.who ≡ who_of config.now) }
+    ensures knows { IfOk result (λ p. Knows p.0 p.1) }
+    ensures voted { IfOk result (λ p. VoteAmong p.0.who.nodes p.1.voted) }
+    ensures holds { IfOk result (λ p. IfSome (D.told device.new) (λ told.
+        Holds C.stack C.format X.stack X.format p.0 p.1 told.disk)) }
+    ensures opened { IfOk result (λ p. WhereTold (D.told device.old) (D.told device.new)
+        (HasOpened C.stack config.now C.format X.stack X.format p.1)) }
+    ensures ended { IfErr result (λ fault. WhereTold (D.told device.old) (D.told device.new)
+        (OpeningEnds C.stack config.now C.format X.stack X.format fault)) }
+    ensures causes { Counts (D.faults device.old) (D.faults device.new) result }
+    ensures begun { D.begun device.new ≡ true }
+{
+    let who = Who {
+        stack: config.stack,
+        me: config.me,
+        nodes: config.peers.as_slice().len() as u8,
+        name: config.cluster,
+    };
+    match open::<D, C, X>(alloc, device, &who)? {
+        Opened::Fresh(store) => {
+            let first = Kept::new(0, None, Entries::new(Vec::new(alloc)));
+            Ok((store, first))
+        }
+        Opened::Held(store, kept) => Ok((store, kept)),
+    }
+}
 
 // Opens the areas of a node, and reads its clock for the first time.
 fn start<
@@ -51,24 +91,16 @@ fn start<
     ensures holds { IfOk result (λ node. IfSome (D.told device.new) (λ told.
         Holds C.stack C.format X.stack X.format node.replica.store (kept_of node.replica.state) told.disk)) }
     ensures served { IfOk result (λ node. StillTold (D.told device.old) (D.told device.new)
-        (Served config.now (M.meaning raft.now.machine) C.format O.format X.stack X.format 0 node.replica)) }
+        (Served C.stack config.now (M.meaning raft.now.machine) C.format O.format X.stack X.format 0 node.replica)) }
     ensures ended { IfErr result (λ fault. StillTold (D.told device.old) (D.told device.new)
-        (EndsWith config.now (M.meaning raft.now.machine) C.format O.format X.stack X.format fault 0)) }
-    ensures causes { CountsAfterSends (D.faults device.old) (D.faults device.new) result }
+        (EndsWith C.stack config.now (M.meaning raft.now.machine) C.format O.format X.stack X.format fault 0)) }
+    ensures causes { CountsRun (D.faults device.old) (D.faults device.new) result }
     ensures begun { D.begun device.new ≡ true }
 {
-    let who = Who {
-        stack: config.stack,
-        me: config.me,
-        nodes: raft.nodes(),
-        name: config.cluster,
-    };
-    let (store, kept) = match open::<D, C, X>(alloc, device, &who)? {
-        Opened::Fresh(store) => (store, Kept::new(0, None, Entries::new(Vec::new(alloc)))),
-        Opened::Held(store, kept) => (store, kept),
-    };
+    let (store, kept) = open_areas::<D, C, X>(alloc, device, config)?;
     let now = device.now();
-    Ok(Shipped::start(alloc, raft, config, store, kept, now)?)
+    let node = Shipped::start(alloc, raft, config, store, kept, now)?;
+    Ok(node)
 }
 
 // Takes so many turns.
@@ -96,10 +128,11 @@ fn take_turns<
     requires holds { IfSome (D.told device.old) (λ told.
         Holds C.stack C.format X.stack X.format node.replica.store (kept_of node.replica.state) told.disk) }
     ensures went { IfOk result (λ next. StillTold (D.told device.old) (D.told device.new)
-        (Went config.now (M.meaning raft.now.machine) C.format O.format X.stack X.format node.replica turns next.replica)) }
+        (Went C.stack config.now (M.meaning raft.now.machine) C.format O.format X.stack X.format node.replica turns next.replica)) }
     ensures halted { OnErr result (StillTold (D.told device.old) (D.told device.new)
-        (Halted config.now (M.meaning raft.now.machine) C.format O.format X.stack X.format node.replica turns)) }
-    ensures causes { CountsAfterSends (D.faults device.old) (D.faults device.new) result }
+        (Halted C.stack config.now (M.meaning raft.now.machine) C.format O.format X.stack X.format node.replica turns)) }
+    ensures of_a_turn { IfErr result IsOfATurn }
+    ensures causes { CountsRun (D.faults device.old) (D.faults device.new) result }
     ensures begun { D.begun device.new ≡ true }
 {
     let mut room = Room::new(alloc)?;
@@ -118,22 +151,16 @@ fn serve_stack<
     O: Wire,
     X: Commands,
     M: Machine<State = S, Cmd = C, Out = O>,
->(
-    alloc: Global,
-    device: &mut D,
-    machine: M,
-    config: &Config,
-    turns: u32,
-) -> Result<(), NodeFault>
+>(alloc: Global, device: &mut D, machine: M, config: &Config, turns: u32) -> Result<(), NodeFault>
     requires begun { D.begun device.old ≡ true }
     requires other { X.stack ≢ C.stack }
     requires fits { Fits config.now.me config.now }
     requires stack { config.now.stack ≡ C.stack }
     ensures served { OnOk result (StillTold (D.told device.old) (D.told device.new)
-        (HasServed config.now (M.meaning machine) C.format O.format X.stack X.format turns)) }
+        (HasServed C.stack config.now (M.meaning machine) C.format O.format X.stack X.format turns)) }
     ensures ended { IfErr result (λ fault. StillTold (D.told device.old) (D.told device.new)
-        (EndsWith config.now (M.meaning machine) C.format O.format X.stack X.format fault turns)) }
-    ensures causes { CountsAfterSends (D.faults device.old) (D.faults device.new) result }
+        (EndsWith C.stack config.now (M.meaning machine) C.format O.format X.stack X.format fault turns)) }
+    ensures causes { CountsRun (D.faults device.old) (D.faults device.new) result }
     ensures begun { D.begun device.new ≡ true }
 {
     let raft = Raft::new(machine, config.peers.as_slice().len() as u8);
@@ -156,18 +183,17 @@ pub fn serve<D: Device>(
     ensures served { OnOk result (StillTold (D.told device.old) (D.told device.new) (ServedOn config.now.stack config.now turns)) }
     ensures ended { IfErr result (λ fault. StillTold (D.told device.old) (D.told device.new)
         (EndedOn config.now.stack config.now fault turns)) }
-    ensures causes { CountsAfterSends (D.faults device.old) (D.faults device.new) result }
+    ensures causes { CountsRun (D.faults device.old) (D.faults device.new) result }
     ensures begun { D.begun device.new ≡ true }
 {
     match config.stack {
-        StackId::TableRaft => serve_stack::<
-            D,
-            TableState,
-            TableCmd,
-            TableOut,
-            KvCmd,
+        StackId::TableRaft => serve_stack::<D, TableState, TableCmd, TableOut, KvCmd, TableMachine>(
+            alloc,
+            device,
             TableMachine,
-        >(alloc, device, TableMachine, config, turns),
+            config,
+            turns,
+        ),
         _ => serve_stack::<D, KvState, KvCmd, KvOut, TableCmd, KvMachine>(
             alloc, device, KvMachine, config, turns,
         ),

@@ -1,11 +1,11 @@
-ghost use Rattle.std.specs.Prelude.{◌≡◌, ◌≢◌, ◌≤◌, length, true, IfOk, IfSome, OnErr, OnOk};
+ghost use Rattle.std.specs.Prelude.{◌≡◌, ◌≢◌, ◌≤◌, length, true, IfErr, IfOk, IfSome, OnErr, OnOk};
 ghost use Rattle.node_acts.specs.Stores.{Holds};
 ghost use Rattle.node_datagrams.specs.Configured.{IsEventOf};
 ghost use Rattle.node_device.specs.Telling.{WhereTold};
 ghost use Rattle.node_config.specs.declared.limits.TheConstants.{MAX_CLIENTS};
 ghost use Rattle.node_core.specs.Replicas.{IsReady, kept_of, who_of};
 ghost use Rattle.udp_node.specs.Acting.{Acted, ActedInPart, next_replica};
-ghost use Rattle.udp_node.specs.Causes.{CountsAfterSends};
+ghost use Rattle.udp_node.specs.Causes.{CountsRun, IsOfATurn};
 ghost use Rattle.udp_node.specs.Serving.{Halted, StillTold, Went};
 
 use crate::NodeFault;
@@ -48,15 +48,16 @@ fn act<
     requires holds { IfSome (D.told device.old) (λ told.
         Holds C.stack C.format X.stack X.format node.replica.store (kept_of node.replica.state) told.disk) }
     ensures ready { IfOk result (λ next. IsReady C.stack next.replica) }
-    ensures next { IfOk result (λ next. next.replica ≡ next_replica config.now (M.meaning raft.now.machine) C.format O.format
+    ensures next { IfOk result (λ next. next.replica ≡ next_replica C.stack config.now (M.meaning raft.now.machine) C.format O.format
         X.stack X.format node.replica event) }
     ensures holds { IfOk result (λ next. IfSome (D.told device.new) (λ told.
         Holds C.stack C.format X.stack X.format next.replica.store (kept_of next.replica.state) told.disk)) }
     ensures acted { OnOk result (WhereTold (D.told device.old) (D.told device.new)
-        (Acted config.now (M.meaning raft.now.machine) C.format O.format X.stack X.format node.replica event)) }
+        (Acted C.stack config.now (M.meaning raft.now.machine) C.format O.format X.stack X.format node.replica event)) }
     ensures in_part { OnErr result (WhereTold (D.told device.old) (D.told device.new)
-        (ActedInPart config.now (M.meaning raft.now.machine) C.format O.format X.stack X.format node.replica event)) }
-    ensures causes { CountsAfterSends (D.faults device.old) (D.faults device.new) result }
+        (ActedInPart C.stack config.now (M.meaning raft.now.machine) C.format O.format X.stack X.format node.replica event)) }
+    ensures of_a_turn { IfErr result IsOfATurn }
+    ensures causes { CountsRun (D.faults device.old) (D.faults device.new) result }
     ensures begun { D.begun device.new ≡ true }
 {
     let taken = node.take(alloc, raft, config, event)?;
@@ -93,15 +94,16 @@ pub(crate) fn turn<
     ensures holds { IfOk result (λ next. IfSome (D.told device.new) (λ told.
         Holds C.stack C.format X.stack X.format next.replica.store (kept_of next.replica.state) told.disk)) }
     ensures went { IfOk result (λ next. StillTold (D.told device.old) (D.told device.new)
-        (Went config.now (M.meaning raft.now.machine) C.format O.format X.stack X.format node.replica 1 next.replica)) }
+        (Went C.stack config.now (M.meaning raft.now.machine) C.format O.format X.stack X.format node.replica 1 next.replica)) }
     ensures halted { OnErr result (StillTold (D.told device.old) (D.told device.new)
-        (Halted config.now (M.meaning raft.now.machine) C.format O.format X.stack X.format node.replica 1)) }
-    ensures causes { CountsAfterSends (D.faults device.old) (D.faults device.new) result }
+        (Halted C.stack config.now (M.meaning raft.now.machine) C.format O.format X.stack X.format node.replica 1)) }
+    ensures of_a_turn { IfErr result IsOfATurn }
+    ensures causes { CountsRun (D.faults device.old) (D.faults device.new) result }
     ensures begun { D.begun device.new ≡ true }
 {
     let mut node = node;
-    let Some(event) = await_event(alloc, device, config, &mut node, &mut room.received)? else {
-        return Ok(node);
-    };
-    act::<D, S, C, O, X, M>(alloc, device, raft, config, node, event, room)
+    match await_event(alloc, device, config, &mut node, &mut room.received)? {
+        Some(event) => act::<D, S, C, O, X, M>(alloc, device, raft, config, node, event, room),
+        None => Ok(node),
+    }
 }

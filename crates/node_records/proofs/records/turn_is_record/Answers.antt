@@ -1,4 +1,4 @@
-use Rattle.node_records.proofs.Turning.{nothing, quiet_turn, event_turn, turn_decides}
+use Rattle.node_records.proofs.Turning.{nothing, quiet_turn, event_turn}
 use Rattle.node_records.proofs.records.turn_is_record.Goals as goal
 
 pub returns-clause-nothing : goal.returns-clause-nothing
@@ -9,6 +9,3 @@ returns-clause-quiet g c = λ settings m. quiet_turn settings m g.C.Wire.format 
 
 pub returns-clause-event : goal.returns-clause-event
 returns-clause-event g c = λ settings m. event_turn settings m g.C.Wire.format g.O.Wire.format
-
-pub returns-clause-decides : goal.returns-clause-decides
-returns-clause-decides g c = λ settings m. turn_decides settings m g.C.Wire.format g.O.Wire.format

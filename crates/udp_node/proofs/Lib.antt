@@ -1,0 +1,6 @@
+pub mod Telling
+pub mod Counting
+pub mod Heard
+pub mod Acts
+pub mod Going
+pub mod Served

@@ -1,0 +1,175 @@
+-- A node's run: its opening, and then turn after turn.
+use Rattle.std.proofs.Common.{◌≡◌, ◌≤◌, ◌+◌, ◌-◌, ℕ, zero, List, [], ◌∷◌, ◌++◌, Option, Some, None, IfSome, OnSome, OnErr, Result, Ok, Err, IfErr, arith, refl, sym, ap, subst, ◌∙◌, ◌⊎◌, inl, inr}
+use Rattle.std.proofs.lemmas.List.{append-nil}
+use Rattle.disk.specs.Acts.{Act, Now}
+use Rattle.node_acts.specs.Stores.{StoreView, Holds}
+use Rattle.node_config.specs.declared.config.Config.{Config}
+use Rattle.node_core.specs.Replicas.{kept_of, starting, view_of, who_of}
+use Rattle.node_core.specs.declared.replica.Replica.{Replica}
+use Rattle.node_datagrams.specs.Configured.{settings_of}
+use Rattle.node_device.specs.Telling.{Told, told_after, Did, WhereTold}
+use Rattle.node_progress.proofs.Going.{goes_is_halts, goes_on, halts_after}
+use Rattle.node_progress.proofs.Turns.{first_goes, quiet_goes}
+use Rattle.node_records.proofs.Turning.{turns_hear}
+use Rattle.node_run.specs.Runs.{Stage, Starting, Between}
+use Rattle.raft_types.specs.Keeping.{KeptView}
+use Rattle.vst_base.specs.Machines.{MachineMeaning}
+use Rattle.vst_base.specs.declared.stack.StackId.{StackId}
+use Rattle.wire_fields.specs.Formats.{Format}
+use Rattle.udp_node.specs.Causes.{IsOfATurn}
+use Rattle.udp_node.specs.Serving.{EndsWith, Halted, HasOpened, HasServed, Interrupted, Served, StillTold, TurnsGo, TurnsHalt, Went}
+use Rattle.udp_node.specs.declared.fault.NodeFault.{NodeFault}
+use Rattle.udp_node.specs.declared.fault.NodeFault.TheVariants as fault
+use Rattle.udp_node.proofs.Telling.{still_still, told_is}
+
+none_more : (n : ℕ) → 0 + n ≡ n
+none_more n = omega arith
+
+told_nothing : (told : Told) → told_after told [] ≡ told
+told_nothing told = λ i. record { acts = append-nil told.acts i; disk = told.disk }
+
+module _ {S C O D : Type 0} (s : StackId) (config : Config) (m : MachineMeaning S C O) (f : Format C) (g : Format O) (t : StackId) (h : Format D) where
+  went_nowhere : (replica : Replica S C O) → replica.store.who ≡ who_of config → (told : Told) → Holds s f t h replica.store (kept_of replica.state) told.disk →
+      Went s config m f g t h replica 0 replica told told
+  went_nowhere replica who told held =
+      subst (λ (x : Told). Went s config m f g t h replica 0 replica told x) (told_nothing told)
+      (quiet_goes (settings_of config) m s f t h g (who_of config) (Between (view_of replica)) (kept_of replica.state) replica.store 0 (view_of replica) [] told
+      ((turns_hear (settings_of config) m f g).nothing (Between (view_of replica))) held who)
+
+  at_most : (stage : Stage S C O) (kept : KeptView C) (store : StoreView) (a b : ℕ) (before now : Told) → a ≤ b →
+      TurnsHalt s config m f g t h stage kept store a before now → TurnsHalt s config m f g t h stage kept store b before now
+  at_most stage kept store a b before now le x = record {
+    did = x.did;
+    acts = x.acts;
+    stopped = record { orderly = x.stopped.orderly; turns = omega (arith, x.stopped.turns, le); stored = x.stopped.stored; said = x.stopped.said };
+    leaves = x.leaves;
+  }
+
+  -- as the device tells it
+
+  pub told_nowhere : (replica : Replica S C O) → replica.store.who ≡ who_of config → (a : Option Told) →
+      IfSome a (λ told. Holds s f t h replica.store (kept_of replica.state) told.disk) → StillTold a a (Went s config m f g t h replica 0 replica)
+  told_nowhere replica who None held = tt
+  told_nowhere replica who (Some told) held = went_nowhere replica who told held
+
+  pub told_on : (x y z : Replica S C O) (n : ℕ) (a b c : Option Told) → StillTold a b (Went s config m f g t h x n y) →
+      StillTold b c (Went s config m f g t h y 1 z) → StillTold a c (Went s config m f g t h x (n + 1) z)
+  told_on x y z n a b c p q =
+      still_still (Went s config m f g t h x n y) (Went s config m f g t h y 1 z) (Went s config m f g t h x (n + 1) z) a b c p q
+      (λ before mid now u v. goes_on (settings_of config) m s f t h g (who_of config) (Between (view_of x)) (kept_of x.state) (kept_of y.state) (kept_of z.state) x.store y.store z.store
+      n 1 (view_of y) (view_of z) before mid now u v)
+
+  pub told_halts : (x y : Replica S C O) (n most : ℕ) → n + 1 ≤ most → (a b c : Option Told) → StillTold a b (Went s config m f g t h x n y) →
+      StillTold b c (Halted s config m f g t h y 1) → StillTold a c (Halted s config m f g t h x most)
+  told_halts x y n most le a b c p q =
+      still_still (Went s config m f g t h x n y) (Halted s config m f g t h y 1) (Halted s config m f g t h x most) a b c p q
+      (λ before mid now u v. at_most (Between (view_of x)) (kept_of x.state) x.store (n + 1) most before now le
+      (halts_after (settings_of config) m s f t h g (who_of config) (Between (view_of x)) (kept_of x.state) (kept_of y.state) x.store y.store n 1 (view_of y) before mid now u v))
+
+  pub told_halts_at_once : (x : Replica S C O) (most : ℕ) (a : Option Told) → StillTold a a (Went s config m f g t h x 0 x) → StillTold a a (Halted s config m f g t h x most)
+  told_halts_at_once x most None p = tt
+  told_halts_at_once x most (Some told) p =
+      at_most (Between (view_of x)) (kept_of x.state) x.store 0 most told told (omega arith)
+      (goes_is_halts (settings_of config) m s f t h g (who_of config) (Between (view_of x)) (kept_of x.state) (kept_of x.state) x.store x.store 0 (view_of x) told told p)
+
+  -- the opening, and then the first clock value
+
+  first : (store : StoreView) (kept : KeptView C) (time : ℕ) (opened now : Told) → store.who ≡ who_of config → Holds s f t h store kept opened.disk →
+      now ≡ told_after opened (Now time ∷ []) → TurnsGo s config m f g t h (Starting kept) kept store 0 (starting config m store kept time) opened now
+  first store kept time opened now who held is =
+      subst (λ (x : Told). TurnsGo s config m f g t h (Starting kept) kept store 0 (starting config m store kept time) opened x) (sym is)
+      (first_goes (settings_of config) m s f t h g (who_of config) kept store time opened held who)
+
+  pub told_started : (store : StoreView) (kept : KeptView C) (time : ℕ) → store.who ≡ who_of config → (node : Replica S C O) → node ≡ starting config m store kept time →
+      (a b c : Option Told) → WhereTold a b (HasOpened s config f t h kept) → IfSome b (λ told. Holds s f t h store kept told.disk) →
+      OnSome c (Did b c (Now time ∷ [])) → StillTold a c (Served s config m f g t h 0 node)
+  told_started store kept time who node is a b None opened held did = tt
+  told_started store kept time who node is a None (Some now) opened held did = cc
+  told_started store kept time who node is None (Some mid) (Some now) opened held did = cc
+  told_started store kept time who node is (Some before) (Some mid) (Some now) opened held did = record {
+    kept = kept;
+    store = store;
+    opened = mid;
+    opening = opened;
+    turns = subst (λ (r : Replica S C O). TurnsGo s config m f g t h (Starting kept) kept store 0 r mid now) (sym is)
+        (first store kept time mid now who held (told_is mid now (Now time ∷ []) did));
+  }
+
+  interrupted_after : (x : Replica S C O) (most : ℕ) (before mid now : Told) → Served s config m f g t h 0 x before mid → Halted s config m f g t h x most mid now →
+      Interrupted s config m f g t h most before now
+  interrupted_after x most before mid now served halted = record {
+    kept = served.kept;
+    store = served.store;
+    opened = served.opened;
+    opening = served.opening;
+    turns = at_most (Starting served.kept) served.kept served.store (0 + most) most served.opened now (omega arith)
+        (halts_after (settings_of config) m s f t h g (who_of config) (Starting served.kept) served.kept (kept_of x.state) served.store x.store 0 most (view_of x)
+        served.opened mid now served.turns halted);
+  }
+
+  ends_in_a_turn : (e : NodeFault) (most : ℕ) (before now : Told) → IsOfATurn e → Interrupted s config m f g t h most before now → EndsWith s config m f g t h e most before now
+  ends_in_a_turn fault.Receive most before now of x = x
+  ends_in_a_turn fault.Store most before now of x = inr x
+  ends_in_a_turn (fault.Refused why) most before now of x = absurd of
+  ends_in_a_turn fault.Memory most before now of x = inr x
+
+  -- memory was wanted after the first clock value
+  pub told_wanting : (store : StoreView) (kept : KeptView C) (time : ℕ) → store.who ≡ who_of config → (a b c : Option Told) →
+      WhereTold a b (HasOpened s config f t h kept) → IfSome b (λ told. Holds s f t h store kept told.disk) →
+      OnSome c (Did b c (Now time ∷ [])) → StillTold a c (EndsWith s config m f g t h fault.Memory 0)
+  told_wanting store kept time who a b None opened held did = tt
+  told_wanting store kept time who a None (Some now) opened held did = cc
+  told_wanting store kept time who None (Some mid) (Some now) opened held did = cc
+  told_wanting store kept time who (Some before) (Some mid) (Some now) opened held did = inr (record {
+    kept = kept;
+    store = store;
+    opened = mid;
+    opening = opened;
+    turns = goes_is_halts (settings_of config) m s f t h g (who_of config) (Starting kept) kept kept store store 0 _ mid now
+        (first store kept time mid now who held (told_is mid now (Now time ∷ []) did));
+  })
+
+  pub told_served : (x z : Replica S C O) (n : ℕ) (a b c : Option Told) → StillTold a b (Served s config m f g t h 0 x) → StillTold b c (Went s config m f g t h x n z) →
+      StillTold a c (HasServed s config m f g t h n)
+  told_served x z n a b c p q =
+      still_still (Served s config m f g t h 0 x) (Went s config m f g t h x n z) (HasServed s config m f g t h n) a b c p q
+      (λ before mid now u v. (
+        z,
+        record {
+          kept = u.kept;
+          store = u.store;
+          opened = u.opened;
+          opening = u.opening;
+          turns = subst (λ (k : ℕ). TurnsGo s config m f g t h (Starting u.kept) u.kept u.store k z u.opened now) (none_more n)
+              (goes_on (settings_of config) m s f t h g (who_of config) (Starting u.kept) u.kept (kept_of x.state) (kept_of z.state) u.store x.store z.store 0 n
+              (view_of x) (view_of z) u.opened mid now u.turns v);
+        },
+      ))
+
+  pub told_ended : (x : Replica S C O) (most : ℕ) (e : NodeFault) → IsOfATurn e → (a b c : Option Told) → StillTold a b (Served s config m f g t h 0 x) →
+      StillTold b c (Halted s config m f g t h x most) → StillTold a c (EndsWith s config m f g t h e most)
+  told_ended x most e of a b c p q =
+      still_still (Served s config m f g t h 0 x) (Halted s config m f g t h x most) (EndsWith s config m f g t h e most) a b c p q
+      (λ before mid now u v. ends_in_a_turn e most before now of (interrupted_after x most before mid now u v))
+
+  more : (most : ℕ) (before now : Told) → Interrupted s config m f g t h 0 before now → Interrupted s config m f g t h most before now
+  more most before now x = record {
+    kept = x.kept;
+    store = x.store;
+    opened = x.opened;
+    opening = x.opening;
+    turns = at_most (Starting x.kept) x.kept x.store 0 most x.opened now (omega arith) x.turns;
+  }
+
+  ends_later : (e : NodeFault) (most : ℕ) (before now : Told) → EndsWith s config m f g t h e 0 before now → EndsWith s config m f g t h e most before now
+  ends_later fault.Receive most before now x = more most before now x
+  ends_later (fault.Refused why) most before now x = x
+  ends_later fault.Store most before now (inl x) = inl x
+  ends_later fault.Store most before now (inr x) = inr (more most before now x)
+  ends_later fault.Memory most before now (inl x) = inl x
+  ends_later fault.Memory most before now (inr x) = inr (more most before now x)
+
+  pub told_later : (e : NodeFault) (most : ℕ) (a b : Option Told) → StillTold a b (EndsWith s config m f g t h e 0) → StillTold a b (EndsWith s config m f g t h e most)
+  told_later e most a None p = tt
+  told_later e most None (Some now) p = absurd p
+  told_later e most (Some before) (Some now) p = ends_later e most before now p

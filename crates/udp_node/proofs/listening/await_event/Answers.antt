@@ -1,0 +1,15 @@
+use Rattle.std.proofs.Common.{◌≡◌, ap, sym}
+use Rattle.node_core.specs.Replicas.{view_of}
+use Rattle.node_datagrams.specs.Configured.{settings_of}
+use Rattle.udp_node.proofs.Heard.{heard_told, stopped_told}
+use Rattle.udp_node.proofs.listening.await_event.Goals as goal
+
+pub returns-in-Wait-clause-heard : goal.returns-in-Wait-clause-heard
+returns-in-Wait-clause-heard g c =
+    heard_told (settings_of c.args.config.now) g.C.Wire.format g.O.Wire.format (view_of c.args.node.now.replica) c.now-now.result c.in-Wait.ms
+    (sym c.in-Wait.ensures.due) _ (ap (λ r. r.time) c.in-Wait.ensures.replica) _ _ _ c.listen.result c.now-now.ensures.outcome c.listen.ensures.received
+
+pub returns-in-Wait-clause-stopped : goal.returns-in-Wait-clause-stopped
+returns-in-Wait-clause-stopped g c =
+    stopped_told (settings_of c.args.config.now) g.C.Wire.format g.O.Wire.format (view_of c.args.node.now.replica) c.now-now.result c.in-Wait.ms
+    (sym c.in-Wait.ensures.due) _ _ _ c.listen.result c.now-now.ensures.outcome c.listen.ensures.cut_off

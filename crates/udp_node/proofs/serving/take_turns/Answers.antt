@@ -1,0 +1,50 @@
+use Rattle.std.proofs.Common.{◌≡◌, ◌≤◌, ◌+◌, arith}
+use Rattle.udp_node.proofs.Acts.{on_err}
+use Rattle.udp_node.proofs.Counting.{ran_after, ran_err, sends_none, sends_twice}
+use Rattle.udp_node.proofs.Served.{told_halts, told_halts_at_once, told_nowhere, told_on}
+use Rattle.udp_node.proofs.serving.take_turns.Goals as goal
+
+pub returns-in_err-room-clause-halted : goal.returns-in_err-room-clause-halted
+returns-in_err-room-clause-halted g c =
+    on_err _ (told_halts_at_once g.C.Commands.stack c.args.config.now (g.M.Machine.meaning c.args.raft.now.machine) g.C.Wire.format g.O.Wire.format g.X.Commands.stack g.X.Wire.format
+    c.args.node.replica c.args.turns _
+    (told_nowhere g.C.Commands.stack c.args.config.now (g.M.Machine.meaning c.args.raft.now.machine) g.C.Wire.format g.O.Wire.format g.X.Commands.stack g.X.Wire.format
+    c.args.node.replica c.requires.who _ c.requires.holds))
+
+pub loop-init : goal.loop-init
+loop-init g c = record {
+  ready = c.requires.ready;
+  who = c.requires.who;
+  begun = c.requires.begun;
+  counts = sends_none _;
+  holds = c.requires.holds;
+  went = told_nowhere g.C.Commands.stack c.args.config.now (g.M.Machine.meaning c.args.raft.now.machine) g.C.Wire.format g.O.Wire.format g.X.Commands.stack g.X.Wire.format
+      c.args.node.replica c.requires.who _ c.requires.holds;
+}
+
+pub returns-in_err-node-clause-halted : goal.returns-in_err-node-clause-halted
+returns-in_err-node-clause-halted g c =
+    let below : c.loop.counter + 1 ≤ c.args.turns = omega (arith, c.loop-test.true) in
+    on_err _ (told_halts g.C.Commands.stack c.args.config.now (g.M.Machine.meaning c.args.raft.now.machine) g.C.Wire.format g.O.Wire.format g.X.Commands.stack g.X.Wire.format
+    c.args.node.replica c.loop.node.replica c.loop.counter c.args.turns below _ _ _ c.loop.invariant.went c.in_err-node.ensures.halted)
+
+pub returns-in_err-node-clause-causes : goal.returns-in_err-node-clause-causes
+returns-in_err-node-clause-causes g c =
+    ran_err _ _ _ c.in_err-node.field-0.0 c.from_residual-in_err-node.ensures.1
+    (ran_after _ (g.D.Device.faults c.loop.device) _ c.in_err-node.field-0.0 c.loop.invariant.counts c.in_err-node.ensures.causes)
+
+pub loop-preserved : goal.loop-preserved
+loop-preserved g c = record {
+  ready = c.in_ok-node.ensures.ready;
+  who = c.in_ok-node.ensures.who;
+  begun = c.in_ok-node.ensures.begun;
+  counts = sends_twice _ (g.D.Device.faults c.loop.device) _ c.loop.invariant.counts c.in_ok-node.ensures.causes;
+  holds = c.in_ok-node.ensures.holds;
+  went = told_on g.C.Commands.stack c.args.config.now (g.M.Machine.meaning c.args.raft.now.machine) g.C.Wire.format g.O.Wire.format g.X.Commands.stack g.X.Wire.format
+      c.args.node.replica c.loop.node.replica c.in_ok-node.node.replica c.loop.counter _ _ _ c.loop.invariant.went c.in_ok-node.ensures.went;
+}
+
+pub returns-clause-went : goal.returns-clause-went
+returns-clause-went g c =
+    let all : c.loop.counter ≡ c.args.turns = omega (arith, c.loop-test.false, c.loop.auto.counter-end) in
+    rw all at c.loop.invariant.went
