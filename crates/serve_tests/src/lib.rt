@@ -1,5 +1,14 @@
-//! Tests of a node's whole run over memory: its rows to the byte.
+//! Tests of a node's whole run over memory, to the byte: what it sends, what its areas hold after it, and what it answers. They stand
+//! apart, as a crate that has tests is proved a second time with them.
 #![tactic(auto)]
 
 #[cfg(test)]
-mod rows;
+mod answers;
+#[cfg(test)]
+mod bytes;
+#[cfg(test)]
+mod cluster;
+#[cfg(test)]
+mod run;
+#[cfg(test)]
+mod stops;
