@@ -1,0 +1,16 @@
+pub mod Alike
+pub mod HeardBack
+pub mod Packets
+pub mod WiredSteps
+pub mod Handed
+pub mod SavedSteps
+pub mod BothSteps
+pub mod Taking
+pub mod Dealing
+pub mod Refusing
+pub mod RunningAsBytes
+pub mod LockDeals
+pub mod NumberedDeals
+pub mod BackupDeals
+pub mod RaftFits
+pub mod RaftDeals

@@ -1,0 +1,75 @@
+-- Packets as bytes stand where the packets that they are of stand.
+use Rattle.std.specs.Prelude.{◌≡◌, ℕ, zero, suc, List, [], ◌∷◌, ◌++◌, map, Option, None, Some, option_map, slice_get, refl}
+use Rattle.std.specs.List.{All}
+use Rattle.std.proofs.Common.{ap, ◌∙◌, sym, subst}
+use Rattle.std.proofs.lemmas.List.{map-append}
+use Rattle.std.proofs.lemmas.List.Elements.{All-cons, All-head, All-nil, All-tail}
+use Rattle.std.proofs.lemmas.Option.{slice_get-map}
+use Rattle.net_semantics.specs.Worlds.{Packet, World, change_at, copies, copies_of, ends, ends_of, one_less, one_more, sent_by}
+use Rattle.vst_base.specs.declared.stack.StackId.{StackId}
+use Rattle.wire_fields.specs.Formats.{Format}
+use Rattle.wired.specs.WiredRuns.{IsSpelledPacket, packet_in_bytes, world_in_bytes}
+use Rattle.wired.specs.Wiring.{sent}
+
+-- what holds of a list in which one packet has a copy more or less, or that grew, held of the list before
+all_before : {X : Type 0} (P : X → Type 0) (g : X → X) → ((x : X) → P (g x) → P x) → (k : ℕ) (xs : List X) → All P (change_at g k xs) → All P xs
+all_before P g same k [] all = All-nil P
+all_before P g same zero (x ∷ xs) all = All-cons P x xs (same x (All-head P (g x) xs all)) (All-tail P (g x) xs all)
+all_before P g same (suc k) (x ∷ xs) all =
+    All-cons P x xs (All-head P x (change_at g k xs) all) (all_before P g same k xs (All-tail P x (change_at g k xs) all))
+
+pub all_front : {X : Type 0} (P : X → Type 0) (xs ys : List X) → All P (xs ++ ys) → All P xs
+all_front P [] ys all = All-nil P
+all_front P (x ∷ xs) ys all = All-cons P x xs (All-head P x (xs ++ ys) all) (all_front P xs ys (All-tail P x (xs ++ ys) all))
+
+pub all_at : {X : Type 0} (P : X → Type 0) (xs : List X) (k : ℕ) (x : X) → All P xs → slice_get xs k ≡ Some x → P x
+all_at P [] k x all e = cc
+all_at P (y ∷ ys) zero x all e = let same : y ≡ x = cc in subst P same (All-head P y ys all)
+all_at P (y ∷ ys) (suc k) x all e = all_at P ys k x (All-tail P y ys all) e
+
+map-change_at : {X Y : Type 0} (v : X → Y) (g : X → X) (h : Y → Y) → ((x : X) → v (g x) ≡ h (v x)) → (k : ℕ) (xs : List X) → map v (change_at g k xs) ≡ change_at h k (map v xs)
+map-change_at v g h same k [] = refl
+map-change_at v g h same zero (x ∷ xs) = ap (λ y. y ∷ map v xs) (same x)
+map-change_at v g h same (suc k) (x ∷ xs) = ap (λ ys. v x ∷ ys) (map-change_at v g h same k xs)
+
+module _ {M : Type 0} (f : Format M) (stack : StackId) (name : List ℕ) where
+  abbrev bytes : Packet M → Packet (List ℕ)
+  bytes p = packet_in_bytes f stack name p
+
+  pub sent_in_bytes : (n : ℕ) (sends : List (ℕ × M)) → sent_by n (sent f stack name n sends) ≡ map bytes (sent_by n sends)
+  sent_in_bytes n [] = refl
+  sent_in_bytes n (p ∷ sends) = ap (λ ps. bytes (record { source = n; destination = p.0; content = p.1; copies = 1 }) ∷ ps) (sent_in_bytes n sends)
+
+  pub joined_in_bytes : (n : ℕ) (ps : List (Packet M)) (sends : List (ℕ × M))
+      → map bytes ps ++ sent_by n (sent f stack name n sends) ≡ map bytes (ps ++ sent_by n sends)
+  joined_in_bytes n ps sends = ap (λ qs. map bytes ps ++ qs) (sent_in_bytes n sends) ∙ sym (map-append bytes ps (sent_by n sends))
+
+  pub less_in_bytes : (k : ℕ) (ps : List (Packet M)) → map bytes (change_at one_less k ps) ≡ change_at one_less k (map bytes ps)
+  less_in_bytes k ps = map-change_at bytes one_less one_less (λ p. refl) k ps
+
+  pub more_in_bytes : (k : ℕ) (ps : List (Packet M)) → map bytes (change_at one_more k ps) ≡ change_at one_more k (map bytes ps)
+  more_in_bytes k ps = map-change_at bytes one_more one_more (λ p. refl) k ps
+
+  pub spelled_less : (k : ℕ) (ps : List (Packet M)) → All (IsSpelledPacket f stack name) (change_at one_less k ps) → All (IsSpelledPacket f stack name) ps
+  spelled_less k ps all = all_before (IsSpelledPacket f stack name) one_less (λ p h. h) k ps all
+
+  pub spelled_more : (k : ℕ) (ps : List (Packet M)) → All (IsSpelledPacket f stack name) (change_at one_more k ps) → All (IsSpelledPacket f stack name) ps
+  spelled_more k ps all = all_before (IsSpelledPacket f stack name) one_more (λ p h. h) k ps all
+
+  pub there_in_bytes : (ps : List (Packet M)) (k : ℕ) → slice_get (map bytes ps) k ≡ option_map bytes (slice_get ps k)
+  there_in_bytes ps k = slice_get-map bytes ps k
+
+  module _ {S K : Type 0} (w : World S K M) where
+    same_copies : (o : Option (Packet M)) → copies_of (option_map bytes o) ≡ copies_of o
+    same_copies None = refl
+    same_copies (Some p) = refl
+
+    same_ends : (o : Option (Packet M)) → ends_of (option_map bytes o) ≡ ends_of o
+    same_ends None = refl
+    same_ends (Some p) = refl
+
+    pub copies_in_bytes : (k : ℕ) → copies (world_in_bytes f stack name w) k ≡ copies w k
+    copies_in_bytes k = ap copies_of (there_in_bytes w.packets k) ∙ same_copies (slice_get w.packets k)
+
+    pub ends_in_bytes : (k : ℕ) → ends (world_in_bytes f stack name w) k ≡ ends w k
+    ends_in_bytes k = ap ends_of (there_in_bytes w.packets k) ∙ same_ends (slice_get w.packets k)

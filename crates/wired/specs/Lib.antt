@@ -1,0 +1,12 @@
+pub mod Wiring
+pub mod WiringLaws
+pub mod Same
+pub mod WiredRuns
+pub mod Saving
+pub mod SavingLaws
+pub mod RaftSaving
+pub mod RaftSavingLaws
+pub mod BytesAlone
+pub mod StackRuns
+pub mod Dealing
+pub mod Examples
