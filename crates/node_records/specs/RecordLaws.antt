@@ -29,7 +29,7 @@ module _ {S C O : Type 0} (settings : Settings) (m : MachineMeaning S C O) (f : 
         ≡ turns_in settings m f g stage xs + turns_in settings m f g (stage_after settings m f g stage xs) ys
     pub store : store_by settings.stack f known (done_in settings m f g stage (xs ++ ys))
         ≡ store_by settings.stack f (store_by settings.stack f known (done_in settings m f g stage xs))
-              (done_in settings m f g (stage_after settings m f g stage xs) ys)
+        (done_in settings m f g (stage_after settings m f g stage xs) ys)
     pub kept : kept_by held (done_in settings m f g stage (xs ++ ys))
         ≡ kept_by (kept_by held (done_in settings m f g stage xs)) (done_in settings m f g (stage_after settings m f g stage xs) ys)
     pub disk : after first (xs ++ ys) ≡ after (after first xs) ys
