@@ -81,7 +81,7 @@ module _ {S C O D : Type 0} (s : StackId) (config : Config) (m : MachineMeaning 
       (first_goes (settings_of config) m s f t h g (who_of config) kept store time opened held who)
 
   pub told_started : (store : StoreView) (kept : KeptView C) (time : ℕ) → store.who ≡ who_of config → (node : Replica S C O) → node ≡ starting config m store kept time →
-      (a b c : Option Told) → WhereTold a b (HasOpened s config f t h kept) → IfSome b (λ told. Holds s f t h store kept told.disk) →
+      (a b c : Option Told) → WhereTold a b (HasOpened s config f t h store kept) → IfSome b (λ told. Holds s f t h store kept told.disk) →
       OnSome c (Did b c (Now time ∷ [])) → StillTold a c (Served s config m f g t h 0 node)
   told_started store kept time who node is a b None opened held did = tt
   told_started store kept time who node is a None (Some now) opened held did = cc
@@ -115,7 +115,7 @@ module _ {S C O D : Type 0} (s : StackId) (config : Config) (m : MachineMeaning 
 
   -- memory was wanted after the first clock value
   pub told_wanting : (store : StoreView) (kept : KeptView C) (time : ℕ) → store.who ≡ who_of config → (a b c : Option Told) →
-      WhereTold a b (HasOpened s config f t h kept) → IfSome b (λ told. Holds s f t h store kept told.disk) →
+      WhereTold a b (HasOpened s config f t h store kept) → IfSome b (λ told. Holds s f t h store kept told.disk) →
       OnSome c (Did b c (Now time ∷ [])) → StillTold a c (EndsWith s config m f g t h fault.Memory 0)
   told_wanting store kept time who a b None opened held did = tt
   told_wanting store kept time who a None (Some now) opened held did = cc

@@ -3,7 +3,7 @@ use Rattle.std.specs.Prelude.{◌≡◌, ℕ, List, Option, Some, None, ◌⊎�
 use Rattle.disk.specs.Acts.{Act}
 use Rattle.disk.specs.Disk.{contents}
 use Rattle.node_acts.specs.StateActs.{first_kept, opening_acts}
-use Rattle.node_acts.specs.Stores.{StoreView, found_by}
+use Rattle.node_acts.specs.Stores.{StoreView, Holds, found_by}
 use Rattle.node_config.specs.declared.config.Config.{Config}
 use Rattle.node_core.specs.Replicas.{kept_of, view_of, who_of}
 use Rattle.node_core.specs.declared.replica.Replica.{Replica}
@@ -41,8 +41,11 @@ module _ {C D : Type 0} (s : StackId) (config : Config) (f : Format C) (t : Stac
   abbrev pub opening_of : Told → List Act
   opening_of before = opening_acts s f t h (who_of config) (contents before.disk)
 
-  -- The areas were opened, and at each moment of that a crash leaves what was found. The node starts from this.
-  pub record HasOpened (kept : KeptView C) (before opened : Told) : Type 0 where
+  -- The areas were opened, and at each moment of that a crash leaves what was found. The node starts from this, which the areas then
+  -- hold as it knows.
+  pub record HasOpened (store : StoreView) (kept : KeptView C) (before opened : Told) : Type 0 where
+    pub who : store.who ≡ who_of config
+    pub holds : Holds s f t h store kept opened.disk
     pub from : StartsFrom (opening (found_by s f t h (who_of config)) (contents before.disk)) kept
     pub is : opened ≡ told_after before (opening_of before)
     pub leaves : LeavesFound s f t h (who_of config) before opened
@@ -86,7 +89,7 @@ module _ {S C O D : Type 0} (s : StackId) (config : Config) (m : MachineMeaning 
     pub kept : KeptView C
     pub store : StoreView
     pub opened : Told
-    pub opening : HasOpened s config f t h kept before opened
+    pub opening : HasOpened s config f t h store kept before opened
     pub turns : TurnsGo (Starting kept) kept store count next opened now
 
   abbrev pub HasServed : ℕ → Told → Told → Type 0
@@ -97,7 +100,7 @@ module _ {S C O D : Type 0} (s : StackId) (config : Config) (m : MachineMeaning 
     pub kept : KeptView C
     pub store : StoreView
     pub opened : Told
-    pub opening : HasOpened s config f t h kept before opened
+    pub opening : HasOpened s config f t h store kept before opened
     pub turns : TurnsHalt (Starting kept) kept store most opened now
 
   -- How it ends by a fault: in its opening, or in a turn.

@@ -46,7 +46,7 @@ fn open_areas<D: Device, C: Commands, X: Commands>(
     ensures holds { IfOk result (λ p. IfSome (D.told device.new) (λ told.
         Holds C.stack C.format X.stack X.format p.0 p.1 told.disk)) }
     ensures opened { IfOk result (λ p. WhereTold (D.told device.old) (D.told device.new)
-        (HasOpened C.stack config.now C.format X.stack X.format p.1)) }
+        (HasOpened C.stack config.now C.format X.stack X.format p.0 p.1)) }
     ensures ended { IfErr result (λ fault. WhereTold (D.told device.old) (D.told device.new)
         (OpeningEnds C.stack config.now C.format X.stack X.format fault)) }
     ensures causes { Counts (D.faults device.old) (D.faults device.new) result }
