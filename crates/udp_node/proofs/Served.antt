@@ -1,8 +1,9 @@
 -- A node's run: its opening, and then turn after turn.
-use Rattle.std.proofs.Common.{◌≡◌, ◌≤◌, ◌+◌, ◌-◌, ℕ, zero, List, [], ◌∷◌, ◌++◌, Option, Some, None, IfSome, OnSome, OnErr, Result, Ok, Err, IfErr, arith, refl, sym, ap, subst, ◌∙◌, ◌⊎◌, inl, inr}
+use Rattle.std.proofs.Common.{◌≡◌, ◌≤◌, ◌+◌, ◌-◌, ℕ, suc, List, [], ◌∷◌, ◌++◌, Option, Some, None, IfSome, OnSome, OnErr, Result, Ok, Err, IfErr, arith, refl, sym, ap, subst, ◌∙◌, ◌⊎◌, inl, inr}
 use Rattle.std.proofs.lemmas.List.{append-nil}
 use Rattle.disk.specs.Acts.{Act, Now}
 use Rattle.node_acts.specs.Stores.{StoreView, Holds}
+use Rattle.node_config.specs.Held.{on_a_node}
 use Rattle.node_config.specs.declared.config.Config.{Config}
 use Rattle.node_core.specs.Replicas.{kept_of, starting, view_of, who_of}
 use Rattle.node_core.specs.declared.replica.Replica.{Replica}
@@ -15,12 +16,16 @@ use Rattle.node_run.specs.Runs.{Stage, Starting, Between}
 use Rattle.raft_types.specs.Keeping.{KeptView}
 use Rattle.vst_base.specs.Machines.{MachineMeaning}
 use Rattle.vst_base.specs.declared.stack.StackId.{StackId}
+use Rattle.vst_base.specs.declared.stack.StackId.TheVariants as stack
 use Rattle.wire_fields.specs.Formats.{Format}
 use Rattle.udp_node.specs.Causes.{IsOfATurn}
-use Rattle.udp_node.specs.Serving.{EndsWith, Halted, HasOpened, HasServed, Interrupted, Served, StillTold, TurnsGo, TurnsHalt, Went}
+use Rattle.udp_node.specs.Serving.{EndsWith, Halted, HasOpened, HasServed, Interrupted, Served, StillTold, TurnsGo, TurnsHalt, Went, WentEach}
 use Rattle.udp_node.specs.declared.fault.NodeFault.{NodeFault}
 use Rattle.udp_node.specs.declared.fault.NodeFault.TheVariants as fault
 use Rattle.udp_node.proofs.Telling.{still_still, told_is}
+
+one_more : (n : ℕ) → suc n ≡ n + 1
+one_more n = omega arith
 
 none_more : (n : ℕ) → 0 + n ≡ n
 none_more n = omega arith
@@ -129,22 +134,38 @@ module _ {S C O D : Type 0} (s : StackId) (config : Config) (m : MachineMeaning 
         (first store kept time mid now who held (told_is mid now (Now time ∷ []) did));
   })
 
+  -- turns one after the other
+
+  pub told_none : (x : Replica S C O) (a : Option Told) → StillTold a a (WentEach s config m f g t h 0 x x)
+  told_none x None = tt
+  told_none x (Some told) = (refl, refl)
+
+  pub told_each : (x y z : Replica S C O) (n : ℕ) (a b c : Option Told) → StillTold a b (WentEach s config m f g t h n x y) →
+      StillTold b c (Went s config m f g t h y 1 z) → StillTold a c (WentEach s config m f g t h (n + 1) x z)
+  told_each x y z n a b c p q =
+      subst (λ (k : ℕ). StillTold a c (WentEach s config m f g t h k x z)) (one_more n)
+      (still_still (WentEach s config m f g t h n x y) (Went s config m f g t h y 1 z) (WentEach s config m f g t h (suc n) x z) a b c p q
+      (λ before mid now u v. (y, mid, u, v)))
+
+  both_served : (x z : Replica S C O) (n : ℕ) (before mid now : Told) → Served s config m f g t h 0 x before mid → Went s config m f g t h x n z mid now →
+      Served s config m f g t h n z before now
+  both_served x z n before mid now u v = record {
+    kept = u.kept;
+    store = u.store;
+    opened = u.opened;
+    opening = u.opening;
+    turns = subst (λ (k : ℕ). TurnsGo s config m f g t h (Starting u.kept) u.kept u.store k z u.opened now) (none_more n)
+        (goes_on (settings_of config) m s f t h g (who_of config) (Starting u.kept) u.kept (kept_of x.state) (kept_of z.state) u.store x.store z.store 0 n
+        (view_of x) (view_of z) u.opened mid now u.turns v);
+  }
+
   pub told_served : (x z : Replica S C O) (n : ℕ) (a b c : Option Told) → StillTold a b (Served s config m f g t h 0 x) → StillTold b c (Went s config m f g t h x n z) →
-      StillTold a c (HasServed s config m f g t h n)
-  told_served x z n a b c p q =
-      still_still (Served s config m f g t h 0 x) (Went s config m f g t h x n z) (HasServed s config m f g t h n) a b c p q
-      (λ before mid now u v. (
-        z,
-        record {
-          kept = u.kept;
-          store = u.store;
-          opened = u.opened;
-          opening = u.opening;
-          turns = subst (λ (k : ℕ). TurnsGo s config m f g t h (Starting u.kept) u.kept u.store k z u.opened now) (none_more n)
-              (goes_on (settings_of config) m s f t h g (who_of config) (Starting u.kept) u.kept (kept_of x.state) (kept_of z.state) u.store x.store z.store 0 n
-              (view_of x) (view_of z) u.opened mid now u.turns v);
-        },
-      ))
+      StillTold b c (WentEach s config m f g t h n x z) → StillTold a c (HasServed s config m f g t h n)
+  told_served x z n a b None p q r = tt
+  told_served x z n a None (Some now) p q r = absurd q
+  told_served x z n None (Some mid) (Some now) p q r = absurd p
+  told_served x z n (Some before) (Some mid) (Some now) p q r =
+      record { first = x; begun = mid; next = z; starts = p; each = r; all = both_served x z n before mid now p q }
 
   pub told_ended : (x : Replica S C O) (most : ℕ) (e : NodeFault) → IsOfATurn e → (a b c : Option Told) → StillTold a b (Served s config m f g t h 0 x) →
       StillTold b c (Halted s config m f g t h x most) → StillTold a c (EndsWith s config m f g t h e most)
@@ -173,3 +194,15 @@ module _ {S C O D : Type 0} (s : StackId) (config : Config) (m : MachineMeaning 
   told_later e most a None p = tt
   told_later e most None (Some now) p = absurd p
   told_later e most (Some before) (Some now) p = ends_later e most before now p
+
+-- a node runs one of two stacks
+pub runs_kv : (s : StackId) → on_a_node s ≡ Some s → (s ≡ stack.TableRaft → ⊥) → s ≡ stack.KvRaft
+runs_kv stack.Lock is not = cc
+runs_kv stack.LockSeq is not = cc
+runs_kv stack.KvPb is not = cc
+runs_kv stack.KvPbSeq is not = cc
+runs_kv stack.KvRaft is not = refl
+runs_kv stack.TablePbSeq is not = cc
+runs_kv stack.TableRaft is not = absurd (not refl)
+runs_kv stack.Kv is not = cc
+runs_kv stack.Table is not = cc

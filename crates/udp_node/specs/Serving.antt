@@ -1,5 +1,5 @@
 -- What a node does from its opening on, as its device tells it.
-use Rattle.std.specs.Prelude.{◌≡◌, ℕ, List, Option, Some, None, ◌⊎◌}
+use Rattle.std.specs.Prelude.{◌≡◌, ℕ, zero, suc, List, Option, Some, None, ◌⊎◌}
 use Rattle.disk.specs.Acts.{Act}
 use Rattle.disk.specs.Disk.{contents}
 use Rattle.node_acts.specs.StateActs.{first_kept, opening_acts}
@@ -84,6 +84,11 @@ module _ {S C O D : Type 0} (s : StackId) (config : Config) (m : MachineMeaning 
   abbrev pub Halted : Replica S C O → ℕ → Told → Told → Type 0
   Halted replica most before now = TurnsHalt (Between (view_of replica)) (kept_of replica.state) replica.store most before now
 
+  -- So many turns one after the other, each a record of its own: what its event says leaves before the next turn begins.
+  abbrev pub WentEach : ℕ → Replica S C O → Replica S C O → Told → Told → Type 0
+  WentEach zero replica next before now = (next ≡ replica) × (now ≡ before)
+  WentEach (suc n) replica next before now = (middle : Replica S C O) × (mid : Told) × WentEach n replica middle before mid × Went middle 1 next mid now
+
   -- Its opening, its first clock value, and so many whole turns, after which it is this.
   pub record Served (count : ℕ) (next : Replica S C O) (before now : Told) : Type 0 where
     pub kept : KeptView C
@@ -92,8 +97,14 @@ module _ {S C O D : Type 0} (s : StackId) (config : Config) (m : MachineMeaning 
     pub opening : HasOpened s config f t h store kept before opened
     pub turns : TurnsGo (Starting kept) kept store count next opened now
 
-  abbrev pub HasServed : ℕ → Told → Told → Type 0
-  HasServed count before now = (next : Replica S C O) × Served count next before now
+  -- Its opening and first clock value, then so many turns one after the other; and what they come to together.
+  pub record HasServed (count : ℕ) (before now : Told) : Type 0 where
+    pub first : Replica S C O
+    pub begun : Told
+    pub next : Replica S C O
+    pub starts : Served 0 first before begun
+    pub each : WentEach count first next begun now
+    pub all : Served count next before now
 
   -- The same cut short in a turn.
   pub record Interrupted (most : ℕ) (before now : Told) : Type 0 where

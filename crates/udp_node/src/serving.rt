@@ -7,7 +7,7 @@ ghost use Rattle.node_core.specs.Replicas.{IsReady, kept_of, who_of};
 ghost use Rattle.node_device.specs.Telling.{WhereTold};
 ghost use Rattle.node_state.specs.Calls.{IsNodeOf};
 ghost use Rattle.udp_node.specs.Causes.{Counts, CountsRun, IsOfATurn};
-ghost use Rattle.udp_node.specs.Serving.{EndsWith, Halted, HasOpened, HasServed, OpeningEnds, Served, StillTold, Went};
+ghost use Rattle.udp_node.specs.Serving.{EndsWith, Halted, HasOpened, HasServed, OpeningEnds, Served, StillTold, Went, WentEach};
 ghost use Rattle.udp_node.specs.Stacks.{EndedOn, ServedOn};
 
 use crate::NodeFault;
@@ -129,6 +129,8 @@ fn take_turns<
         Holds C.stack C.format X.stack X.format node.replica.store (kept_of node.replica.state) told.disk) }
     ensures went { IfOk result (λ next. StillTold (D.told device.old) (D.told device.new)
         (Went C.stack config.now (M.meaning raft.now.machine) C.format O.format X.stack X.format node.replica turns next.replica)) }
+    ensures each { IfOk result (λ next. StillTold (D.told device.old) (D.told device.new)
+        (WentEach C.stack config.now (M.meaning raft.now.machine) C.format O.format X.stack X.format turns node.replica next.replica)) }
     ensures halted { OnErr result (StillTold (D.told device.old) (D.told device.new)
         (Halted C.stack config.now (M.meaning raft.now.machine) C.format O.format X.stack X.format node.replica turns)) }
     ensures of_a_turn { IfErr result IsOfATurn }

@@ -21,3 +21,4 @@ returns-clause-served g c =
     told_served g.C.Commands.stack c.args.config.now (g.M.Machine.meaning c.args.machine) g.C.Wire.format g.O.Wire.format g.X.Commands.stack g.X.Wire.format
     c.in_ok-node.node.replica c.in_ok-take_turns.field-0.replica c.args.turns _ _ _ (rw (ap (λ r. r.machine) c.new-raft.ensures) at c.in_ok-node.ensures.served)
     (rw (ap (λ r. r.machine) c.new-raft.ensures) at c.in_ok-take_turns.ensures.went)
+    (rw (ap (λ r. r.machine) c.new-raft.ensures) at c.in_ok-take_turns.ensures.each)

@@ -1,7 +1,7 @@
 use Rattle.std.proofs.Common.{◌≡◌, ◌≤◌, ◌+◌, arith}
 use Rattle.udp_node.proofs.Acts.{on_err}
 use Rattle.udp_node.proofs.Counting.{ran_after, ran_err, sends_none, sends_twice}
-use Rattle.udp_node.proofs.Served.{told_halts, told_halts_at_once, told_nowhere, told_on}
+use Rattle.udp_node.proofs.Served.{told_each, told_halts, told_halts_at_once, told_none, told_nowhere, told_on}
 use Rattle.udp_node.proofs.serving.take_turns.Goals as goal
 
 pub returns-in_err-room-clause-halted : goal.returns-in_err-room-clause-halted
@@ -20,6 +20,8 @@ loop-init g c = record {
   holds = c.requires.holds;
   went = told_nowhere g.C.Commands.stack c.args.config.now (g.M.Machine.meaning c.args.raft.now.machine) g.C.Wire.format g.O.Wire.format g.X.Commands.stack g.X.Wire.format
       c.args.node.replica c.requires.who _ c.requires.holds;
+  each = told_none g.C.Commands.stack c.args.config.now (g.M.Machine.meaning c.args.raft.now.machine) g.C.Wire.format g.O.Wire.format g.X.Commands.stack g.X.Wire.format
+      c.args.node.replica _;
 }
 
 pub returns-in_err-node-clause-halted : goal.returns-in_err-node-clause-halted
@@ -42,9 +44,16 @@ loop-preserved g c = record {
   holds = c.in_ok-node.ensures.holds;
   went = told_on g.C.Commands.stack c.args.config.now (g.M.Machine.meaning c.args.raft.now.machine) g.C.Wire.format g.O.Wire.format g.X.Commands.stack g.X.Wire.format
       c.args.node.replica c.loop.node.replica c.in_ok-node.node.replica c.loop.counter _ _ _ c.loop.invariant.went c.in_ok-node.ensures.went;
+  each = told_each g.C.Commands.stack c.args.config.now (g.M.Machine.meaning c.args.raft.now.machine) g.C.Wire.format g.O.Wire.format g.X.Commands.stack g.X.Wire.format
+      c.args.node.replica c.loop.node.replica c.in_ok-node.node.replica c.loop.counter _ _ _ c.loop.invariant.each c.in_ok-node.ensures.went;
 }
 
 pub returns-clause-went : goal.returns-clause-went
 returns-clause-went g c =
     let all : c.loop.counter ≡ c.args.turns = omega (arith, c.loop-test.false, c.loop.auto.counter-end) in
     rw all at c.loop.invariant.went
+
+pub returns-clause-each : goal.returns-clause-each
+returns-clause-each g c =
+    let all : c.loop.counter ≡ c.args.turns = omega (arith, c.loop-test.false, c.loop.auto.counter-end) in
+    rw all at c.loop.invariant.each

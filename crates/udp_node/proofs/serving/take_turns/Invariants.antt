@@ -2,7 +2,7 @@ use Rattle.std.proofs.Common.{◌≡◌, true, IfSome}
 use Rattle.node_acts.specs.Stores.{Holds}
 use Rattle.node_core.specs.Replicas.{IsReady, kept_of, who_of}
 use Rattle.node_datagrams.specs.Saying.{SendsOnly}
-use Rattle.udp_node.specs.Serving.{StillTold, Went}
+use Rattle.udp_node.specs.Serving.{StillTold, Went, WentEach}
 use Rattle.udp_node.proofs.serving.take_turns.Given as goal
 
 abbrev pub invariant-loop : goal.invariant-loop
@@ -17,4 +17,7 @@ invariant-loop g l =
           Holds g.C.Commands.stack g.C.Wire.format g.X.Commands.stack g.X.Wire.format l.node.replica.store (kept_of l.node.replica.state) told.disk);
       went : StillTold (k.told l.initial.device) (k.told l.device)
           (Went g.C.Commands.stack l.config (g.M.Machine.meaning l.raft.machine) g.C.Wire.format g.O.Wire.format g.X.Commands.stack g.X.Wire.format l.initial.node.replica l.counter l.node.replica);
+      each : StillTold (k.told l.initial.device) (k.told l.device)
+          (WentEach g.C.Commands.stack l.config (g.M.Machine.meaning l.raft.machine) g.C.Wire.format g.O.Wire.format g.X.Commands.stack g.X.Wire.format l.counter
+          l.initial.node.replica l.node.replica);
     }
