@@ -21,8 +21,8 @@ pub struct Saved<S, C, O> {
 }
 
 impl<S: Drop, C: Wire, O: Wire> Saved<S, C, O> {
-    /// Ships the event's packets in order, and then what its outputs tell clients. A send that fails is a loss as any other. An `Err`, which
-    /// says that memory was wanted, gives the node up: then a front of the datagrams went out. `bytes` is room for one datagram.
+    /// Ships the event's packets in order, and then what its outputs tell clients. A send that fails is a loss as any other. An `Err`,
+    /// which says that memory was wanted, gives the node up: then a front of the datagrams went out. `bytes` is room for one datagram.
     pub fn ship<D: Device>(
         self,
         config: &Config,

@@ -143,7 +143,8 @@ impl<S: Drop, C: Commands, O: Wire> Shipped<S, C, O> {
         requires who { self.replica.store.who ≡ who_of config.now }
         requires nodes { raft.now.nodes ≡ length config.now.peers }
         requires event { IsEventOf config.now event }
-        ensures replica { IfOk result (λ taken. taken.replica ≡ after_event config.now (M.meaning raft.now.machine) C.format O.format self.replica event) }
+        ensures replica { IfOk result (λ taken. taken.replica
+            ≡ after_event config.now (M.meaning raft.now.machine) C.format O.format self.replica event) }
         ensures outputs { IfOk result (λ taken. taken.effects.outputs
             ≡ (effect_on config.now (M.meaning raft.now.machine) C.format O.format self.replica event).outputs) }
         ensures sends { IfOk result (λ taken. taken.effects.sends

@@ -21,7 +21,8 @@ use Rattle.vst_base.specs.declared.stack.StackId.{StackId}
 use Rattle.wire_fields.specs.Formats.{Format}
 
 -- `t` and `h` are the other stack and the format of its commands.
-module _ {S C O D : Type 0} (s : StackId) (config : Config) (m : MachineMeaning S C O) (f : Format C) (g : Format O) (t : StackId) (h : Format D) (replica : Replica S C O) (event : Event C) where
+module _ {S C O D : Type 0} (s : StackId) (config : Config) (m : MachineMeaning S C O) (f : Format C) (g : Format O) (t : StackId)
+    (h : Format D) (replica : Replica S C O) (event : Event C) where
   -- what it keeps after the event
   abbrev pub kept_then : KeptView C
   kept_then = kept_of (after_event config m f g replica event).state

@@ -16,7 +16,8 @@ IsReceipt settings f wait (Took w from bytes) event = (w ≡ wait) × (event_of 
 IsReceipt settings f wait (Quiet w) event = (w ≡ wait) × (event ≡ None)
 IsReceipt settings f wait act event = ⊥
 
-pub record HasReceived {C : Type 0} (settings : Settings) (f : Format C) (wait : ℕ) (event : Option (Event C)) (before now : Told) : Type 0 where
+pub record HasReceived {C : Type 0} (settings : Settings) (f : Format C) (wait : ℕ) (event : Option (Event C))
+    (before now : Told) : Type 0 where
   pub act : Act
   pub is : now ≡ told_after before (act ∷ [])
   pub receipt : IsReceipt settings f wait act event
@@ -38,7 +39,8 @@ module _ {S C O : Type 0} (settings : Settings) (m : MachineMeaning S C O) (f : 
   abbrev pub Hears : NodeView S C O → ℕ → List Act → Option (Event C) → Type 0
   Hears node time acts None = HearsAs settings m f g (Between node) acts [] 1 (Between node)
   Hears node time acts (Some event) =
-      let step : Step S C O = takes settings m f g node time event in HearsAs settings m f g (Between node) acts step.done step.turns step.stage
+      let step : Step S C O = takes settings m f g node time event in
+      HearsAs settings m f g (Between node) acts step.done step.turns step.stage
 
   -- The node was cut off as it heard.
   pub record StopsHearing (node : NodeView S C O) (acts : List Act) : Type 0 where
@@ -50,12 +52,14 @@ module _ {S C O : Type 0} (settings : Settings) (m : MachineMeaning S C O) (f : 
     pub one : length done ≤ 1
 
 -- the same for every machine, as the device tells it
-pub record HasHeard {C O : Type 0} (S : Type 0) (settings : Settings) (f : Format C) (g : Format O) (node : NodeView S C O) (time : ℕ) (event : Option (Event C)) (before now : Told) : Type 0 where
+pub record HasHeard {C O : Type 0} (S : Type 0) (settings : Settings) (f : Format C) (g : Format O) (node : NodeView S C O)
+    (time : ℕ) (event : Option (Event C)) (before now : Told) : Type 0 where
   pub acts : List Act
   pub is : now ≡ told_after before acts
   pub heard : (m : MachineMeaning S C O) → Hears settings m f g node time acts event
 
-pub record HasStoppedHearing {C O : Type 0} (S : Type 0) (settings : Settings) (f : Format C) (g : Format O) (node : NodeView S C O) (before now : Told) : Type 0 where
+pub record HasStoppedHearing {C O : Type 0} (S : Type 0) (settings : Settings) (f : Format C) (g : Format O) (node : NodeView S C O)
+    (before now : Told) : Type 0 where
   pub acts : List Act
   pub is : now ≡ told_after before acts
   pub heard : (m : MachineMeaning S C O) → StopsHearing settings m f g node acts

@@ -67,7 +67,8 @@ module _ {C D : Type 0} (s : StackId) (config : Config) (f : Format C) (t : Stac
   OpeningEnds fault.Store before now = Unopened before now
   OpeningEnds fault.Memory before now = Unopened before now
 
-module _ {S C O D : Type 0} (s : StackId) (config : Config) (m : MachineMeaning S C O) (f : Format C) (g : Format O) (t : StackId) (h : Format D) where
+module _ {S C O D : Type 0} (s : StackId) (config : Config) (m : MachineMeaning S C O) (f : Format C) (g : Format O) (t : StackId)
+    (h : Format D) where
   -- whole turns of a node, and turns of which the last was cut short
   abbrev pub TurnsGo : Stage S C O → KeptView C → StoreView → ℕ → Replica S C O → Told → Told → Type 0
   TurnsGo stage kept store count next before now =
@@ -87,7 +88,8 @@ module _ {S C O D : Type 0} (s : StackId) (config : Config) (m : MachineMeaning 
   -- So many turns one after the other, each a record of its own: what its event says leaves before the next turn begins.
   abbrev pub WentEach : ℕ → Replica S C O → Replica S C O → Told → Told → Type 0
   WentEach zero replica next before now = (next ≡ replica) × (now ≡ before)
-  WentEach (suc n) replica next before now = (middle : Replica S C O) × (mid : Told) × WentEach n replica middle before mid × Went middle 1 next mid now
+  WentEach (suc n) replica next before now =
+      (middle : Replica S C O) × (mid : Told) × WentEach n replica middle before mid × Went middle 1 next mid now
 
   -- Its opening, its first clock value, and so many whole turns, after which it is this.
   pub record Served (count : ℕ) (next : Replica S C O) (before now : Told) : Type 0 where
