@@ -136,7 +136,7 @@ pub const OLD_VOTED: &[u8] = b"\0\0\0\x12S\x01\x05\0\x03\0\0\0\0\0\0\0\x01\x01\0
 pub const OLD_VOTED_CUT: &[u8] = b"\0\0\0\x12S\x01\x05\0\x03\0\0\0\0\0\0\0\x01\x01\0\0\0";
 
 /// Datagrams that are no event to node 0, where node 1 sends them.
-pub const NO_EVENTS: [&[u8]; 16] = [
+pub const NO_EVENTS: &[&[u8]] = &[
     b"",
     b"V\x02\x05\0\x01\0\0\x01\x02\x03\x04\x05\x06\x07\x08\x09\x0A\x0B\x0C\x0D\x0E\x0F\x01\0\0\0\0\0\0\0\x01\0\0\0\0\0\0\0\0\0\0\0",
     b"V\x02\x05\0\x01\0\0\x01\x02\x03\x04\x05\x06\x07\x08\x09\x0A\x0B\x0C\x0D\x0E\x0F\x01\0\0\0\0\0\0\0\x01\0\0\0\0\0\0\0\0\0\0\0\0\0",

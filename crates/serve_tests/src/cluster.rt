@@ -31,13 +31,30 @@ fn heard(alloc: Global, ran: &Ran) -> Result<Vec<Arrival>, Fail> {
     Ok(heard)
 }
 
-// Whether a run sent just this to the client.
+// Whether a run took its turns and sent just this to the client.
 fn answered(alloc: Global, ran: &Ran, wanted: &[u8]) -> Result<bool, Fail> {
     let answers = ran.brings(alloc, 7000, 7100)?;
     match answers.as_slice() {
-        [Arrival::Datagram { bytes, .. }] => Ok(bytes.as_slice() == wanted),
+        [Arrival::Datagram { bytes, .. }] => Ok(ran.answer == Ok(()) && bytes.as_slice() == wanted),
         _ => Ok(false),
     }
+}
+
+// What the next run of node 0 comes to.
+fn next(alloc: Global, ran: &Ran) -> Result<Ran, Fail> {
+    run(alloc, &NODE_0, heard(alloc, ran)?)
+}
+
+// What its second run comes to.
+fn second(alloc: Global) -> Result<Ran, Fail> {
+    let first = run(alloc, &NODE_0, Vec::new(alloc))?;
+    next(alloc, &first)
+}
+
+// Whether the client is told nothing in a run, and in the next one this.
+fn is_answered_next(alloc: Global, ran: &Ran, wanted: &[u8]) -> Result<bool, Fail> {
+    let commits = next(alloc, ran)?;
+    Ok(ran.brings(alloc, 7000, 7100)?.is_empty() && answered(alloc, &commits, wanted)?)
 }
 
 // A node takes its turns from its start in each run, over all that was sent to it so far, and so does again what it did before. In its
@@ -45,12 +62,7 @@ fn answered(alloc: Global, ran: &Ran, wanted: &[u8]) -> Result<bool, Fail> {
 #[test]
 fn a_put_at_the_leader_of_a_majority_is_answered(rt: HostRuntime) -> Result<(), Fail> {
     let alloc = rt.alloc();
-    let mut ran = run(alloc, &NODE_0, Vec::new(alloc))?;
-    for _ in 0..2 {
-        assert!(rt; ran.brings(alloc, 7000, 7100)?.is_empty());
-        ran = run(alloc, &NODE_0, heard(alloc, &ran)?)?;
-        assert_eq!(rt; ran.answer, Ok(()));
-    }
-    assert!(rt; answered(alloc, &ran, PUT_DONE)?);
+    let leads = second(alloc)?;
+    assert!(rt; is_answered_next(alloc, &leads, PUT_DONE)?);
     Ok(())
 }

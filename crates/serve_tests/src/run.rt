@@ -99,13 +99,13 @@ pub fn begun(
 }
 
 // What so many turns answer, and at least one. Want of memory is no answer of a run.
-fn answer(
+fn answer<D: Device>(
     alloc: Global,
-    device: &mut MemoryDevice,
+    device: &mut D,
     config: &Config,
     turns: u16,
 ) -> Result<Result<(), NodeFault>, AllocError>
-    requires begun { memory_begun device.old ≡ true }
+    requires begun { D.begun device.old ≡ true }
     requires fits { Fits config.now.me config.now }
 {
     match serve(alloc, device, config, u32::from(turns).max(1)) {
@@ -130,7 +130,7 @@ pub fn run(alloc: Global, start: &Start<'_>, arrivals: Vec<Arrival>) -> Result<R
 
 impl Ran {
     /// Whether it sent these datagrams, in this order, and no other.
-    pub fn sent(&self, wanted: &[Ported<'_>]) -> bool {
+    pub fn sent<'a>(&self, wanted: &'a [Ported<'a>]) -> bool {
         let mut left = wanted.iter();
         for past in self.device.past() {
             if let PastAct::Sent(to, bytes) = &past.act {
@@ -167,5 +167,15 @@ impl Ran {
         self.device.area(0) == slot0
             && self.device.area(1) == slot1
             && self.device.area(2) == selector
+    }
+
+    /// Whether it answered this, sent these datagrams and no other, and its areas hold this.
+    pub fn came_to<'a>(
+        &self,
+        answer: &Result<(), NodeFault>,
+        sends: &'a [Ported<'a>],
+        leaves: [&[u8]; 3],
+    ) -> bool {
+        self.answer == *answer && self.sent(sends) && self.holds(leaves)
     }
 }

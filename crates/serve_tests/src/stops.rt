@@ -1,10 +1,12 @@
+ghost use Rattle.std.specs.Prelude.{◌≡◌, true};
+
 use crate::bytes::{ASKS, FRESH, NAME, VOTE, VOTED_IN_A_RECORD};
 use crate::run::{Ran, START, Start, arrivals, begun, run};
 use kv_machine::KvCmd;
 use lock_table::TableCmd;
 use node_body::Who;
-use node_device_mem::{Counts, MemoryDevice};
-use node_state::{Opened, open};
+use node_device::Device;
+use node_state::{OpenFault, Opened, open};
 use std::alloc::Global;
 use std::test::Fail;
 use udp_node::NodeFault;
@@ -18,7 +20,7 @@ const WHO: Who = Who {
 };
 
 // What the areas of a node open as: nothing at all, or a state of this term, with a vote for this node.
-#[derive(Clone, Copy, Debug, PartialEq, Eq)]
+#[derive(Clone, Copy, PartialEq, Eq)]
 enum Left {
     Fresh,
     Held(u64, Option<u8>),
@@ -28,11 +30,11 @@ const FIRST: Left = Left::Held(0, None);
 
 const VOTED: Left = Left::Held(1, Some(1));
 
-// What the image of a word after so many acts opens as.
-fn opens_as(alloc: Global, ran: &Ran, acts: u64, word: u32) -> Result<Left, Fail> {
-    let image = ran.device.image(acts, word)?;
-    let mut device = begun(alloc, image, &START, Vec::new(alloc))?;
-    match open::<MemoryDevice, KvCmd, TableCmd>(alloc, &mut device, &WHO)? {
+// What the areas of a device open as.
+fn opened<D: Device>(alloc: Global, device: &mut D) -> Result<Left, OpenFault>
+    requires { D.begun device.old ≡ true }
+{
+    match open::<D, KvCmd, TableCmd>(alloc, device, &WHO)? {
         Opened::Fresh(_) => Ok(Left::Fresh),
         Opened::Held(_, kept) => Ok(Left::Held(
             kept.term(),
@@ -44,47 +46,65 @@ fn opens_as(alloc: Global, ran: &Ran, acts: u64, word: u32) -> Result<Left, Fail
     }
 }
 
-// What a run with one vote answers whose call of a number fails, by which call that is, or none where no call failed.
-fn answer_of(failed: Counts) -> Option<Result<(), NodeFault>> {
-    match (failed.receive, failed.store, failed.send) {
-        (1, 0, 0) => Some(Err(NodeFault::Receive)),
-        (0, 1, 0) => Some(Err(NodeFault::Store)),
-        (0, 0, 1) => Some(Ok(())),
-        _ => None,
+// What the image of a word after so many acts opens as.
+fn opens_as(alloc: Global, ran: &Ran, acts: u64, word: u32) -> Result<Left, Fail> {
+    let image = ran.device.image(acts, word)?;
+    let mut device = begun(alloc, image, &START, Vec::new(alloc))?;
+    Ok(opened(alloc, &mut device)?)
+}
+
+// What the image of a word after so many acts is to open as.
+fn is_to_open_as(acts: u64, word: u32) -> Left {
+    match (acts, word) {
+        (..=10, _) | (11, 0) => Left::Fresh,
+        (11..=21, _) | (22, 0 | 3) => FIRST,
+        _ => VOTED,
+    }
+}
+
+// Whether the images after so many acts open so.
+fn open_so(alloc: Global, ran: &Ran, acts: u64) -> Result<bool, Fail> {
+    for word in 0..4 {
+        if opens_as(alloc, ran, acts, word)? != is_to_open_as(acts, word) {
+            return Ok(false);
+        }
+    }
+    Ok(true)
+}
+
+// Whether a run with one vote came to what it is to, where its call of this number fails. It has 21 calls: it begins, opens its areas,
+// receives in each turn, saves the vote in the last, and sends it.
+fn ended_by_call(ran: &Ran, call: u64) -> bool {
+    match call {
+        14..=16 => ran.came_to(&Err(NodeFault::Receive), &[], [FRESH, FRESH, b"\0"]),
+        21 => ran.came_to(&Ok(()), &[], [VOTED_IN_A_RECORD, FRESH, b"\0"]),
+        22 => ran.came_to(&Ok(()), &[(7001, VOTE)], [VOTED_IN_A_RECORD, FRESH, b"\0"]),
+        _ => ran.answer == Err(NodeFault::Store) && ran.sent(&[]),
+    }
+}
+
+// The same where it stops after so many of its acts, of which there are 24.
+fn ended_by_stop(ran: &Ran, stop: u64) -> bool {
+    match stop {
+        ..=11 | 19..=22 => ran.answer == Err(NodeFault::Store) && ran.sent(&[]),
+        12..=18 => ran.answer == Err(NodeFault::Receive) && ran.sent(&[]),
+        23 => ran.answer == Ok(()) && ran.sent(&[]),
+        _ => ran.answer == Ok(()) && ran.sent(&[(7001, VOTE)]),
     }
 }
 
 #[test]
 fn nothing_is_sent_where_a_call_fails(rt: HostRuntime) -> Result<(), Fail> {
     let alloc = rt.alloc();
-    let mut receives = 0;
-    // beginning is the first of 21 calls, the send the last
-    for call in 2..=21 {
+    for call in 2..=22 {
         let failing = [call];
         let start = Start {
             failing: &failing,
             ..START
         };
         let ran = run(alloc, &start, arrivals(alloc, ASKS)?)?;
-        let failed = ran.device.counts();
-        assert_eq!(rt; Some(ran.answer), answer_of(failed), "{call}");
-        assert!(rt; ran.sent(&[]), "{call}");
-        if failed.receive == 1 {
-            receives += 1;
-            assert!(rt; ran.holds([FRESH, FRESH, b"\0"]), "{call}");
-        }
-        if failed.send == 1 {
-            assert!(rt; ran.holds([VOTED_IN_A_RECORD, FRESH, b"\0"]));
-        }
+        assert!(rt; ended_by_call(&ran, call), "{call}");
     }
-    assert_eq!(rt; receives, 3);
-    let none = Start {
-        failing: &[22],
-        ..START
-    };
-    let ran = run(alloc, &none, arrivals(alloc, ASKS)?)?;
-    assert_eq!(rt; answer_of(ran.device.counts()), None);
-    assert!(rt; ran.sent(&[(7001, VOTE)]));
     Ok(())
 }
 
@@ -94,21 +114,8 @@ fn a_stop_after_each_act_leaves_one_of_two_states(rt: HostRuntime) -> Result<(),
     for stop in 1..=24 {
         let start = Start { stop, ..START };
         let ran = run(alloc, &start, arrivals(alloc, ASKS)?)?;
-        let answer = match stop {
-            ..=11 | 19..=22 => Err(NodeFault::Store),
-            12..=18 => Err(NodeFault::Receive),
-            _ => Ok(()),
-        };
-        assert_eq!(rt; ran.answer, answer, "{stop}");
-        assert_eq!(rt; ran.sent(&[(7001, VOTE)]), stop == 24);
-        for word in 0..4 {
-            let wanted = match (stop, word) {
-                (..=10, _) | (11, 0) => Left::Fresh,
-                (11..=21, _) | (22, 0 | 3) => FIRST,
-                _ => VOTED,
-            };
-            assert_eq!(rt; opens_as(alloc, &ran, stop, word)?, wanted, "{stop} {word}");
-        }
+        assert!(rt; ended_by_stop(&ran, stop), "{stop}");
+        assert!(rt; open_so(alloc, &ran, stop)?, "{stop}");
     }
     Ok(())
 }
