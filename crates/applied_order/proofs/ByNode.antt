@@ -1,22 +1,18 @@
 -- What is kept follows a step, node by node.
 use Rattle.std.proofs.Common.{◌≡◌, ℕ, zero, suc, ◌+◌, ◌<◌, ◌≤◌, Bool, true, false, cond, ltb, List, [], ◌∷◌, ◌++◌, length, refl, arith}
 use Rattle.net_semantics.specs.Runs.{run_from}
-use Rattle.net_semantics.specs.ShownFail.{FailView, ShowsFail}
 use Rattle.net_semantics.specs.Steps.{next}
 use Rattle.net_semantics.specs.Worlds.{first_world}
 use Rattle.vst_base.specs.Machines.{MachineMeaning}
 use Rattle.vst_base.specs.declared.entry.Entry.{Entry}
 use Rattle.vst_base.specs.declared.step.Step.{Step}
-use Rattle.raft_types.specs.Keeping.{KeptView}
 use Rattle.raft_types.specs.declared.client.RaftInput.{RaftInput}
-use Rattle.raft_types.specs.declared.client.RaftOut.{RaftOut}
-use Rattle.raft_types.specs.declared.msg.RaftMsg.{RaftMsg}
 use Rattle.raft_xform.specs.Nodes.{RaftView}
 use Rattle.raft_xform.specs.Raft.{raft, raft_recovery}
 use Rattle.raft_safety.specs.Applied.{IsBeginning, applied_by, applied_list, applied_lists, longer, longest, longest_from}
 use Rattle.raft_safety.specs.Runs.{IsRun, RaftWorld, world_after}
 use Rattle.raft_safety.specs.Safety.{AppliedGrows, EachHasABeginning}
-use Rattle.applied_order.specs.Orders.{HasFollowed, OrderView}
+use Rattle.applied_order.specs.Orders.{FollowsShown, HasFollowed, OrderView}
 
 longer_begins : {A : Type 0} (xs ys all : List A) → IsBeginning xs all → IsBeginning ys all → IsBeginning (longer xs ys) all
 longer_begins xs ys all x y = go (ltb (length xs) (length ys))
@@ -42,23 +38,22 @@ module _ {S C O : Type 0} (m : MachineMeaning S C O) (nodes : ℕ) where
       one_step after (longest nodes (applied_lists after) best) ss s
 
   -- once so many nodes were looked at, it is what is kept of the longest list of theirs
-  pub record Follows {H : Type 0} (v : FailView H (RaftView S C O) (KeptView C) (RaftInput C) (RaftOut O) (RaftMsg C))
-      (n : ℕ) (old now : OrderView C) : Type 0 where
+  pub record Follows (Shows : RaftWorld S C O → Type 0) (n : ℕ) (old now : OrderView C) : Type 0 where
     pub so_far : (ss : List (Step (RaftInput C))) (s : Step (RaftInput C)) → IsRun m nodes (ss ++ s ∷ []) →
-        ShowsFail nodes v (world_after m nodes (ss ++ s ∷ [])) →
+        Shows (world_after m nodes (ss ++ s ∷ [])) →
         HasFollowed old (applied_by m nodes ss) →
         HasFollowed now (longest n (applied_lists (world_after m nodes (ss ++ s ∷ []))) (applied_by m nodes ss))
 
-  module _ {H : Type 0} (v : FailView H (RaftView S C O) (KeptView C) (RaftInput C) (RaftOut O) (RaftMsg C)) where
-    pub follows_first : (o : OrderView C) → Follows v 0 o o
+  module _ (Shows : RaftWorld S C O → Type 0) where
+    pub follows_first : (o : OrderView C) → Follows Shows 0 o o
     follows_first o = record { so_far = λ ss s run shows had. had }
 
     pub follows_more : AppliedGrows S C O → EachHasABeginning S C O →
         (n : ℕ) (old now next : OrderView C) (state : RaftView S C O) → n < nodes →
-        ((w : RaftWorld S C O) → ShowsFail nodes v w → state ≡ w.state n) →
+        ((w : RaftWorld S C O) → Shows w → state ≡ w.state n) →
         ((all es : List (Entry C)) → IsBeginning es all → IsBeginning (applied_list state) all → HasFollowed now es →
         HasFollowed next (longer es (applied_list state))) →
-        Follows v n old now → Follows v (n + 1) old next
+        Follows Shows n old now → Follows Shows (n + 1) old next
     follows_more grows each n old now next state below tells caught was = record {
       so_far = λ ss s run shows had.
           let w = world_after m nodes (ss ++ s ∷ []) in
@@ -72,8 +67,5 @@ module _ {S C O : Type 0} (m : MachineMeaning S C O) (nodes : ℕ) where
           rw one (rw (← is) (caught all (longest n (applied_lists w) best) begins state_begins (was.so_far ss s run shows had)));
     }
 
-    pub follows_all : (old now : OrderView C) → Follows v nodes old now →
-        (ss : List (Step (RaftInput C))) (s : Step (RaftInput C)) → IsRun m nodes (ss ++ s ∷ []) →
-        ShowsFail nodes v (world_after m nodes (ss ++ s ∷ [])) → HasFollowed old (applied_by m nodes ss) →
-        HasFollowed now (applied_by m nodes (ss ++ s ∷ []))
+    pub follows_all : (old now : OrderView C) → Follows Shows nodes old now → FollowsShown m nodes Shows old now
     follows_all old now was ss s run shows had = rw (one_step (first_world (raft nodes m)) [] ss s) (was.so_far ss s run shows had)

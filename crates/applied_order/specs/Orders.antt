@@ -12,7 +12,7 @@ use Rattle.raft_clients.specs.Executed.{exceeds, executed, executed_places}
 use Rattle.raft_clients.specs.Requests.{requests as asked}
 use Rattle.raft_clients.specs.Sessions.{Sessions, is_new, sessions_code}
 use Rattle.raft_safety.specs.Applied.{applied_by}
-use Rattle.raft_safety.specs.Runs.{IsRun, world_after}
+use Rattle.raft_safety.specs.Runs.{IsRun, RaftWorld, world_after}
 use Rattle.raft_types.specs.Keeping.{KeptView}
 use Rattle.raft_types.specs.declared.client.RaftInput.{RaftInput}
 use Rattle.raft_types.specs.declared.client.RaftOut.{RaftOut}
@@ -84,10 +84,14 @@ abbrev pub IsSoundCluster : {H S C O : Type 0} → MachineMeaning S C O → ℕ 
     FailView H (RaftView S C O) (KeptView C) (RaftInput C) (RaftOut O) (RaftMsg C) → Type 0
 IsSoundCluster m nodes world = IsSoundFail (cluster_promises m nodes) world
 
--- where the world is the one after the steps and one more, and the steps were followed, so is the one more
+-- where a world is shown that is the one after the steps and one more, and the steps were followed, so is the one more
+abbrev pub FollowsShown : {S C O : Type 0} → MachineMeaning S C O → ℕ → (RaftWorld S C O → Type 0) → OrderView C → OrderView C → Type 0
+FollowsShown {C = C} m nodes Shows old new =
+    (ss : List (Step (RaftInput C))) (s : Step (RaftInput C)) → IsRun m nodes (ss ++ s ∷ []) →
+    Shows (world_after m nodes (ss ++ s ∷ [])) →
+    HasFollowed old (applied_by m nodes ss) → HasFollowed new (applied_by m nodes (ss ++ s ∷ []))
+
+-- as this view shows it
 abbrev pub FollowsStep : {H S C O : Type 0} → MachineMeaning S C O → ℕ →
     FailView H (RaftView S C O) (KeptView C) (RaftInput C) (RaftOut O) (RaftMsg C) → OrderView C → OrderView C → Type 0
-FollowsStep {C = C} m nodes world old new =
-    (ss : List (Step (RaftInput C))) (s : Step (RaftInput C)) → IsRun m nodes (ss ++ s ∷ []) →
-    ShowsFail nodes world (world_after m nodes (ss ++ s ∷ [])) →
-    HasFollowed old (applied_by m nodes ss) → HasFollowed new (applied_by m nodes (ss ++ s ∷ []))
+FollowsStep m nodes world old new = FollowsShown m nodes (ShowsFail nodes world) old new

@@ -29,8 +29,8 @@ fn follow_nodes<M: Machine>(
 }
 
 impl<C: Drop> AppliedOrder<C> {
-    // Adds what a node has applied after the entries that there are.
-    fn catch_up<M: Machine<Cmd = C>>(
+    /// Adds what a node has applied after the entries that there are. After an `Err` the order is given up.
+    pub fn catch_up<M: Machine<Cmd = C>>(
         &mut self,
         alloc: Global,
         cluster: &Raft<M>,

@@ -1,6 +1,6 @@
 ghost use Rattle.std.specs.Prelude.{Some};
 
-use outside::{Address, Begun, Device, NoDevice, Sink, WriteFault, WriteOutcome, write_all};
+use outside::{Sink, WriteFault, WriteOutcome, write_all};
 use std::alloc::Global;
 use std::test::Fail;
 
@@ -75,18 +75,5 @@ fn a_fault_leaves_a_front_written(rt: HostRuntime) {
         assert_eq!(rt; write_all(&mut sink, b"abc"), Err(fault));
         assert_eq!(rt; sink.written.as_slice(), b"ab".as_slice());
         assert_eq!(rt; (sink.faults, sink.wants), counts);
-    }
-}
-
-#[test]
-fn a_device_counts_each_failure_to_begin(rt: HostRuntime) {
-    let at = Address {
-        ip: [127, 0, 0, 1],
-        port: 7000,
-    };
-    let mut device = NoDevice::new();
-    for tries in 1..=2 {
-        assert_eq!(rt; device.begin(at, "state"), Begun::Failed);
-        assert_eq!(rt; device.begin_faults(), tries);
     }
 }

@@ -16,9 +16,9 @@ use Rattle.clap.specs.declared.builder.value_parser.ValueParser.TheVariants as p
 use Rattle.clap.specs.declared.error.kind.ErrorKind.{ErrorKind}
 use Rattle.clap.specs.declared.error.kind.ErrorKind.TheVariants.{OutOfMemory}
 use Rattle.clap.specs.declared.parser.matches.ArgMatches.{ArgMatches}
-use Rattle.command_line.specs.CommandSet.{CanBeMade, IfMakes, among, behind, command_entered, command_of, command_set, commands_with, entered_by, packet_stack_words, stack_words, takes_words}
-use Rattle.command_line.specs.declared.command.Command.{Command}
-use Rattle.command_line.proofs.Asking.{asked_can_be_made, none_exactly_refused}
+use Rattle.command_line.specs.CommandSet.{CanBeMade, CanBeRun, IfMakes, among, as_node, as_texts, asked_entered, asked_of, behind, command_set, commands_with, entered_by, packet_stack_words, stack_words, takes_words}
+use Rattle.command_line.specs.declared.asked.Asked.{Asked}
+use Rattle.command_line.proofs.Asking.{asked_can_be_made, asked_can_be_run, none_exactly_refused}
 use Rattle.command_line.proofs.Faultless.{faultless_is_taken}
 use Rattle.command_line.proofs.Seen.{subcommand_same, takes_same}
 
@@ -77,9 +77,9 @@ set_takes app words is = ap (λ a. takes a words) is.commands
     ∙ sym (takes_same told told_reads told_accepts (built (commands_with (parser.Names is.stacks) (parser.Names is.packet_stacks))) (argument_words command_set words))
     ∙ ap₂ (λ stacks packet_stacks. takes (commands_with (among stacks) (among packet_stacks)) words) is.words is.packet_words
 
-set_enters : (app : App) (words : List Text) → IsCommandSet app → option_and_then command_entered (subcommand_of app words) ≡ entered_by words
+set_enters : (app : App) (words : List Text) → IsCommandSet app → option_and_then asked_entered (subcommand_of app words) ≡ entered_by words
 unfolding told entered_by
-set_enters app words is = ap (option_and_then command_entered) (
+set_enters app words is = ap (option_and_then asked_entered) (
     ap (λ a. subcommand_of a words) is.commands
     ∙ sym (subcommand_same told told_reads told_accepts (built (commands_with (parser.Names is.stacks) (parser.Names is.packet_stacks))) (argument_words command_set words))
     ∙ ap₂ (λ stacks packet_stacks. subcommand_of (commands_with (among stacks) (among packet_stacks)) words) is.words is.packet_words
@@ -87,36 +87,39 @@ set_enters app words is = ap (option_and_then command_entered) (
 
 -- ---- the answers
 
-where_taken : (words : List Text) → takes_words words ≡ true → command_of words ≡ entered_by words
-unfolding command_of
+where_taken : (words : List Text) → takes_words words ≡ true → asked_of words ≡ entered_by words
+unfolding asked_of
 where_taken words taken = ap (λ t. if t then entered_by words else None) taken
 
-where_refused : (words : List Text) → takes_words words ≡ false → command_of words ≡ None
-unfolding command_of
+where_refused : (words : List Text) → takes_words words ≡ false → asked_of words ≡ None
+unfolding asked_of
 where_refused words refused = ap (λ t. if t then entered_by words else None) refused
 
 -- matches are those of words that are taken
-pub with_matches : (app : App) (words : List Text) (m : ArgMatches) (answer : Option Command) → IsCommandSet app → HasMatchesOf app words m
-    → (is_simple_and_free app ≡ true → fault_of app words ≡ []) → answer ≡ option_and_then command_entered (subcommand_rows_of m) → answer ≡ command_of words
+pub with_matches : (app : App) (words : List Text) (m : ArgMatches) (answer : Option Asked) → IsCommandSet app → HasMatchesOf app words m
+    → (is_simple_and_free app ≡ true → fault_of app words ≡ []) → answer ≡ option_and_then asked_entered (subcommand_rows_of m) → answer ≡ asked_of words
 with_matches app words m answer is has fault e =
     let set = commands_with (parser.Names is.stacks) (parser.Names is.packet_stacks) in
     let none : fault_of set words ≡ [] = ap (λ a. fault_of a words) (sym is.commands) ∙ fault (ap is_simple_and_free is.commands) in
     let taken : takes app words ≡ true = ap (λ a. takes a words) is.commands ∙ faultless_is_taken set words refl refl none in
-    e ∙ ap (option_and_then command_entered) (has (ap is_simple is.commands)).1 ∙ set_enters app words is ∙ sym (where_taken words (sym (set_takes app words is) ∙ taken))
+    e ∙ ap (option_and_then asked_entered) (has (ap is_simple is.commands)).1 ∙ set_enters app words is ∙ sym (where_taken words (sym (set_takes app words is) ∙ taken))
 
 -- and an error that is not want of memory comes of words that are refused
-pub without_matches : (app : App) (words : List Text) (kind : ErrorKind) (answer : Result (Option Command) AllocError) → IsCommandSet app → (takes app words ≡ true → kind ≡ OutOfMemory)
-    → (IsErr answer ↔ (kind ≡ OutOfMemory)) → IfOk answer (λ command. command ≡ None) → IfOk answer (λ command. command ≡ command_of words)
+pub without_matches : (app : App) (words : List Text) (kind : ErrorKind) (answer : Result (Option Asked) AllocError) → IsCommandSet app → (takes app words ≡ true → kind ≡ OutOfMemory)
+    → (IsErr answer ↔ (kind ≡ OutOfMemory)) → IfOk answer (λ asked. asked ≡ None) → IfOk answer (λ asked. asked ≡ asked_of words)
 without_matches app words kind (Err e) is passes memory none = tt
-without_matches app words kind (Ok command) is passes memory none = by_taken (takes_words words) refl
+without_matches app words kind (Ok asked) is passes memory none = by_taken (takes_words words) refl
   where
-    by_taken : (t : Bool) → takes_words words ≡ t → command ≡ command_of words
+    by_taken : (t : Bool) → takes_words words ≡ t → asked ≡ asked_of words
     by_taken false refused = none ∙ sym (where_refused words refused)
     by_taken true taken = absurd (true≢false (sym (memory.1 (passes (set_takes app words is ∙ taken)))))
 
--- what is known of a command by the words that ask for it
-pub refused_exactly : (words : List Text) (command : Option Command) → command ≡ command_of words → IsNone command ↔ (takes_words words ≡ false)
-refused_exactly words command e = subst (λ (c : Option Command). IsNone c ↔ (takes_words words ≡ false)) (sym e) (none_exactly_refused words)
+-- what is known of an answer by the words that ask for it
+pub refused_exactly : (words : List Text) (asked : Option Asked) → asked ≡ asked_of words → IsNone asked ↔ (takes_words words ≡ false)
+refused_exactly words asked e = subst (λ (o : Option Asked). IsNone o ↔ (takes_words words ≡ false)) (sym e) (none_exactly_refused words)
 
-pub made_can_be : (words : List Text) (command : Option Command) → command ≡ command_of words → IfSome command (λ c. IfMakes c CanBeMade)
-made_can_be words command e = subst (λ (o : Option Command). IfSome o (λ c. IfMakes c CanBeMade)) (sym e) (asked_can_be_made words)
+pub made_can_be : (words : List Text) (asked : Option Asked) → asked ≡ asked_of words → IfSome (option_and_then as_texts asked) (λ command. IfMakes command CanBeMade)
+made_can_be words asked e = subst (λ (o : Option Asked). IfSome (option_and_then as_texts o) (λ command. IfMakes command CanBeMade)) (sym e) (asked_can_be_made words)
+
+pub node_can_be : (words : List Text) (asked : Option Asked) → asked ≡ asked_of words → IfSome (option_and_then as_node asked) CanBeRun
+node_can_be words asked e = subst (λ (o : Option Asked). IfSome (option_and_then as_node o) CanBeRun) (sym e) (asked_can_be_run words)

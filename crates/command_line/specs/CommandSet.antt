@@ -9,12 +9,18 @@ use Rattle.clap.specs.Words.{App, Row, Rule, first_of, new_app, new_rule, one_of
 use Rattle.clap.specs.declared.builder.action.ArgAction.TheVariants.{Set, SetTrue}
 use Rattle.clap.specs.declared.builder.value_parser.ValueParser.{ValueParser}
 use Rattle.clap.specs.declared.builder.value_parser.ValueParser.TheVariants.{Names, Signed}
+use Rattle.clap.specs.declared.builder.value_parser.ValueParser.TheVariants as parser
+use Rattle.command_line.specs.AskedNodes.{NodeWordsView}
+use Rattle.command_line.specs.declared.asked.Asked.{Asked}
+use Rattle.command_line.specs.declared.asked.Asked.TheVariants.{Node, Texts}
+use Rattle.command_line.specs.declared.asked.TheConstants.{MAX_TURNS}
 use Rattle.command_line.specs.declared.command.Command.{Command}
 use Rattle.command_line.specs.declared.command.Command.TheVariants.{Check, Make, Replay, Summarize}
 use Rattle.command_line.specs.declared.command.MadeSchedule.{MadeSchedule}
 use Rattle.vst_base.specs.Nets.{has_kind}
 use Rattle.vst_base.specs.Stacks.{row_of, rows, stack_named, stack_word}
 use Rattle.vst_base.specs.declared.net.Net.TheVariants as net
+use Rattle.vst_base.specs.declared.node.TheConstants.{MAX_NODES}
 use Rattle.vst_base.specs.declared.stack.StackId.{StackId}
 use Rattle.vst_base.specs.declared.stack.StackRow.{StackRow}
 use Rattle.vst_base.specs.declared.step.StepKind.TheVariants as kind
@@ -55,6 +61,16 @@ seeds = Signed (pos 0) (pos (2 ^ 32 - 1))
 abbrev pub step_counts : ValueParser
 step_counts = Signed (pos 0) (pos MAX_STEPS)
 
+-- which node of its configuration a node is, for how many turns it runs, and the directory of its state: any text
+abbrev pub node_numbers : ValueParser
+node_numbers = Signed (pos 0) (pos (MAX_NODES - 1))
+
+abbrev pub turn_counts : ValueParser
+turn_counts = Signed (pos 1) (pos MAX_TURNS)
+
+abbrev pub directories : ValueParser
+directories = parser.String
+
 abbrev pub check_command : ValueParser → App
 check_command stacks = with_rule (new_app (codes "check")) (required_option (codes "stack") stacks)
 
@@ -66,13 +82,21 @@ make_command stacks =
     (required_option (codes "steps") step_counts))
     (flag (codes "summary"))
 
+abbrev pub node_command : App
+node_command =
+    with_rule (with_rule (with_rule (new_app (codes "node"))
+    (required_option (codes "me") node_numbers))
+    (required_option (codes "turns") turn_counts))
+    (required_option (codes "state") directories)
+
 -- the program with its commands, of which check takes one of the first values as a stack, and make one of the second
 abbrev pub commands_with : ValueParser → ValueParser → App
 commands_with stacks packet_stacks =
-    with_subcommand (with_subcommand (with_subcommand (with_subcommand_required (new_app (codes "vst")))
+    with_subcommand (with_subcommand (with_subcommand (with_subcommand (with_subcommand_required (new_app (codes "vst")))
     (new_app (codes "replay")).top)
     (check_command stacks).top)
-    (make_command packet_stacks).top
+    (make_command packet_stacks).top)
+    node_command.top
 
 -- clap's list of possible values holds references. It reads the texts behind them alone, so any place serves here
 abbrev pub behind : {X : Type 0} → X → Bor X
@@ -94,11 +118,17 @@ takes_words words = takes command_set words
 abbrev pub stack_in : List Row → Option StackId
 stack_in options = option_and_then stack_named (first_of (codes "stack") options)
 
--- the number of 32 bits that a text writes in decimal digits, with or without a plus
-abbrev pub number_of : List ℕ → Option ℕ
-number_of text = if is_unsigned_in 0 (2 ^ 32 - 1) text then Some (digits_value 10 (without_leading_plus text)) else None
+-- the number of so many bits that a text writes in decimal digits, with or without a plus
+abbrev pub number_of_bits : ℕ → List ℕ → Option ℕ
+number_of_bits bits text = if is_unsigned_in 0 (2 ^ bits - 1) text then Some (digits_value 10 (without_leading_plus text)) else None
 
--- the number that an option has, and whether a flag is there. clap reads -0 as 0
+abbrev pub number_of : List ℕ → Option ℕ
+number_of = number_of_bits 32
+
+-- the byte and the number that an option has, and whether a flag is there. clap reads -0 as 0
+abbrev pub byte_in : List ℕ → List Row → Option ℕ
+byte_in name options = option_and_then (number_of_bits 8) (one_of name options)
+
 abbrev pub number_in : List ℕ → List Row → Option ℕ
 number_in name options = option_and_then number_of (one_of name options)
 
@@ -114,7 +144,16 @@ schedule_in options =
     option_and_then (λ stack. option_and_then (λ seed. option_map (made_schedule stack seed)
     (number_in (codes "steps") options)) (number_in (codes "seed") options)) (stack_in options)
 
--- the command of a name and of the options after it
+abbrev pub node_words : ℕ → ℕ → List ℕ → NodeWordsView
+node_words me turns state = record { me = me; turns = turns; state = state }
+
+-- the node that the options ask for
+abbrev pub node_in : List Row → Option NodeWordsView
+node_in options =
+    option_and_then (λ me. option_and_then (λ turns. option_map (node_words me turns)
+    (first_of (codes "state") options)) (number_in (codes "turns") options)) (byte_in (codes "me") options)
+
+-- the command of a name and of the options after it, where it is one over texts
 abbrev pub command_entered : List ℕ × List Row → Option Command
 command_entered entered =
     if bytes_eq entered.0 (codes "replay") then Some Replay
@@ -122,13 +161,34 @@ command_entered entered =
     else if bytes_eq entered.0 (codes "make") then option_map (if has_flag (codes "summary") entered.1 then Summarize else Make) (schedule_in entered.1)
     else None
 
--- the command that the words enter
-unfoldable pub entered_by : List (List ℕ) → Option Command
-entered_by words = option_and_then command_entered (subcommand_of command_set words)
+-- what a name and the options after it ask for
+abbrev pub asked_entered : List ℕ × List Row → Option Asked
+asked_entered entered =
+    if bytes_eq entered.0 (codes "node") then option_map Node (node_in entered.1)
+    else option_map Texts (command_entered entered)
+
+-- what the words enter
+unfoldable pub entered_by : List (List ℕ) → Option Asked
+entered_by words = option_and_then asked_entered (subcommand_of command_set words)
 
 -- what the words ask for, where they are taken
+unfoldable pub asked_of : List (List ℕ) → Option Asked
+asked_of words = if takes_words words then entered_by words else None
+
+-- the command over texts that is asked for, and the node
+abbrev pub as_texts : Asked → Option Command
+as_texts (Texts command) = Some command
+as_texts (Node node) = None
+
+abbrev pub as_node : Asked → Option NodeWordsView
+as_node (Texts command) = None
+as_node (Node node) = Some node
+
 unfoldable pub command_of : List (List ℕ) → Option Command
-command_of words = if takes_words words then entered_by words else None
+command_of words = option_and_then as_texts (asked_of words)
+
+unfoldable pub node_of : List (List ℕ) → Option NodeWordsView
+node_of words = option_and_then as_node (asked_of words)
 
 -- ---- what can be asked for
 
@@ -144,3 +204,9 @@ IfMakes Replay P = ⊤
 IfMakes (Check stack) P = ⊤
 IfMakes (Make schedule) P = P schedule
 IfMakes (Summarize schedule) P = P schedule
+
+-- a node's number and its turns are in their ranges
+pub record CanBeRun (n : NodeWordsView) : Type 0 where
+  pub me : n.me < MAX_NODES
+  pub some : 1 ≤ n.turns
+  pub turns : n.turns ≤ MAX_TURNS

@@ -1,1 +1,2 @@
+pub mod AskedNodes
 pub mod CommandSet

@@ -1,6 +1,6 @@
 use vst_base::StackId;
 
-/// What the words ask for.
+/// A command over texts, and what it asks for.
 #[derive(Clone, Copy, Debug, PartialEq, Eq)]
 pub enum Command {
     /// Replays a schedule.

@@ -1,13 +1,14 @@
 ghost use Rattle.std.specs.Prelude.{◌≡◌, IfOk, false, map};
 ghost use Rattle.clap.specs.Words.{app_of, rule_of};
 ghost use Rattle.clap.specs.declared.builder.value_parser.ValueParser.TheVariants.{Names};
-ghost use Rattle.command_line.specs.CommandSet.{carries_packets, commands_with, flag, packet_stack_words};
-ghost use Rattle.command_line.specs.CommandSet.{required_option, seeds, stack_words, step_counts};
+ghost use Rattle.command_line.specs.CommandSet.{carries_packets, commands_with, directories, flag, node_numbers};
+ghost use Rattle.command_line.specs.CommandSet.{packet_stack_words, required_option, seeds, stack_words, step_counts, turn_counts};
 
+use crate::MAX_TURNS;
 use clap::builder::ValueParser;
 use clap::{Arg, ArgAction};
 use std::alloc::{AllocError, Global};
-use vst_base::{MAX_STEPS, StackRow, StepKind};
+use vst_base::{MAX_NODES, MAX_STEPS, StackRow, StepKind};
 
 // The words of the stacks, each of which check takes.
 pub(crate) fn stack_words(alloc: Global) -> Result<Vec<&'static str>, AllocError>
@@ -53,11 +54,16 @@ pub(crate) fn command_set<'a>(
         .arg(required_option(alloc, "seed", seeds()))?
         .arg(required_option(alloc, "steps", step_counts()))?
         .arg(flag(alloc, "summary"))?;
+    let node = clap::Command::new(alloc, "node")
+        .arg(required_option(alloc, "me", node_numbers()))?
+        .arg(required_option(alloc, "turns", turn_counts()))?
+        .arg(required_option(alloc, "state", directories()))?;
     clap::Command::new(alloc, "vst")
         .subcommand_required(true)
         .subcommand(replay)?
         .subcommand(check)?
-        .subcommand(make)
+        .subcommand(make)?
+        .subcommand(node)
 }
 
 // What is taken as the number that a schedule is made from.
@@ -72,6 +78,27 @@ fn step_counts<'a>() -> ValueParser<'a>
     ensures { result ≡ step_counts }
 {
     clap::value_parser!(u32).range(..=i64::from(MAX_STEPS))
+}
+
+// What is taken as the number of a node, from 0.
+fn node_numbers<'a>() -> ValueParser<'a>
+    ensures { result ≡ node_numbers }
+{
+    clap::value_parser!(u8).range(..i64::from(MAX_NODES))
+}
+
+// What is taken as the number of turns that a node runs for.
+fn turn_counts<'a>() -> ValueParser<'a>
+    ensures { result ≡ turn_counts }
+{
+    clap::value_parser!(u32).range(1..=i64::from(MAX_TURNS))
+}
+
+// What is taken as the directory of a node's state: any text.
+fn directories<'a>() -> ValueParser<'a>
+    ensures { result ≡ directories }
+{
+    clap::value_parser!(String)
 }
 
 // An option that has to be given, with one value that the parser takes.

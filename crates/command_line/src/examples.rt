@@ -1,7 +1,8 @@
 ghost use Rattle.std.specs.Prelude.{◌≡◌, [], ◌∷◌, None, Some, codes, false, true};
-ghost use Rattle.command_line.specs.CommandSet.{CanBeMade, IfMakes, command_of, made_schedule, number_of, packet_stack_words, takes_words};
+ghost use Rattle.command_line.specs.CommandSet.{CanBeMade, CanBeRun, IfMakes, asked_of, command_of, made_schedule, node_of, node_words};
+ghost use Rattle.command_line.specs.CommandSet.{number_of, number_of_bits, packet_stack_words, takes_words};
 
-use crate::Command;
+use crate::{Asked, Command};
 use vst_base::StackId;
 
 /// What words ask for, on examples.
@@ -14,26 +15,25 @@ pub fn worked()
     ensures taken { takes_words (codes "vst" ∷ codes "replay" ∷ []) ≡ true }
 
     // No command.
-    ensures no_words { command_of [] ≡ None }
-    ensures no_command { command_of (codes "vst" ∷ []) ≡ None }
+    ensures no_words { asked_of [] ≡ None }
+    ensures no_command { asked_of (codes "vst" ∷ []) ≡ None }
     ensures not_taken { takes_words (codes "vst" ∷ []) ≡ false }
 
     // No name of a command.
-    ensures unknown { command_of (codes "vst" ∷ codes "frob" ∷ []) ≡ None }
-    ensures node { command_of (codes "vst" ∷ codes "node" ∷ []) ≡ None }
-    ensures empty_word { command_of (codes "vst" ∷ codes "" ∷ []) ≡ None }
-    ensures cut_short { command_of (codes "vst" ∷ codes "repla" ∷ []) ≡ None }
-    ensures too_long { command_of (codes "vst" ∷ codes "replays" ∷ []) ≡ None }
-    ensures upper_case { command_of (codes "vst" ∷ codes "Replay" ∷ []) ≡ None }
-    ensures past_the_end_of_options { command_of (codes "vst" ∷ codes "--" ∷ codes "replay" ∷ []) ≡ None }
+    ensures unknown { asked_of (codes "vst" ∷ codes "frob" ∷ []) ≡ None }
+    ensures empty_word { asked_of (codes "vst" ∷ codes "" ∷ []) ≡ None }
+    ensures cut_short { asked_of (codes "vst" ∷ codes "repla" ∷ []) ≡ None }
+    ensures too_long { asked_of (codes "vst" ∷ codes "replays" ∷ []) ≡ None }
+    ensures upper_case { asked_of (codes "vst" ∷ codes "Replay" ∷ []) ≡ None }
+    ensures past_the_end_of_options { asked_of (codes "vst" ∷ codes "--" ∷ codes "replay" ∷ []) ≡ None }
 
     // More than replay takes.
-    ensures a_word_too_many { command_of (codes "vst" ∷ codes "replay" ∷ codes "x" ∷ []) ≡ None }
-    ensures an_empty_word_too_many { command_of (codes "vst" ∷ codes "replay" ∷ codes "" ∷ []) ≡ None }
-    ensures unknown_option { command_of (codes "vst" ∷ codes "replay" ∷ codes "--x" ∷ []) ≡ None }
-    ensures unknown_flag { command_of (codes "vst" ∷ codes "replay" ∷ codes "-x" ∷ []) ≡ None }
-    ensures twice { command_of (codes "vst" ∷ codes "replay" ∷ codes "replay" ∷ []) ≡ None }
-    ensures a_word_after_the_end_of_options { command_of (codes "vst" ∷ codes "replay" ∷ codes "--" ∷ codes "x" ∷ []) ≡ None }
+    ensures a_word_too_many { asked_of (codes "vst" ∷ codes "replay" ∷ codes "x" ∷ []) ≡ None }
+    ensures an_empty_word_too_many { asked_of (codes "vst" ∷ codes "replay" ∷ codes "" ∷ []) ≡ None }
+    ensures unknown_option { asked_of (codes "vst" ∷ codes "replay" ∷ codes "--x" ∷ []) ≡ None }
+    ensures unknown_flag { asked_of (codes "vst" ∷ codes "replay" ∷ codes "-x" ∷ []) ≡ None }
+    ensures twice { asked_of (codes "vst" ∷ codes "replay" ∷ codes "replay" ∷ []) ≡ None }
+    ensures a_word_after_the_end_of_options { asked_of (codes "vst" ∷ codes "replay" ∷ codes "--" ∷ codes "x" ∷ []) ≡ None }
 
     // The words that ask for a check of a stack, in each spelling that clap takes.
     ensures check_lock { command_of (codes "vst" ∷ codes "check" ∷ codes "--stack" ∷ codes "lock" ∷ []) ≡ Some (Command.Check StackId.Lock) }
@@ -50,43 +50,46 @@ pub fn worked()
     ensures check_taken { takes_words (codes "vst" ∷ codes "check" ∷ codes "--stack" ∷ codes "lock" ∷ []) ≡ true }
 
     // No stack, no value of one, or more than one.
-    ensures no_stack { command_of (codes "vst" ∷ codes "check" ∷ []) ≡ None }
-    ensures no_value { command_of (codes "vst" ∷ codes "check" ∷ codes "--stack" ∷ []) ≡ None }
-    ensures no_attached_value { command_of (codes "vst" ∷ codes "check" ∷ codes "--stack=" ∷ []) ≡ None }
-    ensures no_value_before_the_end { command_of (codes "vst" ∷ codes "check" ∷ codes "--stack" ∷ codes "--" ∷ codes "lock" ∷ []) ≡ None }
-    ensures second_value { command_of (codes "vst" ∷ codes "check" ∷ codes "--stack" ∷ codes "lock" ∷ codes "lock" ∷ []) ≡ None }
-    ensures second_stack { command_of (codes "vst" ∷ codes "check" ∷ codes "--stack" ∷ codes "lock" ∷ codes "--stack" ∷ codes "lock" ∷ []) ≡ None }
-    ensures bare_stack { command_of (codes "vst" ∷ codes "check" ∷ codes "lock" ∷ []) ≡ None }
+    ensures no_stack { asked_of (codes "vst" ∷ codes "check" ∷ []) ≡ None }
+    ensures no_value { asked_of (codes "vst" ∷ codes "check" ∷ codes "--stack" ∷ []) ≡ None }
+    ensures no_attached_value { asked_of (codes "vst" ∷ codes "check" ∷ codes "--stack=" ∷ []) ≡ None }
+    ensures no_value_before_the_end { asked_of (codes "vst" ∷ codes "check" ∷ codes "--stack" ∷ codes "--" ∷ codes "lock" ∷ []) ≡ None }
+    ensures second_value { asked_of (codes "vst" ∷ codes "check" ∷ codes "--stack" ∷ codes "lock" ∷ codes "lock" ∷ []) ≡ None }
+    ensures second_stack { asked_of (codes "vst" ∷ codes "check" ∷ codes "--stack" ∷ codes "lock" ∷ codes "--stack" ∷ codes "lock" ∷ []) ≡ None }
+    ensures bare_stack { asked_of (codes "vst" ∷ codes "check" ∷ codes "lock" ∷ []) ≡ None }
     ensures no_stack_not_taken { takes_words (codes "vst" ∷ codes "check" ∷ []) ≡ false }
 
     // No stack of these words.
-    ensures unknown_stack { command_of (codes "vst" ∷ codes "check" ∷ codes "--stack" ∷ codes "frob" ∷ []) ≡ None }
-    ensures empty_stack { command_of (codes "vst" ∷ codes "check" ∷ codes "--stack" ∷ codes "" ∷ []) ≡ None }
-    ensures stack_cut_short { command_of (codes "vst" ∷ codes "check" ∷ codes "--stack" ∷ codes "lock/" ∷ []) ≡ None }
-    ensures stack_too_long { command_of (codes "vst" ∷ codes "check" ∷ codes "--stack" ∷ codes "kv/" ∷ []) ≡ None }
-    ensures stack_upper_case { command_of (codes "vst" ∷ codes "check" ∷ codes "--stack" ∷ codes "Lock" ∷ []) ≡ None }
+    ensures unknown_stack { asked_of (codes "vst" ∷ codes "check" ∷ codes "--stack" ∷ codes "frob" ∷ []) ≡ None }
+    ensures empty_stack { asked_of (codes "vst" ∷ codes "check" ∷ codes "--stack" ∷ codes "" ∷ []) ≡ None }
+    ensures stack_cut_short { asked_of (codes "vst" ∷ codes "check" ∷ codes "--stack" ∷ codes "lock/" ∷ []) ≡ None }
+    ensures stack_too_long { asked_of (codes "vst" ∷ codes "check" ∷ codes "--stack" ∷ codes "kv/" ∷ []) ≡ None }
+    ensures stack_upper_case { asked_of (codes "vst" ∷ codes "check" ∷ codes "--stack" ∷ codes "Lock" ∷ []) ≡ None }
     ensures unknown_stack_not_taken { takes_words (codes "vst" ∷ codes "check" ∷ codes "--stack" ∷ codes "frob" ∷ []) ≡ false }
 
+    // A node without its options.
+    ensures node { asked_of (codes "vst" ∷ codes "node" ∷ []) ≡ None }
+
     // Options that there are not, and options in another place.
-    ensures one_hyphen { command_of (codes "vst" ∷ codes "check" ∷ codes "-stack" ∷ codes "lock" ∷ []) ≡ None }
-    ensures short_form { command_of (codes "vst" ∷ codes "check" ∷ codes "-s" ∷ codes "lock" ∷ []) ≡ None }
-    ensures option_upper_case { command_of (codes "vst" ∷ codes "check" ∷ codes "--Stack" ∷ codes "lock" ∷ []) ≡ None }
-    ensures option_cut_short { command_of (codes "vst" ∷ codes "check" ∷ codes "--stac" ∷ codes "lock" ∷ []) ≡ None }
-    ensures replay_with_stack { command_of (codes "vst" ∷ codes "replay" ∷ codes "--stack" ∷ codes "lock" ∷ []) ≡ None }
-    ensures stack_before_check { command_of (codes "vst" ∷ codes "--stack" ∷ codes "lock" ∷ codes "check" ∷ []) ≡ None }
-    ensures two_commands { command_of (codes "vst" ∷ codes "check" ∷ codes "--stack" ∷ codes "lock" ∷ codes "replay" ∷ []) ≡ None }
+    ensures one_hyphen { asked_of (codes "vst" ∷ codes "check" ∷ codes "-stack" ∷ codes "lock" ∷ []) ≡ None }
+    ensures short_form { asked_of (codes "vst" ∷ codes "check" ∷ codes "-s" ∷ codes "lock" ∷ []) ≡ None }
+    ensures option_upper_case { asked_of (codes "vst" ∷ codes "check" ∷ codes "--Stack" ∷ codes "lock" ∷ []) ≡ None }
+    ensures option_cut_short { asked_of (codes "vst" ∷ codes "check" ∷ codes "--stac" ∷ codes "lock" ∷ []) ≡ None }
+    ensures replay_with_stack { asked_of (codes "vst" ∷ codes "replay" ∷ codes "--stack" ∷ codes "lock" ∷ []) ≡ None }
+    ensures stack_before_check { asked_of (codes "vst" ∷ codes "--stack" ∷ codes "lock" ∷ codes "check" ∷ []) ≡ None }
+    ensures two_commands { asked_of (codes "vst" ∷ codes "check" ∷ codes "--stack" ∷ codes "lock" ∷ codes "replay" ∷ []) ≡ None }
 
     // Calls for help or the version.
-    ensures check_help_option { command_of (codes "vst" ∷ codes "check" ∷ codes "--help" ∷ []) ≡ None }
-    ensures help_for_a_stack { command_of (codes "vst" ∷ codes "check" ∷ codes "--stack" ∷ codes "lock" ∷ codes "--help" ∷ []) ≡ None }
-    ensures stack_of_help { command_of (codes "vst" ∷ codes "check" ∷ codes "--stack" ∷ codes "--help" ∷ []) ≡ None }
-    ensures help_option { command_of (codes "vst" ∷ codes "--help" ∷ []) ≡ None }
-    ensures help_flag { command_of (codes "vst" ∷ codes "-h" ∷ []) ≡ None }
-    ensures help { command_of (codes "vst" ∷ codes "help" ∷ []) ≡ None }
-    ensures help_with_replay { command_of (codes "vst" ∷ codes "help" ∷ codes "replay" ∷ []) ≡ None }
-    ensures replay_help_option { command_of (codes "vst" ∷ codes "replay" ∷ codes "--help" ∷ []) ≡ None }
-    ensures replay_help_flag { command_of (codes "vst" ∷ codes "replay" ∷ codes "-h" ∷ []) ≡ None }
-    ensures version { command_of (codes "vst" ∷ codes "--version" ∷ []) ≡ None }
+    ensures check_help_option { asked_of (codes "vst" ∷ codes "check" ∷ codes "--help" ∷ []) ≡ None }
+    ensures help_for_a_stack { asked_of (codes "vst" ∷ codes "check" ∷ codes "--stack" ∷ codes "lock" ∷ codes "--help" ∷ []) ≡ None }
+    ensures stack_of_help { asked_of (codes "vst" ∷ codes "check" ∷ codes "--stack" ∷ codes "--help" ∷ []) ≡ None }
+    ensures help_option { asked_of (codes "vst" ∷ codes "--help" ∷ []) ≡ None }
+    ensures help_flag { asked_of (codes "vst" ∷ codes "-h" ∷ []) ≡ None }
+    ensures help { asked_of (codes "vst" ∷ codes "help" ∷ []) ≡ None }
+    ensures help_with_replay { asked_of (codes "vst" ∷ codes "help" ∷ codes "replay" ∷ []) ≡ None }
+    ensures replay_help_option { asked_of (codes "vst" ∷ codes "replay" ∷ codes "--help" ∷ []) ≡ None }
+    ensures replay_help_flag { asked_of (codes "vst" ∷ codes "replay" ∷ codes "-h" ∷ []) ≡ None }
+    ensures version { asked_of (codes "vst" ∷ codes "--version" ∷ []) ≡ None }
 {}
 
 /// The words that ask for a made schedule, on examples.
@@ -115,36 +118,36 @@ pub fn worked_schedules()
     ensures no_stack { takes_words (codes "vst" ∷ codes "make" ∷ codes "--seed=1" ∷ codes "--steps=1" ∷ []) ≡ false }
     ensures no_seed { takes_words (codes "vst" ∷ codes "make" ∷ codes "--stack=lock" ∷ codes "--steps=1" ∷ []) ≡ false }
     ensures no_steps { takes_words (codes "vst" ∷ codes "make" ∷ codes "--stack=lock" ∷ codes "--seed=1" ∷ []) ≡ false }
-    ensures no_value { command_of (codes "vst" ∷ codes "make" ∷ codes "--stack=lock" ∷ codes "--seed=1" ∷ codes "--steps" ∷ []) ≡ None }
-    ensures empty_value { command_of (codes "vst" ∷ codes "make" ∷ codes "--stack=lock" ∷ codes "--seed=" ∷ codes "--steps=1" ∷ []) ≡ None }
+    ensures no_value { asked_of (codes "vst" ∷ codes "make" ∷ codes "--stack=lock" ∷ codes "--seed=1" ∷ codes "--steps" ∷ []) ≡ None }
+    ensures empty_value { asked_of (codes "vst" ∷ codes "make" ∷ codes "--stack=lock" ∷ codes "--seed=" ∷ codes "--steps=1" ∷ []) ≡ None }
 
     // No such stack.
-    ensures machine_alone { command_of (codes "vst" ∷ codes "make" ∷ codes "--stack=kv" ∷ codes "--seed=1" ∷ codes "--steps=1" ∷ [])
+    ensures machine_alone { asked_of (codes "vst" ∷ codes "make" ∷ codes "--stack=kv" ∷ codes "--seed=1" ∷ codes "--steps=1" ∷ [])
         ≡ None }
-    ensures table_alone { command_of (codes "vst" ∷ codes "make" ∷ codes "--stack=table" ∷ codes "--seed=1" ∷ codes "--steps=1" ∷ [])
+    ensures table_alone { asked_of (codes "vst" ∷ codes "make" ∷ codes "--stack=table" ∷ codes "--seed=1" ∷ codes "--steps=1" ∷ [])
         ≡ None }
-    ensures unknown_stack { command_of (codes "vst" ∷ codes "make" ∷ codes "--stack=table/pb" ∷ codes "--seed=1" ∷ codes "--steps=1" ∷ [])
+    ensures unknown_stack { asked_of (codes "vst" ∷ codes "make" ∷ codes "--stack=table/pb" ∷ codes "--seed=1" ∷ codes "--steps=1" ∷ [])
         ≡ None }
 
     // No such number.
-    ensures seed_too_great { command_of (codes "vst" ∷ codes "make" ∷ codes "--stack=lock" ∷ codes "--seed=4294967296" ∷ codes "--steps=1" ∷ [])
+    ensures seed_too_great { asked_of (codes "vst" ∷ codes "make" ∷ codes "--stack=lock" ∷ codes "--seed=4294967296" ∷ codes "--steps=1" ∷ [])
         ≡ None }
-    ensures too_many_steps { command_of (codes "vst" ∷ codes "make" ∷ codes "--stack=lock" ∷ codes "--seed=1" ∷ codes "--steps=1000001" ∷ [])
+    ensures too_many_steps { asked_of (codes "vst" ∷ codes "make" ∷ codes "--stack=lock" ∷ codes "--seed=1" ∷ codes "--steps=1000001" ∷ [])
         ≡ None }
-    ensures negative { command_of (codes "vst" ∷ codes "make" ∷ codes "--stack=lock" ∷ codes "--seed=-1" ∷ codes "--steps=1" ∷ []) ≡ None }
-    ensures no_number { command_of (codes "vst" ∷ codes "make" ∷ codes "--stack=lock" ∷ codes "--seed=1" ∷ codes "--steps=1e3" ∷ [])
+    ensures negative { asked_of (codes "vst" ∷ codes "make" ∷ codes "--stack=lock" ∷ codes "--seed=-1" ∷ codes "--steps=1" ∷ []) ≡ None }
+    ensures no_number { asked_of (codes "vst" ∷ codes "make" ∷ codes "--stack=lock" ∷ codes "--seed=1" ∷ codes "--steps=1e3" ∷ [])
         ≡ None }
-    ensures minus_as_a_word { command_of (codes "vst" ∷ codes "make" ∷ codes "--stack=lock" ∷ codes "--seed" ∷ codes "-0" ∷ codes "--steps=1" ∷ [])
+    ensures minus_as_a_word { asked_of (codes "vst" ∷ codes "make" ∷ codes "--stack=lock" ∷ codes "--seed" ∷ codes "-0" ∷ codes "--steps=1" ∷ [])
         ≡ None }
 
     // Too much.
-    ensures second_seed { command_of (codes "vst" ∷ codes "make" ∷ codes "--stack=lock" ∷ codes "--seed=1" ∷ codes "--seed=1" ∷ codes "--steps=1" ∷ [])
+    ensures second_seed { asked_of (codes "vst" ∷ codes "make" ∷ codes "--stack=lock" ∷ codes "--seed=1" ∷ codes "--seed=1" ∷ codes "--steps=1" ∷ [])
         ≡ None }
-    ensures second_summary { command_of (codes "vst" ∷ codes "make" ∷ codes "--stack=lock" ∷ codes "--seed=1" ∷ codes "--steps=1" ∷ codes "--summary" ∷ codes "--summary" ∷ [])
+    ensures second_summary { asked_of (codes "vst" ∷ codes "make" ∷ codes "--stack=lock" ∷ codes "--seed=1" ∷ codes "--steps=1" ∷ codes "--summary" ∷ codes "--summary" ∷ [])
         ≡ None }
-    ensures summary_with_a_value { command_of (codes "vst" ∷ codes "make" ∷ codes "--stack=lock" ∷ codes "--seed=1" ∷ codes "--steps=1" ∷ codes "--summary=true" ∷ [])
+    ensures summary_with_a_value { asked_of (codes "vst" ∷ codes "make" ∷ codes "--stack=lock" ∷ codes "--seed=1" ∷ codes "--steps=1" ∷ codes "--summary=true" ∷ [])
         ≡ None }
-    ensures one_word_too_many { command_of (codes "vst" ∷ codes "make" ∷ codes "--stack=lock" ∷ codes "--seed=1" ∷ codes "--steps=1" ∷ codes "x" ∷ [])
+    ensures one_word_too_many { asked_of (codes "vst" ∷ codes "make" ∷ codes "--stack=lock" ∷ codes "--seed=1" ∷ codes "--steps=1" ∷ codes "x" ∷ [])
         ≡ None }
 
     // What a number is, and which schedules can be made.
@@ -153,4 +156,94 @@ pub fn worked_schedules()
     ensures can_be { IfMakes (Command.Make (made_schedule StackId.Lock 4294967295 1000000)) CanBeMade }
     ensures without_packets { ¬ CanBeMade (made_schedule StackId.Table 0 0) }
     ensures with_too_many_steps { ¬ CanBeMade (made_schedule StackId.Lock 0 1000001) }
+{}
+
+/// The words that ask for a node, on examples.
+#[tactic(auto, unfolding(crate::proofs::OnLiterals::words_on_literals))]
+pub fn worked_nodes()
+    // In any order, and in each spelling that clap takes.
+    ensures apart { asked_of (codes "vst" ∷ codes "node" ∷ codes "--me" ∷ codes "0" ∷ codes "--turns" ∷ codes "5"
+        ∷ codes "--state" ∷ codes "here" ∷ []) ≡ Some (Asked.Node (node_words 0 5 (codes "here"))) }
+    ensures attached { asked_of (codes "vst" ∷ codes "node" ∷ codes "--state=here" ∷ codes "--turns=5" ∷ codes "--me=0" ∷ [])
+        ≡ Some (Asked.Node (node_words 0 5 (codes "here"))) }
+    ensures end_of_options { asked_of (codes "vst" ∷ codes "node" ∷ codes "--turns" ∷ codes "5" ∷ codes "--me=0"
+        ∷ codes "--state" ∷ codes "here" ∷ codes "--" ∷ []) ≡ Some (Asked.Node (node_words 0 5 (codes "here"))) }
+    ensures least { asked_of (codes "vst" ∷ codes "node" ∷ codes "--me=0" ∷ codes "--turns=1" ∷ codes "--state=here" ∷ [])
+        ≡ Some (Asked.Node (node_words 0 1 (codes "here"))) }
+    ensures greatest { asked_of (codes "vst" ∷ codes "node" ∷ codes "--me=8" ∷ codes "--turns=1000000000" ∷ codes "--state=here" ∷ [])
+        ≡ Some (Asked.Node (node_words 8 1000000000 (codes "here"))) }
+    ensures plus_and_zeros { asked_of (codes "vst" ∷ codes "node" ∷ codes "--me=+5" ∷ codes "--turns=007" ∷ codes "--state=here" ∷ [])
+        ≡ Some (Asked.Node (node_words 5 7 (codes "here"))) }
+    ensures minus { asked_of (codes "vst" ∷ codes "node" ∷ codes "--me=-0" ∷ codes "--turns=5" ∷ codes "--state=here" ∷ [])
+        ≡ Some (Asked.Node (node_words 0 5 (codes "here"))) }
+
+    // A directory is any text, but one that begins with a hyphen has to be attached; a hyphen alone is no option.
+    ensures spaces { asked_of (codes "vst" ∷ codes "node" ∷ codes "--me=0" ∷ codes "--turns=5" ∷ codes "--state" ∷ codes "/var/a b/" ∷ [])
+        ≡ Some (Asked.Node (node_words 0 5 (codes "/var/a b/"))) }
+    ensures equals_sign { asked_of (codes "vst" ∷ codes "node" ∷ codes "--me=0" ∷ codes "--turns=5" ∷ codes "--state=a=b" ∷ [])
+        ≡ Some (Asked.Node (node_words 0 5 (codes "a=b"))) }
+    ensures empty { asked_of (codes "vst" ∷ codes "node" ∷ codes "--me=0" ∷ codes "--turns=5" ∷ codes "--state" ∷ codes "" ∷ [])
+        ≡ Some (Asked.Node (node_words 0 5 (codes ""))) }
+    ensures empty_attached { asked_of (codes "vst" ∷ codes "node" ∷ codes "--me=0" ∷ codes "--turns=5" ∷ codes "--state=" ∷ [])
+        ≡ Some (Asked.Node (node_words 0 5 (codes ""))) }
+    ensures hyphen_attached { asked_of (codes "vst" ∷ codes "node" ∷ codes "--me=0" ∷ codes "--turns=5" ∷ codes "--state=-x" ∷ [])
+        ≡ Some (Asked.Node (node_words 0 5 (codes "-x"))) }
+    ensures hyphen_alone { asked_of (codes "vst" ∷ codes "node" ∷ codes "--me=0" ∷ codes "--turns=5" ∷ codes "--state" ∷ codes "-" ∷ [])
+        ≡ Some (Asked.Node (node_words 0 5 (codes "-"))) }
+    ensures hyphen_as_a_word { asked_of (codes "vst" ∷ codes "node" ∷ codes "--me=0" ∷ codes "--turns=5" ∷ codes "--state"
+        ∷ codes "-x" ∷ []) ≡ None }
+    ensures no_state_before_the_end { asked_of (codes "vst" ∷ codes "node" ∷ codes "--me=0" ∷ codes "--turns=5" ∷ codes "--state"
+        ∷ codes "--" ∷ []) ≡ None }
+
+    // An option that is missing, or has no value.
+    ensures no_options { takes_words (codes "vst" ∷ codes "node" ∷ []) ≡ false }
+    ensures no_me { takes_words (codes "vst" ∷ codes "node" ∷ codes "--turns=5" ∷ codes "--state=here" ∷ []) ≡ false }
+    ensures no_turns { takes_words (codes "vst" ∷ codes "node" ∷ codes "--me=0" ∷ codes "--state=here" ∷ []) ≡ false }
+    ensures no_state { takes_words (codes "vst" ∷ codes "node" ∷ codes "--me=0" ∷ codes "--turns=5" ∷ []) ≡ false }
+    ensures no_value { asked_of (codes "vst" ∷ codes "node" ∷ codes "--me=0" ∷ codes "--turns=5" ∷ codes "--state" ∷ []) ≡ None }
+    ensures no_me_attached { asked_of (codes "vst" ∷ codes "node" ∷ codes "--me=" ∷ codes "--turns=5" ∷ codes "--state=here" ∷ []) ≡ None }
+
+    // No such node, and no such number of turns.
+    ensures tenth_node { asked_of (codes "vst" ∷ codes "node" ∷ codes "--me=9" ∷ codes "--turns=5" ∷ codes "--state=here" ∷ []) ≡ None }
+    ensures past_a_byte { asked_of (codes "vst" ∷ codes "node" ∷ codes "--me=256" ∷ codes "--turns=5" ∷ codes "--state=here" ∷ []) ≡ None }
+    ensures minus_one { asked_of (codes "vst" ∷ codes "node" ∷ codes "--me=-1" ∷ codes "--turns=5" ∷ codes "--state=here" ∷ []) ≡ None }
+    ensures minus_as_a_word { asked_of (codes "vst" ∷ codes "node" ∷ codes "--me" ∷ codes "-0" ∷ codes "--turns=5"
+        ∷ codes "--state=here" ∷ []) ≡ None }
+    ensures no_number { asked_of (codes "vst" ∷ codes "node" ∷ codes "--me=a" ∷ codes "--turns=5" ∷ codes "--state=here" ∷ []) ≡ None }
+    ensures no_turn { asked_of (codes "vst" ∷ codes "node" ∷ codes "--me=0" ∷ codes "--turns=0" ∷ codes "--state=here" ∷ []) ≡ None }
+    ensures minus_no_turn { asked_of (codes "vst" ∷ codes "node" ∷ codes "--me=0" ∷ codes "--turns=-0" ∷ codes "--state=here" ∷ [])
+        ≡ None }
+    ensures too_many_turns { asked_of (codes "vst" ∷ codes "node" ∷ codes "--me=0" ∷ codes "--turns=1000000001"
+        ∷ codes "--state=here" ∷ []) ≡ None }
+
+    // Too much, and options that there are not.
+    ensures second_me { asked_of (codes "vst" ∷ codes "node" ∷ codes "--me=0" ∷ codes "--me=0" ∷ codes "--turns=5"
+        ∷ codes "--state=here" ∷ []) ≡ None }
+    ensures second_turns { asked_of (codes "vst" ∷ codes "node" ∷ codes "--me=0" ∷ codes "--turns=5" ∷ codes "--turns=5"
+        ∷ codes "--state=here" ∷ []) ≡ None }
+    ensures second_state { asked_of (codes "vst" ∷ codes "node" ∷ codes "--me=0" ∷ codes "--turns=5" ∷ codes "--state=here"
+        ∷ codes "--state=here" ∷ []) ≡ None }
+    ensures stack { asked_of (codes "vst" ∷ codes "node" ∷ codes "--me=0" ∷ codes "--turns=5" ∷ codes "--state=here"
+        ∷ codes "--stack=lock" ∷ []) ≡ None }
+    ensures one_word_too_many { asked_of (codes "vst" ∷ codes "node" ∷ codes "--me=0" ∷ codes "--turns=5" ∷ codes "--state=here"
+        ∷ codes "x" ∷ []) ≡ None }
+    ensures bare_me { asked_of (codes "vst" ∷ codes "node" ∷ codes "0" ∷ codes "--turns=5" ∷ codes "--state=here" ∷ []) ≡ None }
+    ensures short_form { asked_of (codes "vst" ∷ codes "node" ∷ codes "-m" ∷ codes "0" ∷ codes "--turns=5" ∷ codes "--state=here" ∷ [])
+        ≡ None }
+    ensures state_of_help { asked_of (codes "vst" ∷ codes "node" ∷ codes "--me=0" ∷ codes "--turns=5" ∷ codes "--state"
+        ∷ codes "--help" ∷ []) ≡ None }
+
+    // A node is no command over texts, nor the other way round.
+    ensures no_command { command_of (codes "vst" ∷ codes "node" ∷ codes "--me=0" ∷ codes "--turns=5" ∷ codes "--state=here" ∷ []) ≡ None }
+    ensures node { node_of (codes "vst" ∷ codes "node" ∷ codes "--me=0" ∷ codes "--turns=5" ∷ codes "--state=here" ∷ [])
+        ≡ Some (node_words 0 5 (codes "here")) }
+    ensures texts { asked_of (codes "vst" ∷ codes "replay" ∷ []) ≡ Some (Asked.Texts Command.Replay) }
+    ensures no_node { node_of (codes "vst" ∷ codes "replay" ∷ []) ≡ None }
+
+    // What a byte is, and which nodes can be run.
+    ensures bytes { (number_of_bits 8 (codes "255") ≡ Some 255) × (number_of_bits 8 (codes "256") ≡ None) }
+    ensures can_be { CanBeRun (node_words 8 1000000000 []) × CanBeRun (node_words 0 1 []) }
+    ensures past_the_nodes { ¬ CanBeRun (node_words 9 1 []) }
+    ensures without_turns { ¬ CanBeRun (node_words 0 0 []) }
+    ensures with_too_many_turns { ¬ CanBeRun (node_words 0 1000000001 []) }
 {}

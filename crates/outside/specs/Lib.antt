@@ -1,4 +1,3 @@
 pub mod Counting
-pub mod Devices
 pub mod Streams
 pub mod Wholes

@@ -1,22 +1,17 @@
-ghost use Rattle.std.specs.Prelude.{◌≡◌, ◌-◌, ◌^◌, true, false, [], Some, None, codes};
+ghost use Rattle.std.specs.Prelude.{◌≡◌, ◌-◌, ◌^◌, [], Some, None, codes};
 ghost use Rattle.outside.specs.Counting.{Rose, counted};
-ghost use Rattle.outside.specs.Devices.{Begins};
 ghost use Rattle.outside.specs.Streams.{HasCause, IsRead, IsWritten};
 ghost use Rattle.outside.specs.Wholes.{Gained};
 
-use crate::{Begun, ReadOutcome, WriteOutcome};
+use crate::{ReadOutcome, WriteOutcome};
 
-/// Counts after one more, what counts as risen, and beginnings.
+/// Counts after one more, and what counts as risen.
 pub fn worked_counts()
     ensures one_more { counted 4 ≡ 5 }
     ensures stops { counted (2 ^ 64 - 1) ≡ 2 ^ 64 - 1 }
     ensures rises { Rose 4 5 }
     ensures as_it_was { Rose 4 4 → ⊥ }
     ensures at_the_greatest { Rose (2 ^ 64 - 1) (2 ^ 64 - 1) }
-    ensures begins { Begins false true 0 0 Begun.Ready }
-    ensures begins_without_having_begun { Begins false false 0 0 Begun.Ready → ⊥ }
-    ensures cannot_begin { Begins false false 0 1 Begun.Failed }
-    ensures begun_though_it_failed { Begins false true 0 1 Begun.Failed → ⊥ }
 {}
 
 /// Reads of `abc` into a buffer, at its end, and of a source that tells nothing.

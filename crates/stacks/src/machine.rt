@@ -13,13 +13,16 @@ use claim_verdicts::{Verdict, backup_verdict, cluster_verdict, schedule_verdict}
 use primary_backup::PrimaryBackup;
 use raft_text::RaftText;
 use raft_types::{RaftInput, RaftOut};
+use runs_in_bytes::{
+    BackedCommands, BackedNumberedCommands, ClusterInBytes, ClusteredCommands, RunningInBytes,
+};
 use schedule_make::{ByClients, MakesInputs};
 use schedule_text::Header;
 use single_node::SingleNode;
 use std::alloc::{AllocError, Global};
 use std::marker::PhantomData;
 use vst_base::{Machine, Net, PbOut, StackId, Step};
-use xform_stack::{Itself, RepliedTo, Running, RunningCluster, SeqNum};
+use xform_stack::{Itself, RepliedTo, Running, SeqNum};
 
 /// A machine with its texts, which alone is a stack.
 pub trait Application: Machine {
@@ -110,7 +113,10 @@ impl<M: Application> StackCode for Alone<M> {
     }
 }
 
-impl<M: Application> StackCode for Backed<M> {
+impl<M: Application> StackCode for Backed<M>
+where
+    M::Cmd: BackedCommands,
+{
     type Input = M::Cmd;
 
     type Output = PbOut<M::Out>;
@@ -123,7 +129,7 @@ impl<M: Application> StackCode for Backed<M> {
 
     type Inputs = M::Inputs;
 
-    type Running = Running<PrimaryBackup<M>, RepliedTo<M::Cmd>>;
+    type Running = RunningInBytes<PrimaryBackup<M>, RepliedTo<M::Cmd>>;
 
     ghost stack = { λ _. (backed M.own (M.meaning M.machine) (texts_of M.Text.input_of M.Text.input_text M.Text.output_of M.Text.output_text M.Text.replies) M.Inputs.inputs).stack };
 
@@ -136,7 +142,7 @@ impl<M: Application> StackCode for Backed<M> {
     }
 
     fn start(alloc: Global, _nodes: u8) -> Result<Self::Running, AllocError> {
-        Running::new(alloc, PrimaryBackup::new(M::machine()), Net::Bag)
+        RunningInBytes::new(alloc, PrimaryBackup::new(M::machine()), Net::Bag)
     }
 
     fn verdict(
@@ -148,7 +154,10 @@ impl<M: Application> StackCode for Backed<M> {
     }
 }
 
-impl<M: Application> StackCode for BackedNumbered<M> {
+impl<M: Application> StackCode for BackedNumbered<M>
+where
+    M::Cmd: BackedNumberedCommands,
+{
     type Input = M::Cmd;
 
     type Output = PbOut<M::Out>;
@@ -161,7 +170,7 @@ impl<M: Application> StackCode for BackedNumbered<M> {
 
     type Inputs = M::Inputs;
 
-    type Running = Running<SeqNum<PrimaryBackup<M>>, RepliedTo<M::Cmd>>;
+    type Running = RunningInBytes<SeqNum<PrimaryBackup<M>>, RepliedTo<M::Cmd>>;
 
     ghost stack = { λ _. (backed_numbered M.own (M.meaning M.machine) (texts_of M.Text.input_of M.Text.input_text M.Text.output_of M.Text.output_text M.Text.replies) M.Inputs.inputs).stack };
 
@@ -175,7 +184,7 @@ impl<M: Application> StackCode for BackedNumbered<M> {
 
     fn start(alloc: Global, _nodes: u8) -> Result<Self::Running, AllocError> {
         let handlers = SeqNum::new(PrimaryBackup::new(M::machine()));
-        Running::new(alloc, handlers, Net::Dup)
+        RunningInBytes::new(alloc, handlers, Net::Dup)
     }
 
     fn verdict(
@@ -187,7 +196,10 @@ impl<M: Application> StackCode for BackedNumbered<M> {
     }
 }
 
-impl<M: Application> StackCode for Clustered<M> {
+impl<M: Application> StackCode for Clustered<M>
+where
+    M::Cmd: ClusteredCommands,
+{
     type Input = RaftInput<M::Cmd>;
 
     type Output = RaftOut<M::Out>;
@@ -200,7 +212,7 @@ impl<M: Application> StackCode for Clustered<M> {
 
     type Inputs = ByClients<M::Inputs>;
 
-    type Running = RunningCluster<M>;
+    type Running = ClusterInBytes<M>;
 
     ghost stack = { λ n. (clustered (M.meaning M.machine) (texts_of M.Text.input_of M.Text.input_text M.Text.output_of M.Text.output_text M.Text.replies) M.Inputs.inputs n).stack };
 
@@ -213,7 +225,7 @@ impl<M: Application> StackCode for Clustered<M> {
     }
 
     fn start(alloc: Global, nodes: u8) -> Result<Self::Running, AllocError> {
-        RunningCluster::new(alloc, M::machine(), nodes)
+        ClusterInBytes::new(alloc, M::machine(), nodes)
     }
 
     fn verdict(

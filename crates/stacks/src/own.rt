@@ -14,12 +14,13 @@ use app_text::AppText;
 use check_text::{Claim, Steps};
 use claim_verdicts::{Verdict, schedule_verdict};
 use handler_trait::Handlers;
+use runs_in_bytes::{OnWire, OnWireNumbered, RunningInBytes};
 use schedule_make::MakesInputs;
 use schedule_text::{Header, headers_follow_the_rows};
 use std::alloc::{AllocError, Global};
 use std::marker::PhantomData;
 use vst_base::{Net, StackId, Step};
-use xform_stack::{Itself, Running, SeqNum, WithoutRepeats};
+use xform_stack::{Itself, SeqNum, WithoutRepeats};
 
 /// Handlers that are a stack by themselves, without a transformer, on a network that carries packets and stops no node.
 pub trait OwnStack: Handlers {
@@ -92,7 +93,7 @@ fn own_verdict<H: OwnStack>(
     }
 }
 
-impl<H: OwnStack> StackCode for Plain<H> {
+impl<H: OwnStack + OnWire> StackCode for Plain<H> {
     type Input = H::Input;
 
     type Output = H::Output;
@@ -105,7 +106,7 @@ impl<H: OwnStack> StackCode for Plain<H> {
 
     type Inputs = H::Inputs;
 
-    type Running = Running<H, Itself<H::Input>>;
+    type Running = RunningInBytes<H, Itself<H::Input>>;
 
     ghost stack = { λ n. (plain H.own (λ k. H.meaning (H.of_nodes k)) (texts_of H.Text.input_of H.Text.input_text H.Text.output_of H.Text.output_text H.Text.replies) H.Inputs.inputs n).stack };
 
@@ -118,7 +119,7 @@ impl<H: OwnStack> StackCode for Plain<H> {
     }
 
     fn start(alloc: Global, nodes: u8) -> Result<Self::Running, AllocError> {
-        Running::new(alloc, H::of_nodes(nodes), H::own().row().net)
+        RunningInBytes::new(alloc, H::of_nodes(nodes), H::own().row().net)
     }
 
     fn verdict(
@@ -130,7 +131,7 @@ impl<H: OwnStack> StackCode for Plain<H> {
     }
 }
 
-impl<H: OwnStack> StackCode for Numbered<H> {
+impl<H: OwnStack + OnWireNumbered> StackCode for Numbered<H> {
     type Input = H::Input;
 
     type Output = H::Output;
@@ -143,7 +144,7 @@ impl<H: OwnStack> StackCode for Numbered<H> {
 
     type Inputs = H::Inputs;
 
-    type Running = Running<SeqNum<H>, WithoutRepeats<H::Input>>;
+    type Running = RunningInBytes<SeqNum<H>, WithoutRepeats<H::Input>>;
 
     ghost stack = { λ n. (numbered H.own (λ k. H.meaning (H.of_nodes k)) (texts_of H.Text.input_of H.Text.input_text H.Text.output_of H.Text.output_text H.Text.replies) H.Inputs.inputs n).stack };
 
@@ -156,7 +157,7 @@ impl<H: OwnStack> StackCode for Numbered<H> {
     }
 
     fn start(alloc: Global, nodes: u8) -> Result<Self::Running, AllocError> {
-        Running::new(alloc, SeqNum::new(H::of_nodes(nodes)), Net::Dup)
+        RunningInBytes::new(alloc, SeqNum::new(H::of_nodes(nodes)), Net::Dup)
     }
 
     fn verdict(

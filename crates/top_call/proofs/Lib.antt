@@ -1,2 +1,1 @@
-pub mod Complained
-pub mod Endings
+pub mod Untaken

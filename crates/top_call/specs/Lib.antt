@@ -1,6 +1,2 @@
-pub mod Answers
-pub mod Complaints
-pub mod Examples
-pub mod Runs
-pub mod Seen
+pub mod Requests
 pub mod Statuses

@@ -1,98 +1,60 @@
--- What each status of the program says of a run: one record for each. Told contents are optional; what is said of them holds where
--- they are told. What a check leaves on the output is said whatever its input tells (`verdict`).
-use Rattle.std.specs.Prelude.{◌≡◌, ◌⊎◌, ℕ, ◌+◌, ◌≤◌, false, List, length, IsTrue, Option, None, IfSome}
-use Rattle.std.specs.Bool.{OnTrue}
-use Rattle.outside.specs.Counting.{Rose}
-use Rattle.outside.specs.Wholes.{Gained, GainedFront, Gave}
-use Rattle.line_reader.specs.declared.why.Why.{Why}
-use Rattle.line_reader.specs.Lines.{decided, split_lines}
-use Rattle.schedule_text.specs.Printing.{refusal_line}
-use Rattle.command_line.specs.CommandSet.{takes_words}
-use Rattle.command_line.specs.declared.command.Command.{Command}
-use Rattle.top_call.specs.Answers.{condition_line, is_check, memory_line, permitted_line, read_failed_line, reads, so_far_by, usage_line}
-use Rattle.top_call.specs.Complaints.{WasSaying}
-use Rattle.top_call.specs.Runs.{IfAnswered, IsExplained, IsReadToEnd, IsRefuted}
-use Rattle.top_call.specs.Seen.{IsQuiet, Run, WritesQuietly}
+-- What each status of the program says of a run, by what its words ask for.
+use Rattle.std.specs.Prelude.{◌≡◌, ◌⊎◌, ℕ, Option}
+use Rattle.command_line.specs.declared.asked.Asked.{Asked}
+use Rattle.node_command.specs.Complete as node_answers
+use Rattle.node_command.specs.Seen.{NodeRun}
+use Rattle.node_command.specs.Statuses as node
+use Rattle.node_command.specs.declared.trouble.Trouble.TheVariants as trouble
+use Rattle.text_commands.specs.Runs as text_answers
+use Rattle.text_commands.specs.Statuses as texts
+use Rattle.udp_node.specs.declared.fault.NodeFault.TheVariants as fault
+use Rattle.top_call.specs.Requests.{By}
 
 -- a status of the program
 abbrev pub IsStatus : ℕ → Type 0
-IsStatus n = (n ≡ 0) ⊎ (n ≡ 1) ⊎ (n ≡ 2) ⊎ (n ≡ 3) ⊎ (n ≡ 4) ⊎ (n ≡ 5) ⊎ (n ≡ 8)
+IsStatus n = (n ≡ 0) ⊎ (n ≡ 1) ⊎ (n ≡ 2) ⊎ (n ≡ 3) ⊎ (n ≡ 4) ⊎ (n ≡ 5) ⊎ (n ≡ 6) ⊎ (n ≡ 7) ⊎ (n ≡ 8) ⊎ (n ≡ 9)
 
--- 0: a command that reads has read its input to its end, the output gained the whole answer, and the error stream nothing
-pub record IsDone (command : Option Command) (r : Run) : Type 0 where
-  pub ended : IsReadToEnd command r
-  pub status : IfAnswered command r (λ answer. answer.status ≡ 0)
-  pub out : IfAnswered command r (λ answer. Gained r.before.out.written r.after.out.written answer.out)
-  pub verdict : OnTrue (is_check command) (Gained r.before.out.written r.after.out.written permitted_line)
-  pub err : r.after.err ≡ r.before.err
-  pub explained : IsExplained command r
-  pub quiet : IsQuiet r
+module _ (asked : Option Asked) (r : NodeRun) where
+  -- where no call failed, the status is the answer's, or 8
+  abbrev pub IsComplete : ℕ → Type 0
+  IsComplete result = By asked (λ command. text_answers.IsComplete command r.streams result) (λ w. node_answers.IsComplete w r result)
 
--- 1: a condition of a claim is false. The claim was read to its end, the output is as it was, and the error stream gained the
--- condition and its line
-pub record IsDenied (command : Option Command) (r : Run) : Type 0 where
-  pub condition : ℕ
-  pub line : ℕ
-  pub ended : IsReadToEnd command r
-  pub status : IfAnswered command r (λ answer. answer.status ≡ 1)
-  pub named : IfAnswered command r (λ answer. answer.err ≡ condition_line condition line)
-  pub out : r.after.out ≡ r.before.out
-  pub err : Gained r.before.err.written r.after.err.written (condition_line condition line)
-  pub refuted : IsRefuted command r
-  pub quiet : IsQuiet r
+  -- what the device was used for, whatever the status is: for nothing, or for a node's run
+  abbrev pub HasRun : Type 0
+  HasRun = By asked (λ command. r.after ≡ r.before) (λ w. node.HasCome w r)
 
--- 2: the words are refused, and nothing was read or written but this
-pub record AreWordsRefused (words : List (List ℕ)) (r : Run) : Type 0 where
-  pub not_taken : takes_words words ≡ false
-  pub input : r.after.input ≡ r.before.input
-  pub out : r.after.out ≡ r.before.out
-  pub err : Gained r.before.err.written r.after.err.written usage_line
-  pub quiet : IsQuiet r
+  -- 0
+  abbrev pub IsDone : Type 0
+  IsDone = By asked (λ command. texts.IsDone command r.streams) (λ w. node.IsDone w r)
 
--- 3: a line is refused, the output gained what the command writes before it, and the error stream its line. At most 4,096 bytes of
--- the input were given past the byte that decided it
-pub record IsLineRefused (command : Option Command) (r : Run) : Type 0 where
-  pub line : ℕ
-  pub why : Why
-  pub reading : IsTrue (reads command)
-  pub status : IfAnswered command r (λ answer. answer.status ≡ 3)
-  pub named : IfAnswered command r (λ answer. answer.err ≡ refusal_line line why)
-  pub ahead : IfSome r.before.input.left (λ bytes. (given : List ℕ) × Gave r.before.input.left r.after.input.left given × (length given ≤ decided line bytes + 4096))
-  pub out : IfAnswered command r (λ answer. Gained r.before.out.written r.after.out.written answer.out)
-  pub verdict : OnTrue (is_check command) (r.after.out ≡ r.before.out)
-  pub err : Gained r.before.err.written r.after.err.written (refusal_line line why)
-  pub quiet : IsQuiet r
+  -- 1
+  abbrev pub IsDenied : Type 0
+  IsDenied = By asked (λ command. texts.IsDenied command r.streams) (λ w. ⊥)
 
--- of an input that broke off these bytes were given: none of their whole lines is refused, what comes after the last of these is
--- not too long yet, and the output gained exactly what the command writes for them
-pub record BrokeOff (command : Option Command) (r : Run) : Type 0 where
-  pub given : List ℕ
-  pub gave : Gave r.before.input.left r.after.input.left given
-  pub short : length (split_lines given).1 ≤ 4096
-  pub taken : (so_far_by command given).refused ≡ None
-  pub out : Gained r.before.out.written r.after.out.written (so_far_by command given).out
+  -- 3
+  abbrev pub IsInputRefused : Type 0
+  IsInputRefused = By asked (λ command. texts.IsLineRefused command r.streams) (λ w. node.IsConfigRefused w r)
 
--- 4: a read failed, and the error stream gained the line that says so
-pub record HasReadFailed (command : Option Command) (r : Run) : Type 0 where
-  pub reading : IsTrue (reads command)
-  pub rose : Rose r.before.input.faults r.after.input.faults
-  pub given : IfSome r.before.input.left (λ bytes. BrokeOff command r)
-  pub verdict : OnTrue (is_check command) (r.after.out ≡ r.before.out)
-  pub err : Gained r.before.err.written r.after.err.written read_failed_line
-  pub quiet : WritesQuietly r
+  -- 4
+  abbrev pub HasReadFailed : Type 0
+  HasReadFailed = By asked (λ command. texts.HasReadFailed command r.streams) (λ w. node.EndsBy w r trouble.Read)
 
--- a front of the answer was written on the output
-pub record WroteFront (command : Option Command) (r : Run) : Type 0 where
-  pub out : IfAnswered command r (λ answer. GainedFront r.before.out.written r.after.out.written answer.out)
-  pub verdict : OnTrue (is_check command) (GainedFront r.before.out.written r.after.out.written permitted_line)
+  -- 5
+  abbrev pub HasWriteFailed : Type 0
+  HasWriteFailed = By asked (λ command. texts.HasWriteFailed command r.streams) (λ w. node.HasWriteFailed w r)
 
--- 5: a write failed: one of the output, and the error stream is as it was; or one of the error stream, while it gained a line that
--- the run may say
-pub record HasWriteFailed (command : Option Command) (r : Run) : Type 0 where
-  pub front : WroteFront command r
-  pub err : (Rose r.before.out.faults r.after.out.faults × (r.after.err ≡ r.before.err)) ⊎ (Rose r.before.err.faults r.after.err.faults × WasSaying command r)
+  -- 6
+  abbrev pub HasListeningFailed : Type 0
+  HasListeningFailed = By asked (λ command. ⊥) (λ w. node.HasListeningFailed w r)
 
--- 8: want of memory. The error stream gained its line; or it wanted memory itself, while it gained a line that the run may say
-pub record IsOutOfMemory (command : Option Command) (r : Run) : Type 0 where
-  pub front : WroteFront command r
-  pub err : Gained r.before.err.written r.after.err.written memory_line ⊎ (Rose r.before.err.wants r.after.err.wants × WasSaying command r)
+  -- 7
+  abbrev pub HasStoreFailed : Type 0
+  HasStoreFailed = By asked (λ command. ⊥) (λ w. node.EndsBy w r (trouble.Ended fault.Store))
+
+  -- 8
+  abbrev pub IsOutOfMemory : Type 0
+  IsOutOfMemory = By asked (λ command. texts.IsOutOfMemory command r.streams) (λ w. node.IsOutOfMemory w r)
+
+  -- 9
+  abbrev pub AreAreasRefused : Type 0
+  AreAreasRefused = By asked (λ command. ⊥) (λ w. node.AreAreasRefused w r)

@@ -1,23 +1,24 @@
 ghost use Rattle.std.specs.Prelude.{◌≡◌, ℕ, None, map, string_bytes};
 ghost use Rattle.std.specs.Bool.{OnFalse};
-ghost use Rattle.top_call.specs.Answers.{asked, reads};
-ghost use Rattle.top_call.specs.Runs.{IsComplete};
-ghost use Rattle.top_call.specs.Seen.{KeepsCounts, ran};
-ghost use Rattle.top_call.specs.Statuses.{AreWordsRefused, HasReadFailed, HasWriteFailed};
-ghost use Rattle.top_call.specs.Statuses.{IsDenied, IsDone, IsLineRefused, IsOutOfMemory, IsStatus};
+ghost use Rattle.node_command.specs.Seen.{node_ran};
+ghost use Rattle.run_streams.specs.Seen.{KeepsCounts, ran};
+ghost use Rattle.text_commands.specs.Answers.{reads};
+ghost use Rattle.text_commands.specs.Statuses.{AreWordsRefused};
+ghost use Rattle.top_call.specs.Requests.{By, asked};
+ghost use Rattle.top_call.specs.Statuses.{AreAreasRefused, HasListeningFailed, HasReadFailed, HasRun, HasStoreFailed, HasWriteFailed};
+ghost use Rattle.top_call.specs.Statuses.{IsComplete, IsDenied, IsDone, IsInputRefused, IsOutOfMemory, IsStatus};
 
-use crate::Complaint;
-use crate::checking::run_check;
-use crate::making::{run_make, run_summary};
-use crate::replaying::run_replay;
-use crate::telling::tell;
-use command_line::{Command, read_words};
-use outside::{Device, Sink, Source};
+use command_line::{Asked, read_words};
+use node_command::run_node;
+use node_device::Device;
+use outside::{Sink, Source};
 use std::alloc::{AllocError, Global};
+use text_commands::{Complaint, run_command, tell};
 
-/// Runs the program: its words, its input, its output, its error stream and the device of a node, which no command
-/// uses yet. Answers the status: 0 done, 1 a condition of a claim is false, 2 the words are refused, 3 a line is refused, 4 the
-/// input could not be read, 5 a write failed, 8 want of memory.
+/// Runs the program: its words, its input, its output, its error stream and the device that a node runs on, which no other command
+/// uses. Answers the status: 0 done, 1 a condition of a claim is false, 2 the words are refused, 3 a line or the configuration is
+/// refused, 4 the input could not be read, 5 a write failed, 6 the device could not begin or a receive failed, 7 a store call failed,
+/// 8 want of memory, 9 the areas of a node are refused.
 pub fn run<S: Source, O: Sink, E: Sink, D: Device>(
     alloc: Global,
     words: &[String],
@@ -27,31 +28,38 @@ pub fn run<S: Source, O: Sink, E: Sink, D: Device>(
     device: &mut D,
 ) -> u8
     ensures status { IsStatus result }
-    ensures complete { IsComplete (asked words.now)
-        (ran S.Source O.Sink E.Sink input.old input.new out.old out.new err.old err.new) result }
-    ensures done { result ≡ 0 → IsDone (asked words.now) (ran S.Source O.Sink E.Sink input.old input.new out.old out.new err.old err.new) }
-    ensures denied { result ≡ 1 → IsDenied (asked words.now)
-        (ran S.Source O.Sink E.Sink input.old input.new out.old out.new err.old err.new) }
+    ensures complete { IsComplete (asked words.now) (node_ran (ran S.Source O.Sink E.Sink input.old input.new out.old out.new err.old err.new)
+        D.Device device.old device.new) result }
+    ensures ran { HasRun (asked words.now) (node_ran (ran S.Source O.Sink E.Sink input.old input.new out.old out.new err.old err.new)
+        D.Device device.old device.new) }
+    ensures done { result ≡ 0 → IsDone (asked words.now) (node_ran (ran S.Source O.Sink E.Sink input.old input.new out.old out.new err.old err.new)
+        D.Device device.old device.new) }
+    ensures denied { result ≡ 1 → IsDenied (asked words.now) (node_ran (ran S.Source O.Sink E.Sink input.old input.new out.old out.new err.old err.new)
+        D.Device device.old device.new) }
     ensures words { result ≡ 2 → AreWordsRefused (map string_bytes words.now)
         (ran S.Source O.Sink E.Sink input.old input.new out.old out.new err.old err.new) }
-    ensures refused { result ≡ 3 → IsLineRefused (asked words.now)
-        (ran S.Source O.Sink E.Sink input.old input.new out.old out.new err.old err.new) }
-    ensures read { result ≡ 4 → HasReadFailed (asked words.now)
-        (ran S.Source O.Sink E.Sink input.old input.new out.old out.new err.old err.new) }
-    ensures write { result ≡ 5 → HasWriteFailed (asked words.now)
-        (ran S.Source O.Sink E.Sink input.old input.new out.old out.new err.old err.new) }
-    ensures memory { result ≡ 8 → IsOutOfMemory (asked words.now)
-        (ran S.Source O.Sink E.Sink input.old input.new out.old out.new err.old err.new) }
-    ensures unread { OnFalse (reads (asked words.now)) (input.new ≡ input.old) }
+    ensures refused { result ≡ 3 → IsInputRefused (asked words.now) (node_ran (ran S.Source O.Sink E.Sink input.old input.new out.old out.new err.old err.new)
+        D.Device device.old device.new) }
+    ensures read { result ≡ 4 → HasReadFailed (asked words.now) (node_ran (ran S.Source O.Sink E.Sink input.old input.new out.old out.new err.old err.new)
+        D.Device device.old device.new) }
+    ensures write { result ≡ 5 → HasWriteFailed (asked words.now) (node_ran (ran S.Source O.Sink E.Sink input.old input.new out.old out.new err.old err.new)
+        D.Device device.old device.new) }
+    ensures listening { result ≡ 6 → HasListeningFailed (asked words.now) (node_ran (ran S.Source O.Sink E.Sink input.old input.new out.old out.new err.old err.new)
+        D.Device device.old device.new) }
+    ensures store { result ≡ 7 → HasStoreFailed (asked words.now) (node_ran (ran S.Source O.Sink E.Sink input.old input.new out.old out.new err.old err.new)
+        D.Device device.old device.new) }
+    ensures memory { result ≡ 8 → IsOutOfMemory (asked words.now) (node_ran (ran S.Source O.Sink E.Sink input.old input.new out.old out.new err.old err.new)
+        D.Device device.old device.new) }
+    ensures areas { result ≡ 9 → AreAreasRefused (asked words.now) (node_ran (ran S.Source O.Sink E.Sink input.old input.new out.old out.new err.old err.new)
+        D.Device device.old device.new) }
+    ensures unread { By (asked words.now) (λ command. OnFalse (reads command) (input.new ≡ input.old)) (λ w. Unit {0}) }
     ensures unwritten { asked words.now ≡ None → out.new ≡ out.old }
     ensures counts { KeepsCounts (ran S.Source O.Sink E.Sink input.old input.new out.old out.new err.old err.new) }
-    ensures device { device.new ≡ device.old }
+    ensures device { By (asked words.now) (λ command. device.new ≡ device.old) (λ w. Unit {0}) }
 {
     match read_words(alloc, words) {
-        Ok(Some(Command::Replay)) => run_replay(alloc, input, out, err),
-        Ok(Some(Command::Check(stack))) => run_check(alloc, stack, input, out, err),
-        Ok(Some(Command::Make(schedule))) => run_make(alloc, schedule, out, err),
-        Ok(Some(Command::Summarize(schedule))) => run_summary(alloc, schedule, out, err),
+        Ok(Some(Asked::Texts(command))) => run_command(alloc, command, input, out, err),
+        Ok(Some(Asked::Node(node))) => run_node(alloc, &node, input, out, err, device),
         Ok(None) => tell(alloc, err, Complaint::Words),
         Err(AllocError) => tell(alloc, err, Complaint::Memory),
     }

@@ -1,6 +1,5 @@
 use super::check_tests::comes_to;
-use super::replay_tests::{Ran, came_to, owned, run_over, sink, source};
-use outside::NoDevice;
+use super::replay_tests::{Ran, came_to, empty_device, owned, run_over, sink, source};
 use outside_mem::{SteadySink, SteadySource};
 use schedule_replay::{Done, replay};
 use std::alloc::{AllocError, Global};
@@ -30,7 +29,7 @@ fn make_to(
 fn made(alloc: Global, words: &[&str]) -> Result<(u8, Vec<u8>), AllocError> {
     let words = owned(alloc, words)?;
     let mut out = SteadySink::new(alloc);
-    let mut device = NoDevice::new();
+    let mut device = empty_device(alloc)?;
     let mut input = SteadySource::new(Vec::new(alloc));
     let status = run(
         alloc,

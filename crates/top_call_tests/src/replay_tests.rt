@@ -1,4 +1,4 @@
-use outside::NoDevice;
+use node_device_mem::{Areas, MemoryDisk, SteadyDevice};
 use outside_mem::{MemorySink, MemorySource};
 use std::alloc::{AllocError, Global};
 use std::test::Fail;
@@ -41,6 +41,17 @@ pub(super) fn owned(alloc: Global, words: &[&str]) -> Result<Vec<String>, AllocE
     Ok(owned)
 }
 
+// A device over empty areas.
+pub(super) fn empty_device(alloc: Global) -> Result<SteadyDevice, AllocError> {
+    let areas = Areas {
+        slot0: Vec::new(alloc),
+        slot1: Vec::new(alloc),
+        selector: Vec::new(alloc),
+    };
+    let disk = MemoryDisk::new(alloc, areas);
+    SteadyDevice::new(alloc, disk, Vec::new(alloc), Vec::new(alloc))
+}
+
 // Runs the program with these words over these objects.
 pub(super) fn run_over(
     alloc: Global,
@@ -50,7 +61,7 @@ pub(super) fn run_over(
     mut err: MemorySink,
 ) -> Result<Ran, AllocError> {
     let words = owned(alloc, words)?;
-    let mut device = NoDevice::new();
+    let mut device = empty_device(alloc)?;
     let status = run(alloc, &words, &mut source, &mut out, &mut err, &mut device);
     Ok(Ran {
         status,

@@ -1,44 +1,46 @@
-ghost use Rattle.std.specs.Prelude.{◌≡◌, ◌⊎◌};
-ghost use Rattle.top_call.specs.Answers.{answer_by, asked};
+ghost use Rattle.std.specs.Prelude.{◌≡◌, ◌⊎◌, Some};
+ghost use Rattle.command_line.specs.CommandSet.{CanBeMade, IfMakes};
+ghost use Rattle.text_commands.specs.Answers.{answer_by};
 
-use super::replay_tests::owned;
 use app_text::KvText;
+use command_line::Command;
 use kv_machine::KvCmd;
-use outside::NoDevice;
 use outside_mem::{SteadySink, SteadySource};
 use schedule_text::print_step;
 use std::alloc::Global;
 use std::test::Fail;
-use top_call::run;
-use vst_base::{Key, Step};
+use text_commands::run_command;
+use vst_base::{Key, StackId, Step};
 
-// A run over forms that never fail comes to the answer to its words and its input, or to want of memory: no other status is left.
-fn run_steadily(alloc: Global, words: &[String], text: Vec<u8>) -> (u8, SteadySink)
-    ensures { (result.0 ≡ (answer_by (asked words.now) text.items).status) ⊎ (result.0 ≡ 8) }
+// A command over forms that never fail comes to its answer to the input, or to want of memory: no other status is left.
+fn run_steadily(alloc: Global, command: Command, text: Vec<u8>) -> (u8, SteadySink)
+    requires { IfMakes command CanBeMade }
+    ensures { (result.0 ≡ (answer_by (Some command) text.items).status) ⊎ (result.0 ≡ 8) }
 {
     let mut input = SteadySource::new(text);
     let mut out = SteadySink::new(alloc);
     let mut err = SteadySink::new(alloc);
-    let mut device = NoDevice::new();
-    let status = run(alloc, words, &mut input, &mut out, &mut err, &mut device);
+    let status = run_command(alloc, command, &mut input, &mut out, &mut err);
     (status, out)
 }
 
 #[test]
 fn what_cannot_fail_is_answered(rt: HostRuntime) -> Result<(), Fail> {
     let alloc = rt.alloc();
-    let rows: [(&[&str], u8, &[u8]); 3] = [
+    let rows: [(Command, u8, &[u8]); 2] = [
         (
-            &["vst", "replay"],
+            Command::Replay,
             0,
             b"in 0 get a\nout 0 a - -\nbelow\nschedule 1 one kv 1\nin 0 get a\n",
         ),
-        (&["vst", "check", "--stack", "kv"], 3, b""),
-        (&["vst", "frob"], 2, b""),
+        (Command::Check(StackId::Kv), 3, b""),
     ];
-    for (words, status, written) in rows {
+    for (command, status, written) in rows {
         let text = Vec::from_slice(alloc, b"schedule 1 one kv 1\nin 0 get a\n")?;
-        let (came_to, out) = run_steadily(alloc, &owned(alloc, words)?, text);
+        let (came_to, out) = match command {
+            Command::Replay => run_steadily(alloc, Command::Replay, text),
+            _ => run_steadily(alloc, Command::Check(StackId::Kv), text),
+        };
         assert!(rt; came_to == status && out.written() == written);
     }
     Ok(())

@@ -1,5 +1,5 @@
 -- Taking an event, saving the state after it and saying what it sends, as the device tells them.
-use Rattle.std.proofs.Common.{◌≡◌, ℕ, true, List, ◌++◌, take, Option, Some, None, IfSome, OnErr, Result, Ok, Err, refl, sym, ap, subst, ◌∙◌, ◌⊎◌, inl, inr}
+use Rattle.std.proofs.Common.{◌≡◌, ℕ, true, List, ◌++◌, take, Option, Some, None, IfSome, refl, sym, ap, subst, ◌∙◌, ◌⊎◌, inl, inr}
 use Rattle.std.proofs.lemmas.List.{append_cancel_left}
 use Rattle.disk.specs.Acts.{Act}
 use Rattle.disk.specs.Disk.{Disk, Image, after, may_leave}
@@ -28,11 +28,6 @@ use Rattle.vst_base.specs.declared.stack.StackId.{StackId}
 use Rattle.wire_fields.specs.Formats.{Format}
 use Rattle.udp_node.specs.Acting.{Acted, ActedInPart, SavedAndSaid, SavedInPart, SaidInPart, kept_then, says, saves}
 use Rattle.udp_node.proofs.Telling.{told_is}
-
--- what holds anyway holds where an error is answered
-pub on_err : {T E P : Type 0} (r : Result T E) → P → OnErr r P
-on_err (Ok x) p = tt
-on_err (Err e) p = p
 
 -- what is said leaves the areas as they are
 pub holds_after_saying : {S C O D : Type 0} (s : StackId) (f : Format C) (t : StackId) (h : Format D) (x y : Replica S C O)

@@ -19,7 +19,7 @@ use Rattle.vst_base.specs.declared.stack.StackId.{StackId}
 use Rattle.vst_base.specs.declared.stack.StackId.TheVariants as stack
 use Rattle.wire_fields.specs.Formats.{Format}
 use Rattle.udp_node.specs.Causes.{IsOfATurn}
-use Rattle.udp_node.specs.Serving.{EndsWith, Halted, HasOpened, HasServed, Interrupted, Served, StillTold, TurnsGo, TurnsHalt, Went, WentEach}
+use Rattle.udp_node.specs.Serving.{EndsWith, Halted, HaltedEach, HasOpened, HasServed, Interrupted, Served, StillTold, TurnsGo, TurnsHalt, Went, WentEach}
 use Rattle.udp_node.specs.declared.fault.NodeFault.{NodeFault}
 use Rattle.udp_node.specs.declared.fault.NodeFault.TheVariants as fault
 use Rattle.udp_node.proofs.Telling.{still_still, told_is}
@@ -100,14 +100,40 @@ module _ {S C O D : Type 0} (s : StackId) (config : Config) (m : MachineMeaning 
         (first store kept time mid now who held (told_is mid now (Now time ∷ []) did));
   }
 
+  -- turns one after the other, of which the last was cut short
+
+  pub told_halts_each : (x y : Replica S C O) (n most : ℕ) → n ≤ most → (a b c : Option Told) → StillTold a b (WentEach s config m f g t h n x y) →
+      StillTold b c (Halted s config m f g t h y 1) → StillTold a c (HaltedEach s config m f g t h most x)
+  told_halts_each x y n most le a b c p q =
+      still_still (WentEach s config m f g t h n x y) (Halted s config m f g t h y 1) (HaltedEach s config m f g t h most x) a b c p q
+      (λ before mid now u v. record { count = n; below = le; middle = y; mid = mid; each = u; last = v })
+
+  halts_at_once : (x : Replica S C O) (most : ℕ) (told : Told) → x.store.who ≡ who_of config → Holds s f t h x.store (kept_of x.state) told.disk →
+      HaltedEach s config m f g t h most x told told
+  halts_at_once x most told who held = record {
+    count = 0;
+    below = omega arith;
+    middle = x;
+    mid = told;
+    each = (refl, refl);
+    last = at_most (Between (view_of x)) (kept_of x.state) x.store 0 1 told told (omega arith)
+        (goes_is_halts (settings_of config) m s f t h g (who_of config) (Between (view_of x)) (kept_of x.state) (kept_of x.state) x.store x.store 0 (view_of x)
+        told told (went_nowhere x who told held));
+  }
+
+  pub told_halts_each_at_once : (x : Replica S C O) (most : ℕ) → x.store.who ≡ who_of config → (a : Option Told) →
+      IfSome a (λ told. Holds s f t h x.store (kept_of x.state) told.disk) → StillTold a a (HaltedEach s config m f g t h most x)
+  told_halts_each_at_once x most who None held = tt
+  told_halts_each_at_once x most who (Some told) held = halts_at_once x most told who held
+
   interrupted_after : (x : Replica S C O) (most : ℕ) (before mid now : Told) → Served s config m f g t h 0 x before mid → Halted s config m f g t h x most mid now →
-      Interrupted s config m f g t h most before now
-  interrupted_after x most before mid now served halted = record {
-    kept = served.kept;
-    store = served.store;
-    opened = served.opened;
-    opening = served.opening;
-    turns = at_most (Starting served.kept) served.kept served.store (0 + most) most served.opened now (omega arith)
+      HaltedEach s config m f g t h most x mid now → Interrupted s config m f g t h most before now
+  interrupted_after x most before mid now served halted each = record {
+    first = x;
+    begun = mid;
+    starts = served;
+    each = each;
+    all = at_most (Starting served.kept) served.kept served.store (0 + most) most served.opened now (omega arith)
         (halts_after (settings_of config) m s f t h g (who_of config) (Starting served.kept) served.kept (kept_of x.state) served.store x.store 0 most (view_of x)
         served.opened mid now served.turns halted);
   }
@@ -125,14 +151,15 @@ module _ {S C O D : Type 0} (s : StackId) (config : Config) (m : MachineMeaning 
   told_wanting store kept time who a b None opened held did = tt
   told_wanting store kept time who a None (Some now) opened held did = cc
   told_wanting store kept time who None (Some mid) (Some now) opened held did = cc
-  told_wanting store kept time who (Some before) (Some mid) (Some now) opened held did = inr (record {
-    kept = kept;
-    store = store;
-    opened = mid;
-    opening = opened;
-    turns = goes_is_halts (settings_of config) m s f t h g (who_of config) (Starting kept) kept kept store store 0 _ mid now
-        (first store kept time mid now who held (told_is mid now (Now time ∷ []) did));
-  })
+  told_wanting store kept time who (Some before) (Some mid) (Some now) opened held did =
+      let begins = first store kept time mid now who held (told_is mid now (Now time ∷ []) did) in
+      inr (record {
+        first = starting config m store kept time;
+        begun = now;
+        starts = record { kept = kept; store = store; opened = mid; opening = opened; turns = begins };
+        each = halts_at_once (starting config m store kept time) 0 now who begins.holds;
+        all = goes_is_halts (settings_of config) m s f t h g (who_of config) (Starting kept) kept kept store store 0 _ mid now begins;
+      })
 
   -- turns one after the other
 
@@ -168,18 +195,28 @@ module _ {S C O D : Type 0} (s : StackId) (config : Config) (m : MachineMeaning 
       record { first = x; begun = mid; next = z; starts = p; each = r; all = both_served x z n before mid now p q }
 
   pub told_ended : (x : Replica S C O) (most : ℕ) (e : NodeFault) → IsOfATurn e → (a b c : Option Told) → StillTold a b (Served s config m f g t h 0 x) →
-      StillTold b c (Halted s config m f g t h x most) → StillTold a c (EndsWith s config m f g t h e most)
-  told_ended x most e of a b c p q =
-      still_still (Served s config m f g t h 0 x) (Halted s config m f g t h x most) (EndsWith s config m f g t h e most) a b c p q
-      (λ before mid now u v. ends_in_a_turn e most before now of (interrupted_after x most before mid now u v))
+      StillTold b c (Halted s config m f g t h x most) → StillTold b c (HaltedEach s config m f g t h most x) →
+      StillTold a c (EndsWith s config m f g t h e most)
+  told_ended x most e of a b None p q r = tt
+  told_ended x most e of a None (Some now) p q r = absurd q
+  told_ended x most e of None (Some mid) (Some now) p q r = absurd p
+  told_ended x most e of (Some before) (Some mid) (Some now) p q r =
+      ends_in_a_turn e most before now of (interrupted_after x most before mid now p q r)
 
   more : (most : ℕ) (before now : Told) → Interrupted s config m f g t h 0 before now → Interrupted s config m f g t h most before now
   more most before now x = record {
-    kept = x.kept;
-    store = x.store;
-    opened = x.opened;
-    opening = x.opening;
-    turns = at_most (Starting x.kept) x.kept x.store 0 most x.opened now (omega arith) x.turns;
+    first = x.first;
+    begun = x.begun;
+    starts = x.starts;
+    each = record {
+      count = x.each.count;
+      below = omega (arith, x.each.below);
+      middle = x.each.middle;
+      mid = x.each.mid;
+      each = x.each.each;
+      last = x.each.last;
+    };
+    all = at_most (Starting x.starts.kept) x.starts.kept x.starts.store 0 most x.starts.opened now (omega arith) x.all;
   }
 
   ends_later : (e : NodeFault) (most : ℕ) (before now : Told) → EndsWith s config m f g t h e 0 before now → EndsWith s config m f g t h e most before now

@@ -3,3 +3,4 @@ pub mod Listening
 pub mod Acting
 pub mod Serving
 pub mod Stacks
+pub mod Examples

@@ -1,5 +1,5 @@
 -- What a node does from its opening on, as its device tells it.
-use Rattle.std.specs.Prelude.{◌≡◌, ℕ, zero, suc, List, Option, Some, None, ◌⊎◌}
+use Rattle.std.specs.Prelude.{◌≡◌, ◌≤◌, ℕ, zero, suc, List, Option, Some, None, Result, Ok, Err, ◌⊎◌}
 use Rattle.disk.specs.Acts.{Act}
 use Rattle.disk.specs.Disk.{contents}
 use Rattle.node_acts.specs.StateActs.{first_kept, opening_acts}
@@ -15,7 +15,7 @@ use Rattle.node_state.specs.Answers.{refusal_of}
 use Rattle.node_state.specs.Crashes.{LeavesFound}
 use Rattle.node_state.specs.declared.opening.Refusal.{Refusal}
 use Rattle.raft_types.specs.Keeping.{KeptView}
-use Rattle.slots.specs.Opening.{Opening, Fresh, Held, Refused, opening}
+use Rattle.slots.specs.Opening.{Opening, Why, Fresh, Held, Refused, opening}
 use Rattle.slots.specs.Saving.{sync_acts}
 use Rattle.udp_node.specs.declared.fault.NodeFault.{NodeFault}
 use Rattle.udp_node.specs.declared.fault.NodeFault.TheVariants as fault
@@ -35,18 +35,36 @@ StartsFrom Fresh kept = kept ≡ first_kept
 StartsFrom (Held found selector) kept = kept ≡ found
 StartsFrom (Refused why) kept = ⊥
 
+-- why areas that open as this are refused, if they are
+abbrev pub refusal_in : {K : Type 0} → Opening K → Option Why
+refusal_in Fresh = None
+refusal_in (Held found selector) = None
+refusal_in (Refused why) = Some why
+
+-- Areas are refused exactly where this is why. A fault may come before.
+abbrev pub Meets : {T : Type 0} → Option Why → Result T NodeFault → Type 0
+Meets first (Ok x) = first ≡ None
+Meets first (Err (fault.Refused why)) = first ≡ Some (refusal_of why)
+Meets first (Err fault.Receive) = Unit {0}
+Meets first (Err fault.Store) = Unit {0}
+Meets first (Err fault.Memory) = Unit {0}
+
 -- `t` and `h` are the other stack and the format of its commands.
 module _ {C D : Type 0} (s : StackId) (config : Config) (f : Format C) (t : StackId) (h : Format D) where
   -- the acts of the node's opening
   abbrev pub opening_of : Told → List Act
   opening_of before = opening_acts s f t h (who_of config) (contents before.disk)
 
+  -- what its areas open as
+  abbrev pub found_in : Told → Opening (KeptView C)
+  found_in before = opening (found_by s f t h (who_of config)) (contents before.disk)
+
   -- The areas were opened, and at each moment of that a crash leaves what was found. The node starts from this, which the areas then
   -- hold as it knows.
   pub record HasOpened (store : StoreView) (kept : KeptView C) (before opened : Told) : Type 0 where
     pub who : store.who ≡ who_of config
     pub holds : Holds s f t h store kept opened.disk
-    pub from : StartsFrom (opening (found_by s f t h (who_of config)) (contents before.disk)) kept
+    pub from : StartsFrom (found_in before) kept
     pub is : opened ≡ told_after before (opening_of before)
     pub leaves : LeavesFound s f t h (who_of config) before opened
 
@@ -58,7 +76,7 @@ module _ {C D : Type 0} (s : StackId) (config : Config) (f : Format C) (t : Stac
   -- Where the areas are refused they were synced, and nothing else was done.
   pub record IsRefused (why : Refusal) (before now : Told) : Type 0 where
     pub is : now ≡ told_after before sync_acts
-    pub refused : opening (found_by s f t h (who_of config)) (contents before.disk) ≡ Refused (refusal_of why)
+    pub refused : found_in before ≡ Refused (refusal_of why)
 
   -- how an opening ends by a fault
   abbrev pub OpeningEnds : NodeFault → Told → Told → Type 0
@@ -108,13 +126,22 @@ module _ {S C O D : Type 0} (s : StackId) (config : Config) (m : MachineMeaning 
     pub each : WentEach count first next begun now
     pub all : Served count next before now
 
+  -- Whole turns one after the other, each a record of its own, and then one that was cut short.
+  pub record HaltedEach (most : ℕ) (replica : Replica S C O) (before now : Told) : Type 0 where
+    pub count : ℕ
+    pub below : count ≤ most
+    pub middle : Replica S C O
+    pub mid : Told
+    pub each : WentEach count replica middle before mid
+    pub last : Halted middle 1 mid now
+
   -- The same cut short in a turn.
   pub record Interrupted (most : ℕ) (before now : Told) : Type 0 where
-    pub kept : KeptView C
-    pub store : StoreView
-    pub opened : Told
-    pub opening : HasOpened s config f t h store kept before opened
-    pub turns : TurnsHalt (Starting kept) kept store most opened now
+    pub first : Replica S C O
+    pub begun : Told
+    pub starts : Served 0 first before begun
+    pub each : HaltedEach most first begun now
+    pub all : TurnsHalt (Starting starts.kept) starts.kept starts.store most starts.opened now
 
   -- How it ends by a fault: in its opening, or in a turn.
   abbrev pub EndsWith : NodeFault → ℕ → Told → Told → Type 0

@@ -1,10 +1,11 @@
 -- The same of a node by its stack: the table of locks, or the key-value store.
-use Rattle.std.specs.Prelude.{ℕ}
+use Rattle.std.specs.Prelude.{ℕ, Option}
 use Rattle.kv_machine.specs.Kv.{kv}
 use Rattle.lock_table.specs.Table.{table}
 use Rattle.node_config.specs.declared.config.Config.{Config}
 use Rattle.node_device.specs.Telling.{Told}
-use Rattle.udp_node.specs.Serving.{EndsWith, HasServed}
+use Rattle.slots.specs.Opening.{Why}
+use Rattle.udp_node.specs.Serving.{EndsWith, HasServed, found_in, refusal_in}
 use Rattle.udp_node.specs.declared.fault.NodeFault.{NodeFault}
 use Rattle.vst_base.specs.declared.stack.StackId.{StackId}
 use Rattle.vst_base.specs.declared.stack.StackId.TheVariants as stack
@@ -18,3 +19,8 @@ ServedOn _ config = HasServed stack.KvRaft config kv kv_command kv_output stack.
 abbrev pub EndedOn : StackId → Config → NodeFault → ℕ → Told → Told → Type 0
 EndedOn stack.TableRaft config = EndsWith stack.TableRaft config table table_command table_output stack.KvRaft kv_command
 EndedOn _ config = EndsWith stack.KvRaft config kv kv_command kv_output stack.TableRaft table_command
+
+-- why its areas are refused, if they are
+abbrev pub refused_areas : StackId → Config → Told → Option Why
+refused_areas stack.TableRaft config before = refusal_in (found_in stack.TableRaft config table_command stack.KvRaft kv_command before)
+refused_areas _ config before = refusal_in (found_in stack.KvRaft config kv_command stack.TableRaft table_command before)

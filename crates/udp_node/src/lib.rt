@@ -2,11 +2,13 @@
 //! contract alone, and what comes is any bytes from any address at any time.
 #![tactic(auto)]
 
+mod examples;
 mod fault;
 mod listening;
 mod room;
 mod serving;
 mod turning;
 
+pub use examples::{worked_causes, worked_listening, worked_starts};
 pub use fault::NodeFault;
-pub use serving::serve;
+pub use serving::{MAX_TURNS, serve};

@@ -7,8 +7,9 @@ ghost use Rattle.node_core.specs.Replicas.{IsReady, kept_of, who_of};
 ghost use Rattle.node_device.specs.Telling.{WhereTold};
 ghost use Rattle.node_state.specs.Calls.{IsNodeOf};
 ghost use Rattle.udp_node.specs.Causes.{Counts, CountsRun, IsOfATurn};
-ghost use Rattle.udp_node.specs.Serving.{EndsWith, Halted, HasOpened, HasServed, OpeningEnds, Served, StillTold, Went, WentEach};
-ghost use Rattle.udp_node.specs.Stacks.{EndedOn, ServedOn};
+ghost use Rattle.udp_node.specs.Serving.{EndsWith, Halted, HaltedEach, HasOpened, HasServed, Meets, OpeningEnds, Served, StillTold};
+ghost use Rattle.udp_node.specs.Serving.{Went, WentEach, found_in, refusal_in};
+ghost use Rattle.udp_node.specs.Stacks.{EndedOn, ServedOn, refused_areas};
 
 use crate::NodeFault;
 use crate::room::Room;
@@ -49,6 +50,8 @@ fn open_areas<D: Device, C: Commands, X: Commands>(
         (HasOpened C.stack config.now C.format X.stack X.format p.0 p.1)) }
     ensures ended { IfErr result (λ fault. WhereTold (D.told device.old) (D.told device.new)
         (OpeningEnds C.stack config.now C.format X.stack X.format fault)) }
+    ensures areas { IfSome (D.told device.old) (λ before.
+        Meets (refusal_in (found_in C.stack config.now C.format X.stack X.format before)) result) }
     ensures causes { Counts (D.faults device.old) (D.faults device.new) result }
     ensures begun { D.begun device.new ≡ true }
 {
@@ -94,6 +97,8 @@ fn start<
         (Served C.stack config.now (M.meaning raft.now.machine) C.format O.format X.stack X.format 0 node.replica)) }
     ensures ended { IfErr result (λ fault. StillTold (D.told device.old) (D.told device.new)
         (EndsWith C.stack config.now (M.meaning raft.now.machine) C.format O.format X.stack X.format fault 0)) }
+    ensures areas { IfSome (D.told device.old) (λ before.
+        Meets (refusal_in (found_in C.stack config.now C.format X.stack X.format before)) result) }
     ensures causes { CountsRun (D.faults device.old) (D.faults device.new) result }
     ensures begun { D.begun device.new ≡ true }
 {
@@ -133,6 +138,8 @@ fn take_turns<
         (WentEach C.stack config.now (M.meaning raft.now.machine) C.format O.format X.stack X.format turns node.replica next.replica)) }
     ensures halted { OnErr result (StillTold (D.told device.old) (D.told device.new)
         (Halted C.stack config.now (M.meaning raft.now.machine) C.format O.format X.stack X.format node.replica turns)) }
+    ensures halted_each { OnErr result (StillTold (D.told device.old) (D.told device.new)
+        (HaltedEach C.stack config.now (M.meaning raft.now.machine) C.format O.format X.stack X.format turns node.replica)) }
     ensures of_a_turn { IfErr result IsOfATurn }
     ensures causes { CountsRun (D.faults device.old) (D.faults device.new) result }
     ensures begun { D.begun device.new ≡ true }
@@ -162,6 +169,8 @@ fn serve_stack<
         (HasServed C.stack config.now (M.meaning machine) C.format O.format X.stack X.format turns)) }
     ensures ended { IfErr result (λ fault. StillTold (D.told device.old) (D.told device.new)
         (EndsWith C.stack config.now (M.meaning machine) C.format O.format X.stack X.format fault turns)) }
+    ensures areas { IfSome (D.told device.old) (λ before.
+        Meets (refusal_in (found_in C.stack config.now C.format X.stack X.format before)) result) }
     ensures causes { CountsRun (D.faults device.old) (D.faults device.new) result }
     ensures begun { D.begun device.new ≡ true }
 {
@@ -171,7 +180,8 @@ fn serve_stack<
     Ok(())
 }
 
-/// Runs a node for so many turns over a device that has begun. `Ok` comes exactly after the last of them.
+/// Runs a node for so many turns over a device that has begun. `Ok` comes exactly after the last of them. Its areas are refused exactly
+/// where they are not this node's own, unless a store call fails or memory is wanted before that is known.
 pub fn serve<D: Device>(
     alloc: Global,
     device: &mut D,
@@ -185,6 +195,7 @@ pub fn serve<D: Device>(
     ensures served { OnOk result (StillTold (D.told device.old) (D.told device.new) (ServedOn config.now.stack config.now turns)) }
     ensures ended { IfErr result (λ fault. StillTold (D.told device.old) (D.told device.new)
         (EndedOn config.now.stack config.now fault turns)) }
+    ensures areas { IfSome (D.told device.old) (λ before. Meets (refused_areas config.now.stack config.now before) result) }
     ensures causes { CountsRun (D.faults device.old) (D.faults device.new) result }
     ensures begun { D.begun device.new ≡ true }
 {

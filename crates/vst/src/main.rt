@@ -2,7 +2,8 @@
 //! and ends with its status.
 #![tactic(auto)]
 
-use outside::{NoDevice, WriteFault, write_all};
+use node_device_real::RealDevice;
+use outside::{WriteFault, write_all};
 use outside_real::{ReaderSource, WriterSink};
 use std::env;
 use std::io::{self, ErrorKind};
@@ -32,7 +33,7 @@ fn main(rt: HostRuntime) -> ExitCode {
     };
     let mut input = ReaderSource::new(rt.stdin());
     let mut out = WriterSink::new(rt.stdout());
-    let mut device = NoDevice::new();
+    let mut device = RealDevice::new(&rt);
     let status = run(
         rt.alloc(),
         &words,

@@ -33,6 +33,13 @@ impl<H: Saves> Saved<H> {
     {
         Saved { inner, name }
     }
+
+    /// The handlers within.
+    pub fn inner(&self) -> &H
+        ensures { result.now ≡ self.now.inner }
+    {
+        &self.inner
+    }
 }
 
 impl<H: Saves> Handlers for Saved<H> {

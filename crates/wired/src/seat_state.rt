@@ -1,3 +1,5 @@
+ghost use Rattle.std.specs.Prelude.{◌≡◌};
+
 use std::marker::Model;
 use vst_base::Node;
 
@@ -16,4 +18,13 @@ impl<S> Model for SeatState<S> {
     ghost coded = { seated_code S.code };
 
     ghost view = { λ s. record { me = s.me; inner = s.inner } };
+}
+
+impl<S> SeatState<S> {
+    /// The state of the handlers within.
+    pub fn inner(&self) -> &S
+        ensures { result.now ≡ self.now.inner }
+    {
+        &self.inner
+    }
 }

@@ -34,6 +34,13 @@ impl<H: Handlers> Wired<H> {
     {
         Wired { inner, cluster }
     }
+
+    /// The handlers within.
+    pub fn inner(&self) -> &H
+        ensures { result.now ≡ self.now.inner }
+    {
+        &self.inner
+    }
 }
 
 impl<H: Handlers> Handlers for Wired<H>

@@ -2,4 +2,6 @@
 #![tactic(auto)]
 
 #[cfg(test)]
+mod no_message_tests;
+#[cfg(test)]
 mod wired_tests;

@@ -37,8 +37,8 @@ impl<H: Handlers, T: TraceMap<H>> Model for Running<H, T> {
     ghost invariant = { λ r. r.net ≡ r.world.net };
 }
 
-// Follows a step that was taken, of which clients saw what stands after the first `before` items.
-fn follow<H: Handlers, T: TraceMap<H>>(
+/// Follows a step that was taken, of which clients saw what stands after the first `before` items. After an `Err` the map is given up.
+pub fn follow_map<H: Handlers, T: TraceMap<H>>(
     alloc: Global,
     handlers: &H,
     map: &mut T,
@@ -105,7 +105,7 @@ impl<H: Handlers, T: TraceMap<H>> Runs for Running<H, T> {
             Err(why) => return Err(fault_at(why, place)),
         }
         let items = self.world.trace().items();
-        let followed = follow(
+        let followed = follow_map(
             self.alloc,
             self.world.handlers(),
             &mut self.map,

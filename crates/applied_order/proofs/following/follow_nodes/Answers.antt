@@ -1,4 +1,5 @@
 use Rattle.std.proofs.Common.{◌≡◌, ◌<◌, false, ap, ◌∙◌, arith}
+use Rattle.net_semantics.specs.ShownFail.{ShowsFail}
 use Rattle.raft_safety.proofs.Growing.{applied_grows, each_has_a_beginning}
 use Rattle.raft_types.specs.declared.msg.RaftMsg.TheVariants.{Vote}
 use Rattle.applied_order.proofs.ByNode.{follows_all, follows_first, follows_more}
@@ -23,7 +24,7 @@ loop-n-preserved g c =
     let number : c.unwrap-node.result ≡ c.loop-n.n = rw (c.unwrap-node.ensures) at c.new.ensures.number in
     let below : c.loop-n.n < c.args.world.now.handlers.nodes = omega arith in
     let tells = rw number at c.state.ensures in
-    follows_more _ _ c.args.world.now (applied_grows _ _ _) (each_has_a_beginning _ _ _)
+    follows_more _ _ (ShowsFail c.args.world.now.handlers.nodes c.args.world.now) (applied_grows _ _ _) (each_has_a_beginning _ _ _)
     c.loop-n.n c.args.order.now c.loop-n.order c.catch_up.new.self c.state.result.now
     below tells c.in_ok-catch_up.ensures c.loop-n.invariant
 
@@ -31,4 +32,4 @@ pub returns : goal.returns
 returns g c =
     let nodes = c.nodes-nodes.ensures ∙ ap (λ r. r.nodes) c.handlers-cluster.ensures in
     let all : c.loop-n.n ≡ c.args.world.now.handlers.nodes = omega arith in
-    follows_all _ _ c.args.world.now c.args.order.now c.loop-n.order (rw all at c.loop-n.invariant)
+    follows_all _ _ (ShowsFail c.args.world.now.handlers.nodes c.args.world.now) c.args.order.now c.loop-n.order (rw all at c.loop-n.invariant)

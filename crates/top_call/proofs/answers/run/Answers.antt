@@ -1,75 +1,44 @@
-use Rattle.std.proofs.Common.{◌≡◌, ◌∙◌, Some, ap, refl, sym}
-use Rattle.command_line.specs.declared.command.Command.TheVariants as command
-use Rattle.top_call.specs.Answers.{asked}
-use Rattle.top_call.specs.Seen.{source_seen}
-use Rattle.top_call.specs.declared.complaint.Complaint.TheVariants as complaint
-use Rattle.top_call.proofs.Complained.{told_failed, told_memory, unwritten}
+use Rattle.std.proofs.Common.{◌≡◌, ◌∙◌, None, refl, sym}
+use Rattle.node_command.specs.Seen.{node_ran}
+use Rattle.run_streams.specs.Seen.{ran}
+use Rattle.text_commands.proofs.Complained.{told_failed, told_memory, unwritten}
+use Rattle.text_commands.specs.declared.complaint.Complaint.TheVariants as complaint
+use Rattle.top_call.specs.Requests.{asked}
+use Rattle.top_call.proofs.Untaken.{nothing_ran, wanting_complete, wanting_failed, wanting_memory}
 use Rattle.top_call.proofs.answers.run.Goals as goal
 
 pub returns-in-Ok-None-clause-write : goal.returns-in-Ok-None-clause-write
 returns-in-Ok-None-clause-write g c = λ is.
     let read = c.in-Ok-None in
-    told_failed _ _ complaint.Words _ c.tell.ensures.told is (sym read.ensures.command ∙ read.field-0-is) (unwritten _ _ refl)
+    let none : asked c.args.words.now ≡ None = sym read.ensures.asked ∙ read.field-0-is in
+    rw none (told_failed None _ complaint.Words _ c.tell.ensures.told is refl (unwritten None _ refl))
 
 pub returns-in-Ok-None-clause-memory : goal.returns-in-Ok-None-clause-memory
 returns-in-Ok-None-clause-memory g c = λ is.
     let read = c.in-Ok-None in
-    told_memory _ _ complaint.Words _ c.tell.ensures.told is (sym read.ensures.command ∙ read.field-0-is) (unwritten _ _ refl)
+    let none : asked c.args.words.now ≡ None = sym read.ensures.asked ∙ read.field-0-is in
+    rw none (told_memory None _ complaint.Words _ c.tell.ensures.told is refl (unwritten None _ refl))
+
+pub returns-in-Err-clause-ran : goal.returns-in-Err-clause-ran
+returns-in-Err-clause-ran g c =
+    nothing_ran (asked c.args.words.now)
+    (node_ran (ran g.S.Source g.O.Sink g.E.Sink c.args.input.now c.args.input.now c.args.out.now c.args.out.now c.args.err.now c.tell-in-Err.new.err) g.D.Device
+    c.args.device.now c.args.device.now) refl refl
+
+pub returns-in-Err-clause-complete : goal.returns-in-Err-clause-complete
+returns-in-Err-clause-complete g c =
+    wanting_complete (asked c.args.words.now)
+    (node_ran (ran g.S.Source g.O.Sink g.E.Sink c.args.input.now c.args.input.now c.args.out.now c.args.out.now c.args.err.now c.tell-in-Err.new.err) g.D.Device
+    c.args.device.now c.args.device.now) _ c.tell-in-Err.ensures.told
 
 pub returns-in-Err-clause-write : goal.returns-in-Err-clause-write
 returns-in-Err-clause-write g c = λ is.
-    told_failed _ _ complaint.Memory _ c.tell-in-Err.ensures.told is tt (unwritten _ _ refl)
+    wanting_failed (asked c.args.words.now)
+    (node_ran (ran g.S.Source g.O.Sink g.E.Sink c.args.input.now c.args.input.now c.args.out.now c.args.out.now c.args.err.now c.tell-in-Err.new.err) g.D.Device
+    c.args.device.now c.args.device.now) _ c.tell-in-Err.ensures.told is refl
 
-pub returns-in-Ok-Some-Make-clause-complete : goal.returns-in-Ok-Some-Make-clause-complete
-returns-in-Ok-Some-Make-clause-complete g c =
-    let read = c.in-Ok-Some-Make in
-    let is : asked c.args.words.now ≡ Some (command.Make read.schedule) = sym read.ensures.command ∙ (read.field-0-is ∙ ap Some read.field-0-0-is) in
-    rw is (c.run_make.ensures.complete (source_seen g.S.Source c.args.input.now))
-
-pub returns-in-Ok-Some-Make-clause-done : goal.returns-in-Ok-Some-Make-clause-done
-returns-in-Ok-Some-Make-clause-done g c =
-    let read = c.in-Ok-Some-Make in
-    let is : asked c.args.words.now ≡ Some (command.Make read.schedule) = sym read.ensures.command ∙ (read.field-0-is ∙ ap Some read.field-0-0-is) in
-    rw is (c.run_make.ensures.done (source_seen g.S.Source c.args.input.now))
-
-pub returns-in-Ok-Some-Make-clause-write : goal.returns-in-Ok-Some-Make-clause-write
-returns-in-Ok-Some-Make-clause-write g c =
-    let read = c.in-Ok-Some-Make in
-    let is : asked c.args.words.now ≡ Some (command.Make read.schedule) = sym read.ensures.command ∙ (read.field-0-is ∙ ap Some read.field-0-0-is) in
-    rw is (c.run_make.ensures.write (source_seen g.S.Source c.args.input.now))
-
-pub returns-in-Ok-Some-Make-clause-memory : goal.returns-in-Ok-Some-Make-clause-memory
-returns-in-Ok-Some-Make-clause-memory g c =
-    let read = c.in-Ok-Some-Make in
-    let is : asked c.args.words.now ≡ Some (command.Make read.schedule) = sym read.ensures.command ∙ (read.field-0-is ∙ ap Some read.field-0-0-is) in
-    rw is (c.run_make.ensures.memory (source_seen g.S.Source c.args.input.now))
-
-pub returns-in-Ok-Some-Make-clause-counts : goal.returns-in-Ok-Some-Make-clause-counts
-returns-in-Ok-Some-Make-clause-counts g c = c.run_make.ensures.counts (source_seen g.S.Source c.args.input.now)
-
-pub returns-in-Ok-Some-Summarize-clause-complete : goal.returns-in-Ok-Some-Summarize-clause-complete
-returns-in-Ok-Some-Summarize-clause-complete g c =
-    let read = c.in-Ok-Some-Summarize in
-    let is : asked c.args.words.now ≡ Some (command.Summarize read.schedule) = sym read.ensures.command ∙ (read.field-0-is ∙ ap Some read.field-0-0-is) in
-    rw is (c.run_summary.ensures.complete (source_seen g.S.Source c.args.input.now))
-
-pub returns-in-Ok-Some-Summarize-clause-done : goal.returns-in-Ok-Some-Summarize-clause-done
-returns-in-Ok-Some-Summarize-clause-done g c =
-    let read = c.in-Ok-Some-Summarize in
-    let is : asked c.args.words.now ≡ Some (command.Summarize read.schedule) = sym read.ensures.command ∙ (read.field-0-is ∙ ap Some read.field-0-0-is) in
-    rw is (c.run_summary.ensures.done (source_seen g.S.Source c.args.input.now))
-
-pub returns-in-Ok-Some-Summarize-clause-write : goal.returns-in-Ok-Some-Summarize-clause-write
-returns-in-Ok-Some-Summarize-clause-write g c =
-    let read = c.in-Ok-Some-Summarize in
-    let is : asked c.args.words.now ≡ Some (command.Summarize read.schedule) = sym read.ensures.command ∙ (read.field-0-is ∙ ap Some read.field-0-0-is) in
-    rw is (c.run_summary.ensures.write (source_seen g.S.Source c.args.input.now))
-
-pub returns-in-Ok-Some-Summarize-clause-memory : goal.returns-in-Ok-Some-Summarize-clause-memory
-returns-in-Ok-Some-Summarize-clause-memory g c =
-    let read = c.in-Ok-Some-Summarize in
-    let is : asked c.args.words.now ≡ Some (command.Summarize read.schedule) = sym read.ensures.command ∙ (read.field-0-is ∙ ap Some read.field-0-0-is) in
-    rw is (c.run_summary.ensures.memory (source_seen g.S.Source c.args.input.now))
-
-pub returns-in-Ok-Some-Summarize-clause-counts : goal.returns-in-Ok-Some-Summarize-clause-counts
-returns-in-Ok-Some-Summarize-clause-counts g c = c.run_summary.ensures.counts (source_seen g.S.Source c.args.input.now)
+pub returns-in-Err-clause-memory : goal.returns-in-Err-clause-memory
+returns-in-Err-clause-memory g c = λ is.
+    wanting_memory (asked c.args.words.now)
+    (node_ran (ran g.S.Source g.O.Sink g.E.Sink c.args.input.now c.args.input.now c.args.out.now c.args.out.now c.args.err.now c.tell-in-Err.new.err) g.D.Device
+    c.args.device.now c.args.device.now) _ c.tell-in-Err.ensures.told is refl

@@ -1,7 +1,7 @@
-use Rattle.std.proofs.Common.{sym, subst, IfErr, OnOk}
+use Rattle.std.proofs.Common.{sym, subst, IfErr, IfSome, OnOk}
 use Rattle.vst_base.specs.declared.stack.StackId.{StackId}
-use Rattle.udp_node.specs.Serving.{StillTold}
-use Rattle.udp_node.specs.Stacks.{EndedOn, ServedOn}
+use Rattle.udp_node.specs.Serving.{Meets, StillTold}
+use Rattle.udp_node.specs.Stacks.{EndedOn, ServedOn, refused_areas}
 use Rattle.udp_node.proofs.Served.{runs_kv}
 use Rattle.udp_node.proofs.serving.serve.Goals as goal
 
@@ -18,6 +18,8 @@ returns-in_default g c =
           c.serve_stack-in_default.ensures.served;
       ended = subst (λ (s : StackId). IfErr c.serve_stack-in_default.result (λ fault. StillTold (g.D.Device.told c.args.device.now) (g.D.Device.told c.serve_stack-in_default.new.device) (EndedOn s c.args.config.now fault c.args.turns)))
           (sym kv) c.serve_stack-in_default.ensures.ended;
+      areas = subst (λ (s : StackId). IfSome (g.D.Device.told c.args.device.now) (λ before. Meets (refused_areas s c.args.config.now before) c.serve_stack-in_default.result)) (sym kv)
+          c.serve_stack-in_default.ensures.areas;
       causes = c.serve_stack-in_default.ensures.causes;
       begun = c.serve_stack-in_default.ensures.begun;
     }

@@ -14,7 +14,8 @@ returns-in_err-take_turns-clause-ended g c =
     on_fault _ c.in_err-take_turns.field-0.0 _ c.from_residual-in_err-take_turns.ensures.1
     (told_ended g.C.Commands.stack c.args.config.now (g.M.Machine.meaning c.args.machine) g.C.Wire.format g.O.Wire.format g.X.Commands.stack g.X.Wire.format
     c.in_ok-node.node.replica c.args.turns c.in_err-take_turns.field-0.0 c.in_err-take_turns.ensures.of_a_turn _ _ _ (rw (ap (λ r. r.machine) c.new-raft.ensures) at c.in_ok-node.ensures.served)
-    (rw (ap (λ r. r.machine) c.new-raft.ensures) at c.in_err-take_turns.ensures.halted))
+    (rw (ap (λ r. r.machine) c.new-raft.ensures) at c.in_err-take_turns.ensures.halted)
+    (rw (ap (λ r. r.machine) c.new-raft.ensures) at c.in_err-take_turns.ensures.halted_each))
 
 pub returns-clause-served : goal.returns-clause-served
 returns-clause-served g c =

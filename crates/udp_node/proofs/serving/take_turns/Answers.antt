@@ -1,12 +1,12 @@
 use Rattle.std.proofs.Common.{◌≡◌, ◌≤◌, ◌+◌, arith}
-use Rattle.udp_node.proofs.Acts.{on_err}
+use Rattle.node_state.proofs.Stopping.{on_err}
 use Rattle.udp_node.proofs.Counting.{ran_after, ran_err, sends_none, sends_twice}
-use Rattle.udp_node.proofs.Served.{told_each, told_halts, told_halts_at_once, told_none, told_nowhere, told_on}
+use Rattle.udp_node.proofs.Served.{told_each, told_halts, told_halts_at_once, told_halts_each, told_halts_each_at_once, told_none, told_nowhere, told_on}
 use Rattle.udp_node.proofs.serving.take_turns.Goals as goal
 
 pub returns-in_err-room-clause-halted : goal.returns-in_err-room-clause-halted
 returns-in_err-room-clause-halted g c =
-    on_err _ (told_halts_at_once g.C.Commands.stack c.args.config.now (g.M.Machine.meaning c.args.raft.now.machine) g.C.Wire.format g.O.Wire.format g.X.Commands.stack g.X.Wire.format
+    on_err _ _ (told_halts_at_once g.C.Commands.stack c.args.config.now (g.M.Machine.meaning c.args.raft.now.machine) g.C.Wire.format g.O.Wire.format g.X.Commands.stack g.X.Wire.format
     c.args.node.replica c.args.turns _
     (told_nowhere g.C.Commands.stack c.args.config.now (g.M.Machine.meaning c.args.raft.now.machine) g.C.Wire.format g.O.Wire.format g.X.Commands.stack g.X.Wire.format
     c.args.node.replica c.requires.who _ c.requires.holds))
@@ -27,7 +27,7 @@ loop-init g c = record {
 pub returns-in_err-node-clause-halted : goal.returns-in_err-node-clause-halted
 returns-in_err-node-clause-halted g c =
     let below : c.loop.counter + 1 ≤ c.args.turns = omega (arith, c.loop-test.true) in
-    on_err _ (told_halts g.C.Commands.stack c.args.config.now (g.M.Machine.meaning c.args.raft.now.machine) g.C.Wire.format g.O.Wire.format g.X.Commands.stack g.X.Wire.format
+    on_err _ _ (told_halts g.C.Commands.stack c.args.config.now (g.M.Machine.meaning c.args.raft.now.machine) g.C.Wire.format g.O.Wire.format g.X.Commands.stack g.X.Wire.format
     c.args.node.replica c.loop.node.replica c.loop.counter c.args.turns below _ _ _ c.loop.invariant.went c.in_err-node.ensures.halted)
 
 pub returns-in_err-node-clause-causes : goal.returns-in_err-node-clause-causes
@@ -57,3 +57,14 @@ pub returns-clause-each : goal.returns-clause-each
 returns-clause-each g c =
     let all : c.loop.counter ≡ c.args.turns = omega (arith, c.loop-test.false, c.loop.auto.counter-end) in
     rw all at c.loop.invariant.each
+
+pub returns-in_err-room-clause-halted_each : goal.returns-in_err-room-clause-halted_each
+returns-in_err-room-clause-halted_each g c =
+    on_err _ _ (told_halts_each_at_once g.C.Commands.stack c.args.config.now (g.M.Machine.meaning c.args.raft.now.machine) g.C.Wire.format g.O.Wire.format g.X.Commands.stack g.X.Wire.format
+    c.args.node.replica c.args.turns c.requires.who _ c.requires.holds)
+
+pub returns-in_err-node-clause-halted_each : goal.returns-in_err-node-clause-halted_each
+returns-in_err-node-clause-halted_each g c =
+    let below : c.loop.counter ≤ c.args.turns = omega (arith, c.loop-test.true) in
+    on_err _ _ (told_halts_each g.C.Commands.stack c.args.config.now (g.M.Machine.meaning c.args.raft.now.machine) g.C.Wire.format g.O.Wire.format g.X.Commands.stack g.X.Wire.format
+    c.args.node.replica c.loop.node.replica c.loop.counter c.args.turns below _ _ _ c.loop.invariant.each c.in_err-node.ensures.halted)

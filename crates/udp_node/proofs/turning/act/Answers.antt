@@ -1,6 +1,7 @@
 use Rattle.std.proofs.Common.{◌≡◌, ap, ◌∙◌}
+use Rattle.node_state.proofs.Stopping.{on_err}
 use Rattle.node_core.specs.Replicas.{effect_on, said_of}
-use Rattle.udp_node.proofs.Acts.{acted, held_before, holds_after_saying, on_err, said_in_part, saved_in_part}
+use Rattle.udp_node.proofs.Acts.{acted, held_before, holds_after_saying, said_in_part, saved_in_part}
 use Rattle.udp_node.proofs.turning.act.Goals as goal
 
 pub save-requires-clause-held : goal.save-requires-clause-held
@@ -10,14 +11,14 @@ save-requires-clause-held g c =
 
 pub returns-in_err-saved-clause-in_part : goal.returns-in_err-saved-clause-in_part
 returns-in_err-saved-clause-in_part g c =
-    on_err _ (saved_in_part g.C.Commands.stack c.args.config.now (g.M.Machine.meaning c.args.raft.now.machine) g.C.Wire.format g.O.Wire.format g.X.Commands.stack
+    on_err _ _ (saved_in_part g.C.Commands.stack c.args.config.now (g.M.Machine.meaning c.args.raft.now.machine) g.C.Wire.format g.O.Wire.format g.X.Commands.stack
     g.X.Wire.format c.args.node.replica c.args.event c.in_ok-taken.taken.replica c.in_ok-taken.ensures.replica c.in_ok-taken.ensures.continues c.requires.who _ _
     c.requires.holds c.in_err-saved.ensures.stopped c.in_err-saved.ensures.crash)
 
 pub returns-in_err-ship-clause-in_part : goal.returns-in_err-ship-clause-in_part
 returns-in_err-ship-clause-in_part g c =
     let effects = c.in_ok-saved.ensures.effects in
-    on_err _ (said_in_part g.C.Commands.stack c.args.config.now (g.M.Machine.meaning c.args.raft.now.machine) g.C.Wire.format g.O.Wire.format g.X.Commands.stack
+    on_err _ _ (said_in_part g.C.Commands.stack c.args.config.now (g.M.Machine.meaning c.args.raft.now.machine) g.C.Wire.format g.O.Wire.format g.X.Commands.stack
     g.X.Wire.format c.args.node.replica c.args.event c.in_ok-taken.taken.replica c.in_ok-taken.ensures.replica c.in_ok-taken.ensures.continues _ _
     (ap (λ e. e.sends) effects ∙ c.in_ok-taken.ensures.sends) (ap (λ e. e.outputs) effects ∙ c.in_ok-taken.ensures.outputs) _ _ _ c.requires.holds
     c.in_ok-saved.ensures.keeps c.in_ok-saved.ensures.did c.in_err-ship.ensures.stopped)

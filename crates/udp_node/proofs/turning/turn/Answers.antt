@@ -1,12 +1,12 @@
 use Rattle.std.proofs.Common.{◌≡◌, ap, sym, ◌∙◌}
-use Rattle.udp_node.proofs.Acts.{on_err}
+use Rattle.node_state.proofs.Stopping.{on_err}
 use Rattle.udp_node.proofs.Going.{ready_at, turn_halts, turn_halts_hearing, turn_holds, turn_quiet, turn_went, who_stays}
 use Rattle.udp_node.proofs.turning.turn.Goals as goal
 
 pub returns-in_err-event-clause-halted : goal.returns-in_err-event-clause-halted
 returns-in_err-event-clause-halted g c =
     let stack = sym (ap (λ w. w.stack) c.requires.who) ∙ c.requires.ready.is.of.stack in
-    on_err _ (turn_halts_hearing g.C.Commands.stack c.args.config.now (g.M.Machine.meaning c.args.raft.now.machine) g.C.Wire.format g.O.Wire.format
+    on_err _ _ (turn_halts_hearing g.C.Commands.stack c.args.config.now (g.M.Machine.meaning c.args.raft.now.machine) g.C.Wire.format g.O.Wire.format
     g.X.Commands.stack g.X.Wire.format c.args.node.replica c.requires.who stack _ _ c.requires.holds c.in_err-event.ensures.stopped)
 
 pub act-requires-clause-ready : goal.act-requires-clause-ready

@@ -1,0 +1,247 @@
+-- How a node's run ends: each status by what the run came to and said.
+use Rattle.std.specs.Prelude.{◌≡◌, ◌⊎◌, ℕ, List, ◌++◌, Option, Some, None, Result, Ok, Err}
+use Rattle.std.proofs.Common.{inl, inr, ap, ◌∙◌, subst, sym, append-nil, arith, refl}
+use Rattle.std.proofs.Math.Seq.{take-length}
+use Rattle.command_line.specs.AskedNodes.{NodeWordsView}
+use Rattle.outside.specs.Counting.{Rose}
+use Rattle.outside.specs.Wholes.{Gained, GainedFront}
+use Rattle.run_streams.specs.Lines.{memory_line}
+use Rattle.run_streams.specs.Saying.{Said, Tells}
+use Rattle.run_streams.specs.Seen.{CountsNothing, SinkSeen}
+use Rattle.udp_node.specs.declared.fault.NodeFault.TheVariants as fault
+use Rattle.node_command.specs.Lines.{line_of, status_of, turns_line}
+use Rattle.node_command.specs.Seen.{NodeRun}
+use Rattle.node_command.specs.Statuses.{AreAreasRefused, CameTo, EndsBy, HasCome, HasListeningFailed, HasOutFailed, HasWriteFailed, IsConfigRefused, IsDone, IsNodeStatus, IsOutOfMemory, MaySay, WasSaying}
+use Rattle.node_command.specs.Telling.{Ends, TellsTrouble, TellsTurns, TellsWhat, WroteTurns, FailedTurns, WantedTurns}
+use Rattle.node_command.specs.declared.trouble.Trouble.{Trouble}
+use Rattle.node_command.specs.declared.trouble.Trouble.TheVariants as trouble
+
+-- nothing is a front of any text, and a text of itself
+front_none : (o o' : Option (List ℕ)) (text : List ℕ) → o' ≡ o → GainedFront o o' text
+front_none None o' text same = tt
+front_none (Some held) o' text same = (0, same ∙ ap Some (sym (append-nil held)))
+
+-- a run ends in one of these ways
+pub data Ending (w : NodeWordsView) (r : NodeRun) (result : ℕ) : Type 0 where
+  Finished : IsDone w r → result ≡ 0 → Ending w r result
+  Ended : (t : Trouble) → EndsBy w r t → result ≡ status_of t → Ending w r result
+  Failed : HasWriteFailed w r → result ≡ 5 → Ending w r result
+  Wanted : IsOutOfMemory w r → result ≡ 8 → Ending w r result
+
+module _ (w : NodeWordsView) (r : NodeRun) (result : ℕ) where
+  pub out_stays : r.streams.after.out ≡ r.streams.before.out → GainedFront r.streams.before.out.written r.streams.after.out.written (turns_line w.turns)
+  out_stays same = front_none r.streams.before.out.written r.streams.after.out.written (turns_line w.turns) (ap (λ sink. sink.written) same)
+
+  saying : (line : List ℕ) → MaySay w r line → GainedFront r.streams.before.err.written r.streams.after.err.written line
+      → GainedFront r.streams.before.out.written r.streams.after.out.written (turns_line w.turns) → WasSaying w r
+  saying line may front out = record { line = line; may = may; front = front; out = out }
+
+  -- that memory was wanted is said, or not
+  pub said_memory : GainedFront r.streams.before.out.written r.streams.after.out.written (turns_line w.turns)
+      → Said 8 memory_line r.streams.before.err r.streams.after.err result → Ending w r result
+  said_memory out (inl whole) = Wanted (inl (record { err = whole.1; out = out })) whole.0
+  said_memory out (inr (inl failed)) = Failed (inr (failed.2, saying memory_line (inr refl) failed.1 out)) failed.0
+  said_memory out (inr (inr wanted)) = Wanted (inr (wanted.3, saying memory_line (inr refl) wanted.1 out)) wanted.0
+
+  told : (t : Trouble) → CameTo w r (Err t) → TellsTrouble t r.streams.before.out r.streams.after.out r.streams.before.err r.streams.after.err result
+      → Tells (status_of t) (line_of t) r.streams.before.err r.streams.after.err result → Ending w r result
+  told t came tells (inl (inl whole)) = Ended t (record { came = came; out = tells.out_is; err = whole.1; quiet = whole.2 }) whole.0
+  told t came tells (inl (inr (inl failed))) = Failed (inr (failed.2, saying (line_of t) (inl (t, came, refl)) failed.1 (out_stays tells.out_is))) failed.0
+  told t came tells (inl (inr (inr wanted))) = Wanted (inr (wanted.3, saying (line_of t) (inl (t, came, refl)) wanted.1 (out_stays tells.out_is))) wanted.0
+  told t came tells (inr said) = said_memory (out_stays tells.out_is) said
+
+  finished : CameTo w r (Ok tt) → TellsTurns w.turns r.streams.before.out r.streams.after.out r.streams.before.err r.streams.after.err result → Ending w r result
+  finished came (inl wrote) = Finished (record { served = came; out = wrote.out_is; err = wrote.err_is; quiet = wrote.counts }) wrote.status
+  finished came (inr (inl failed)) =
+      Failed (inl (record { served = came; front = failed.out_is; rose = failed.rose; err = failed.err_is })) failed.status
+  finished came (inr (inr wanted)) = said_memory wanted.out_is wanted.said
+
+  ending_of : (came : Result (Unit {0}) Trouble) → CameTo w r came
+      → TellsWhat w.turns came r.streams.before.out r.streams.after.out r.streams.before.err r.streams.after.err result → Ending w r result
+  ending_of (Ok tt) came tells = finished came tells
+  ending_of (Err t) came tells = told t came tells tells.told
+
+  pub ending : Ends w r result → Ending w r result
+  ending e = ending_of e.came e.comes e.tells
+
+-- ---- by status
+
+status_is : (t : Trouble) → IsNodeStatus (status_of t)
+status_is trouble.Read = inr (inr (inl refl))
+status_is (trouble.Config key) = inr (inl refl)
+status_is trouble.Begin = inr (inr (inr (inr (inl refl))))
+status_is trouble.Memory = inr (inr (inr (inr (inr (inr (inl refl))))))
+status_is (trouble.Ended fault.Receive) = inr (inr (inr (inr (inl refl))))
+status_is (trouble.Ended fault.Store) = inr (inr (inr (inr (inr (inl refl)))))
+status_is (trouble.Ended (fault.Refused why)) = inr (inr (inr (inr (inr (inr (inr refl))))))
+status_is (trouble.Ended fault.Memory) = inr (inr (inr (inr (inr (inr (inl refl))))))
+
+module _ (w : NodeWordsView) (r : NodeRun) where
+  no_zero : (t : Trouble) → status_of t ≡ 0 → ⊥
+  no_zero trouble.Read e = omega (arith, e)
+  no_zero (trouble.Config key) e = omega (arith, e)
+  no_zero trouble.Begin e = omega (arith, e)
+  no_zero trouble.Memory e = omega (arith, e)
+  no_zero (trouble.Ended fault.Receive) e = omega (arith, e)
+  no_zero (trouble.Ended fault.Store) e = omega (arith, e)
+  no_zero (trouble.Ended (fault.Refused why)) e = omega (arith, e)
+  no_zero (trouble.Ended fault.Memory) e = omega (arith, e)
+
+  no_five : (t : Trouble) → status_of t ≡ 5 → ⊥
+  no_five trouble.Read e = omega (arith, e)
+  no_five (trouble.Config key) e = omega (arith, e)
+  no_five trouble.Begin e = omega (arith, e)
+  no_five trouble.Memory e = omega (arith, e)
+  no_five (trouble.Ended fault.Receive) e = omega (arith, e)
+  no_five (trouble.Ended fault.Store) e = omega (arith, e)
+  no_five (trouble.Ended (fault.Refused why)) e = omega (arith, e)
+  no_five (trouble.Ended fault.Memory) e = omega (arith, e)
+
+  by_three : (t : Trouble) → EndsBy w r t → status_of t ≡ 3 → IsConfigRefused w r
+  by_three trouble.Read x e = absurd (omega (arith, e))
+  by_three (trouble.Config key) x e = (key, x)
+  by_three trouble.Begin x e = absurd (omega (arith, e))
+  by_three trouble.Memory x e = absurd (omega (arith, e))
+  by_three (trouble.Ended fault.Receive) x e = absurd (omega (arith, e))
+  by_three (trouble.Ended fault.Store) x e = absurd (omega (arith, e))
+  by_three (trouble.Ended (fault.Refused why)) x e = absurd (omega (arith, e))
+  by_three (trouble.Ended fault.Memory) x e = absurd (omega (arith, e))
+
+  by_four : (t : Trouble) → EndsBy w r t → status_of t ≡ 4 → EndsBy w r trouble.Read
+  by_four trouble.Read x e = x
+  by_four (trouble.Config key) x e = absurd (omega (arith, e))
+  by_four trouble.Begin x e = absurd (omega (arith, e))
+  by_four trouble.Memory x e = absurd (omega (arith, e))
+  by_four (trouble.Ended fault.Receive) x e = absurd (omega (arith, e))
+  by_four (trouble.Ended fault.Store) x e = absurd (omega (arith, e))
+  by_four (trouble.Ended (fault.Refused why)) x e = absurd (omega (arith, e))
+  by_four (trouble.Ended fault.Memory) x e = absurd (omega (arith, e))
+
+  by_six : (t : Trouble) → EndsBy w r t → status_of t ≡ 6 → HasListeningFailed w r
+  by_six trouble.Read x e = absurd (omega (arith, e))
+  by_six (trouble.Config key) x e = absurd (omega (arith, e))
+  by_six trouble.Begin x e = inl x
+  by_six trouble.Memory x e = absurd (omega (arith, e))
+  by_six (trouble.Ended fault.Receive) x e = inr x
+  by_six (trouble.Ended fault.Store) x e = absurd (omega (arith, e))
+  by_six (trouble.Ended (fault.Refused why)) x e = absurd (omega (arith, e))
+  by_six (trouble.Ended fault.Memory) x e = absurd (omega (arith, e))
+
+  by_seven : (t : Trouble) → EndsBy w r t → status_of t ≡ 7 → EndsBy w r (trouble.Ended fault.Store)
+  by_seven trouble.Read x e = absurd (omega (arith, e))
+  by_seven (trouble.Config key) x e = absurd (omega (arith, e))
+  by_seven trouble.Begin x e = absurd (omega (arith, e))
+  by_seven trouble.Memory x e = absurd (omega (arith, e))
+  by_seven (trouble.Ended fault.Receive) x e = absurd (omega (arith, e))
+  by_seven (trouble.Ended fault.Store) x e = x
+  by_seven (trouble.Ended (fault.Refused why)) x e = absurd (omega (arith, e))
+  by_seven (trouble.Ended fault.Memory) x e = absurd (omega (arith, e))
+
+  by_nine : (t : Trouble) → EndsBy w r t → status_of t ≡ 9 → AreAreasRefused w r
+  by_nine trouble.Read x e = absurd (omega (arith, e))
+  by_nine (trouble.Config key) x e = absurd (omega (arith, e))
+  by_nine trouble.Begin x e = absurd (omega (arith, e))
+  by_nine trouble.Memory x e = absurd (omega (arith, e))
+  by_nine (trouble.Ended fault.Receive) x e = absurd (omega (arith, e))
+  by_nine (trouble.Ended fault.Store) x e = absurd (omega (arith, e))
+  by_nine (trouble.Ended (fault.Refused why)) x e = (why, x)
+  by_nine (trouble.Ended fault.Memory) x e = absurd (omega (arith, e))
+
+  by_eight : (t : Trouble) → EndsBy w r t → status_of t ≡ 8 → line_of t ≡ memory_line
+  by_eight trouble.Read x e = absurd (omega (arith, e))
+  by_eight (trouble.Config key) x e = absurd (omega (arith, e))
+  by_eight trouble.Begin x e = absurd (omega (arith, e))
+  by_eight trouble.Memory x e = refl
+  by_eight (trouble.Ended fault.Receive) x e = absurd (omega (arith, e))
+  by_eight (trouble.Ended fault.Store) x e = absurd (omega (arith, e))
+  by_eight (trouble.Ended (fault.Refused why)) x e = absurd (omega (arith, e))
+  by_eight (trouble.Ended fault.Memory) x e = refl
+
+module _ (w : NodeWordsView) (r : NodeRun) (result : ℕ) where
+  is_status : Ending w r result → IsNodeStatus result
+  is_status (Finished x e) = inl e
+  is_status (Ended t x e) = subst IsNodeStatus (sym e) (status_is t)
+  is_status (Failed x e) = inr (inr (inr (inl e)))
+  is_status (Wanted x e) = inr (inr (inr (inr (inr (inr (inl e))))))
+
+  is_done : Ending w r result → result ≡ 0 → IsDone w r
+  is_done (Finished x e) is = x
+  is_done (Ended t x e) is = absurd (no_zero w r t (sym e ∙ is))
+  is_done (Failed x e) is = absurd (omega (arith, e, is))
+  is_done (Wanted x e) is = absurd (omega (arith, e, is))
+
+  is_refused : Ending w r result → result ≡ 3 → IsConfigRefused w r
+  is_refused (Finished x e) is = absurd (omega (arith, e, is))
+  is_refused (Ended t x e) is = by_three w r t x (sym e ∙ is)
+  is_refused (Failed x e) is = absurd (omega (arith, e, is))
+  is_refused (Wanted x e) is = absurd (omega (arith, e, is))
+
+  is_unread : Ending w r result → result ≡ 4 → EndsBy w r trouble.Read
+  is_unread (Finished x e) is = absurd (omega (arith, e, is))
+  is_unread (Ended t x e) is = by_four w r t x (sym e ∙ is)
+  is_unread (Failed x e) is = absurd (omega (arith, e, is))
+  is_unread (Wanted x e) is = absurd (omega (arith, e, is))
+
+  pub is_unwritten : Ending w r result → result ≡ 5 → HasWriteFailed w r
+  is_unwritten (Finished x e) is = absurd (omega (arith, e, is))
+  is_unwritten (Ended t x e) is = absurd (no_five w r t (sym e ∙ is))
+  is_unwritten (Failed x e) is = x
+  is_unwritten (Wanted x e) is = absurd (omega (arith, e, is))
+
+  is_unheard : Ending w r result → result ≡ 6 → HasListeningFailed w r
+  is_unheard (Finished x e) is = absurd (omega (arith, e, is))
+  is_unheard (Ended t x e) is = by_six w r t x (sym e ∙ is)
+  is_unheard (Failed x e) is = absurd (omega (arith, e, is))
+  is_unheard (Wanted x e) is = absurd (omega (arith, e, is))
+
+  is_unstored : Ending w r result → result ≡ 7 → EndsBy w r (trouble.Ended fault.Store)
+  is_unstored (Finished x e) is = absurd (omega (arith, e, is))
+  is_unstored (Ended t x e) is = by_seven w r t x (sym e ∙ is)
+  is_unstored (Failed x e) is = absurd (omega (arith, e, is))
+  is_unstored (Wanted x e) is = absurd (omega (arith, e, is))
+
+  pub is_wanting : Ending w r result → result ≡ 8 → IsOutOfMemory w r
+  is_wanting (Finished x e) is = absurd (omega (arith, e, is))
+  is_wanting (Ended t x e) is =
+      inl (record {
+        err = subst (λ line. Gained r.streams.before.err.written r.streams.after.err.written line) (by_eight w r t x (sym e ∙ is)) x.err;
+        out = out_stays w r result x.out;
+      })
+  is_wanting (Failed x e) is = absurd (omega (arith, e, is))
+  is_wanting (Wanted x e) is = x
+
+  are_refused : Ending w r result → result ≡ 9 → AreAreasRefused w r
+  are_refused (Finished x e) is = absurd (omega (arith, e, is))
+  are_refused (Ended t x e) is = by_nine w r t x (sym e ∙ is)
+  are_refused (Failed x e) is = absurd (omega (arith, e, is))
+  are_refused (Wanted x e) is = absurd (omega (arith, e, is))
+
+  pub has_status : Ends w r result → IsNodeStatus result
+  has_status e = is_status (ending w r result e)
+
+  pub has_done : Ends w r result → result ≡ 0 → IsDone w r
+  has_done e is = is_done (ending w r result e) is
+
+  pub has_refused : Ends w r result → result ≡ 3 → IsConfigRefused w r
+  has_refused e is = is_refused (ending w r result e) is
+
+  pub has_unread : Ends w r result → result ≡ 4 → EndsBy w r trouble.Read
+  has_unread e is = is_unread (ending w r result e) is
+
+  pub has_unwritten : Ends w r result → result ≡ 5 → HasWriteFailed w r
+  has_unwritten e is = is_unwritten (ending w r result e) is
+
+  pub has_unheard : Ends w r result → result ≡ 6 → HasListeningFailed w r
+  has_unheard e is = is_unheard (ending w r result e) is
+
+  pub has_unstored : Ends w r result → result ≡ 7 → EndsBy w r (trouble.Ended fault.Store)
+  has_unstored e is = is_unstored (ending w r result e) is
+
+  pub has_wanting : Ends w r result → result ≡ 8 → IsOutOfMemory w r
+  has_wanting e is = is_wanting (ending w r result e) is
+
+  pub have_refused : Ends w r result → result ≡ 9 → AreAreasRefused w r
+  have_refused e is = are_refused (ending w r result e) is
+
+  pub has_come : Ends w r result → HasCome w r
+  has_come e = (e.came, e.comes)

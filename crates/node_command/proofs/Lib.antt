@@ -1,0 +1,4 @@
+pub mod Reading
+pub mod Taking
+pub mod Ending
+pub mod Completing

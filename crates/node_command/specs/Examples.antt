@@ -1,0 +1,40 @@
+-- Runs of a node for worked rows. Their input tells nothing, and their output and error stream were empty.
+use Rattle.std.specs.Prelude.{ℕ, List, [], ◌∷◌, Option, None, Some, codes}
+use Rattle.command_line.specs.AskedNodes.{NodeWordsView}
+use Rattle.disk.specs.Disk.{settled}
+use Rattle.node_device.specs.Examples.{counts, tells}
+use Rattle.node_device.specs.Faults.{Faults}
+use Rattle.node_device.specs.Telling.{Told}
+use Rattle.run_streams.specs.Seen.{SinkSeen, SourceSeen}
+use Rattle.node_command.specs.Seen.{DeviceSeen, NodeRun}
+
+-- node 0 for three turns
+abbrev pub words : NodeWordsView
+words = record { me = 0; turns = 3; state = codes "d" }
+
+abbrev pub source : ℕ → SourceSeen
+source faults = record { left = None; faults = faults }
+
+abbrev pub sink : List ℕ → SinkSeen
+sink written = record { written = Some written; faults = 0; wants = 0 }
+
+abbrev pub device : Option Told → Faults → DeviceSeen
+device told faults = record { told = told; faults = faults }
+
+abbrev pub idle : DeviceSeen
+idle = device (tells []) (counts 1 1)
+
+-- the run in which so many reads failed, that wrote this line on the error stream, and left the device as this
+abbrev pub complained : ℕ → List ℕ → DeviceSeen → NodeRun
+complained reads line after = record {
+  streams = record {
+    before = record { input = source 0; out = sink []; err = sink [] };
+    after = record { input = source reads; out = sink []; err = sink line };
+  };
+  before = idle;
+  after = after;
+}
+
+-- a device that has done nothing, with empty areas
+abbrev pub untouched : Told
+untouched = record { acts = []; disk = record { slot0 = settled []; slot1 = settled []; selector = settled [] } }

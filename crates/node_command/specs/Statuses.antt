@@ -1,0 +1,81 @@
+-- What each status of a node's run says: one record for each. Told contents are optional; what is said of them holds where they are told.
+use Rattle.std.specs.Prelude.{◌≡◌, ◌⊎◌, ℕ, List, Result, Ok, Err}
+use Rattle.command_line.specs.AskedNodes.{NodeWordsView}
+use Rattle.node_config.specs.declared.key.ConfigKey.{ConfigKey}
+use Rattle.node_state.specs.declared.opening.Refusal.{Refusal}
+use Rattle.outside.specs.Counting.{Rose}
+use Rattle.outside.specs.Wholes.{Gained, GainedFront}
+use Rattle.run_streams.specs.Lines.{memory_line}
+use Rattle.run_streams.specs.Seen.{CountsNothing}
+use Rattle.udp_node.specs.declared.fault.NodeFault.TheVariants as fault
+use Rattle.node_command.specs.Coming.{Comes}
+use Rattle.node_command.specs.Lines.{line_of, turns_line}
+use Rattle.node_command.specs.Seen.{NodeRun}
+use Rattle.node_command.specs.declared.trouble.Trouble.{Trouble}
+use Rattle.node_command.specs.declared.trouble.Trouble.TheVariants as trouble
+
+-- a status of a node's run
+abbrev pub IsNodeStatus : ℕ → Type 0
+IsNodeStatus n = (n ≡ 0) ⊎ (n ≡ 3) ⊎ (n ≡ 4) ⊎ (n ≡ 5) ⊎ (n ≡ 6) ⊎ (n ≡ 7) ⊎ (n ≡ 8) ⊎ (n ≡ 9)
+
+module _ (w : NodeWordsView) (r : NodeRun) where
+  -- what it came to
+  abbrev pub CameTo : Result (Unit {0}) Trouble → Type 0
+  CameTo = Comes w r.streams.before.input r.streams.after.input r.before r.after
+
+  -- whatever the status is, it came to something
+  abbrev pub HasCome : Type 0
+  HasCome = (came : Result (Unit {0}) Trouble) × CameTo came
+
+  -- 0: all turns were taken, and the output gained their line
+  pub record IsDone : Type 0 where
+    pub served : CameTo (Ok tt)
+    pub out : Gained r.streams.before.out.written r.streams.after.out.written (turns_line w.turns)
+    pub err : r.streams.after.err ≡ r.streams.before.err
+    pub quiet : CountsNothing r.streams.before.out r.streams.after.out
+
+  -- 3, 4, 6, 7, 9: this trouble came, the error stream gained its line, and the output is as it was
+  pub record EndsBy (t : Trouble) : Type 0 where
+    pub came : CameTo (Err t)
+    pub out : r.streams.after.out ≡ r.streams.before.out
+    pub err : Gained r.streams.before.err.written r.streams.after.err.written (line_of t)
+    pub quiet : CountsNothing r.streams.before.err r.streams.after.err
+
+  abbrev pub IsConfigRefused : Type 0
+  IsConfigRefused = (key : ConfigKey) × EndsBy (trouble.Config key)
+
+  abbrev pub HasListeningFailed : Type 0
+  HasListeningFailed = EndsBy trouble.Begin ⊎ EndsBy (trouble.Ended fault.Receive)
+
+  abbrev pub AreAreasRefused : Type 0
+  AreAreasRefused = (why : Refusal) × EndsBy (trouble.Ended (fault.Refused why))
+
+  -- a line that the run may say: that of the trouble that came, or that memory is wanted
+  abbrev pub MaySay : List ℕ → Type 0
+  MaySay line = ((t : Trouble) × CameTo (Err t) × (line ≡ line_of t)) ⊎ (line ≡ memory_line)
+
+  -- a front of such a line was written, and on the output nothing but a front of the line of the turns
+  pub record WasSaying : Type 0 where
+    pub line : List ℕ
+    pub may : MaySay line
+    pub front : GainedFront r.streams.before.err.written r.streams.after.err.written line
+    pub out : GainedFront r.streams.before.out.written r.streams.after.out.written (turns_line w.turns)
+
+  -- 5: a write of the output failed, after the last turn
+  pub record HasOutFailed : Type 0 where
+    pub served : CameTo (Ok tt)
+    pub front : GainedFront r.streams.before.out.written r.streams.after.out.written (turns_line w.turns)
+    pub rose : Rose r.streams.before.out.faults r.streams.after.out.faults
+    pub err : r.streams.after.err ≡ r.streams.before.err
+
+  -- or one of the error stream
+  abbrev pub HasWriteFailed : Type 0
+  HasWriteFailed = HasOutFailed ⊎ (Rose r.streams.before.err.faults r.streams.after.err.faults × WasSaying)
+
+  -- 8: memory was wanted: the error stream gained that line, or it wanted memory itself
+  pub record HasSaidMemory : Type 0 where
+    pub err : Gained r.streams.before.err.written r.streams.after.err.written memory_line
+    pub out : GainedFront r.streams.before.out.written r.streams.after.out.written (turns_line w.turns)
+
+  abbrev pub IsOutOfMemory : Type 0
+  IsOutOfMemory = HasSaidMemory ⊎ (Rose r.streams.before.err.wants r.streams.after.err.wants × WasSaying)

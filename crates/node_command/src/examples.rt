@@ -1,0 +1,48 @@
+ghost use Rattle.std.specs.Prelude.{◌≡◌, [], ◌∷◌, Err, None, Some, codes};
+ghost use Rattle.disk.specs.Acts.{Now};
+ghost use Rattle.node_command.specs.Complete.{areas_status, configured_status};
+ghost use Rattle.node_command.specs.Examples.{complained, device, idle, untouched, words};
+ghost use Rattle.node_command.specs.Lines.{config_line, line_of, state_line, status_of, turns_line};
+ghost use Rattle.node_command.specs.Statuses.{EndsBy, IsConfigRefused, IsNodeStatus, IsOutOfMemory, MaySay};
+ghost use Rattle.node_device.specs.Examples.{counts, tells};
+ghost use Rattle.slots.specs.Opening.{BadSelector};
+
+use crate::Trouble;
+use node_body::Why;
+use node_config::ConfigKey;
+use node_state::Refusal;
+use udp_node::NodeFault;
+
+/// Lines on the output and the error stream.
+pub fn worked_lines()
+    ensures turns { turns_line 3 ≡ codes "turns 3\n" }
+    ensures key { config_line ConfigKey.ElectionMs ≡ codes "config: election_ms\n" }
+    ensures selector { state_line Refusal.Selector ≡ codes "state: selector\n" }
+    ensures slot { state_line (Refusal.Slot Why.Slot) ≡ codes "state: slot\n" }
+    ensures journal { state_line (Refusal.Slot Why.Journal) ≡ codes "state: journal\n" }
+    ensures node { state_line (Refusal.Slot (Why.Node 0 1)) ≡ codes "state: node 0 1\n" }
+    ensures name { state_line (Refusal.Slot (Why.Name (10 ∷ 255 ∷ []) (0 ∷ 1 ∷ []))) ≡ codes "state: name 0aff 0001\n" }
+    ensures receive { line_of (Trouble.Ended NodeFault.Receive) ≡ codes "receive\n" }
+    ensures begin { line_of Trouble.Begin ≡ codes "open\n" }
+{}
+
+/// Statuses, and runs that one fits and does not fit.
+pub fn worked_statuses()
+    ensures of_a_key { status_of (Trouble.Config ConfigKey.Me) ≡ 3 }
+    ensures of_no_beginning { status_of Trouble.Begin ≡ 6 }
+    ensures of_a_receive { status_of (Trouble.Ended NodeFault.Receive) ≡ 6 }
+    ensures of_areas { status_of (Trouble.Ended (NodeFault.Refused Refusal.Selector)) ≡ 9 }
+    ensures never { IsNodeStatus 2 → ⊥ }
+    ensures without_faults { configured_status (Err ConfigKey.Me) untouched ≡ 3 }
+    ensures refused_areas { areas_status (Some BadSelector) ≡ 9 }
+    ensures opened_areas { areas_status None ≡ 0 }
+    ensures unread { EndsBy words (complained 1 (codes "read\n") idle) Trouble.Read }
+    ensures unread_uncounted { EndsBy words (complained 0 (codes "read\n") idle) Trouble.Read → ⊥ }
+    ensures unread_and_used { EndsBy words (complained 1 (codes "read\n") (device (tells (Now 0 ∷ [])) (counts 1 1))) Trouble.Read → ⊥ }
+    ensures unread_in_silence { EndsBy words (complained 1 [] idle) Trouble.Read → ⊥ }
+    ensures refused { IsConfigRefused words (complained 0 (codes "config: me\n") idle) }
+    ensures refused_after_a_fault { EndsBy words (complained 1 (codes "config: me\n") idle) (Trouble.Config ConfigKey.Me) → ⊥ }
+    ensures wanted { IsOutOfMemory words (complained 0 (codes "memory\n") idle) }
+    ensures wanted_in_silence { IsOutOfMemory words (complained 0 [] idle) → ⊥ }
+    ensures says_memory { MaySay words (complained 0 [] idle) (codes "memory\n") }
+{}

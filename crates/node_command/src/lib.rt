@@ -1,0 +1,14 @@
+//! The command of a node: it reads the configuration, begins on the device, takes its turns, and says how they ended. It knows nothing of
+//! the words that ask for it.
+#![tactic(auto)]
+
+mod command;
+mod examples;
+mod lines;
+mod running;
+mod telling;
+mod trouble;
+
+pub use command::run_node;
+pub use examples::{worked_lines, worked_statuses};
+pub use trouble::Trouble;

@@ -1,0 +1,100 @@
+ghost use Rattle.std.specs.Prelude.{◌≡◌, ◌++◌, ◌∷◌, IfOk, OnOk};
+ghost use Rattle.schedule_text.specs.Printing.{numbered};
+ghost use Rattle.node_command.specs.Lines.{config_line, differing, differing_names, refusal_text, slot_text, state_line, turns_line};
+
+use line_reader::NEWLINE;
+use node_body::Why;
+use node_config::ConfigKey;
+use node_state::Refusal;
+use std::alloc::{AllocError, Global};
+use wire_fields::NAME_LEN;
+
+// Adds a space and a number.
+fn push_number(text: &mut Vec<u8>, number: u32) -> Result<(), AllocError>
+    ensures { OnOk result (text.new.items ≡ numbered text.old.items number) }
+{
+    let alloc = *text.allocator();
+    text.push(b' ')?;
+    text.extend_from_slice(number.to_string(alloc)?.as_bytes())?;
+    Ok(())
+}
+
+// The line on the output after so many turns.
+pub(crate) fn turns_line(alloc: Global, turns: u32) -> Result<Vec<u8>, AllocError>
+    ensures { IfOk result (λ text. text.items ≡ turns_line turns) }
+{
+    let mut text = b"turns".to_vec(alloc)?;
+    push_number(&mut text, turns)?;
+    text.push(NEWLINE)?;
+    Ok(text)
+}
+
+// The line that names a key for which a configuration is refused.
+pub(crate) fn config_line(alloc: Global, key: ConfigKey) -> Result<Vec<u8>, AllocError>
+    ensures { IfOk result (λ text. text.items ≡ config_line key) }
+{
+    let mut text = b"config: ".to_vec(alloc)?;
+    text.extend_from_slice(key.word().as_bytes())?;
+    text.push(NEWLINE)?;
+    Ok(text)
+}
+
+// A word, and the two numbers that differ.
+fn differing(alloc: Global, word: &[u8], kept: u8, configured: u8) -> Result<Vec<u8>, AllocError>
+    ensures { IfOk result (λ text. text.items ≡ differing word.now kept configured) }
+{
+    let mut text = word.to_vec(alloc)?;
+    push_number(&mut text, u32::from(kept))?;
+    push_number(&mut text, u32::from(configured))?;
+    Ok(text)
+}
+
+// Two names of clusters, in hexadecimal digits.
+fn differing_names(
+    alloc: Global,
+    kept: [u8; NAME_LEN],
+    configured: [u8; NAME_LEN],
+) -> Result<Vec<u8>, AllocError>
+    ensures { IfOk result (λ text. text.items ≡ differing_names kept configured) }
+{
+    let mut text = b"name ".to_vec(alloc)?;
+    text.extend_from_slice(hex::encode(alloc, kept)?.as_bytes())?;
+    text.push(b' ')?;
+    text.extend_from_slice(hex::encode(alloc, configured)?.as_bytes())?;
+    Ok(text)
+}
+
+// Why a slot is not one of this node.
+fn slot_text(alloc: Global, why: Why) -> Result<Vec<u8>, AllocError>
+    ensures { IfOk result (λ text. text.items ≡ slot_text why) }
+{
+    match why {
+        Why::Slot => b"slot".to_vec(alloc),
+        Why::Body => b"body".to_vec(alloc),
+        Why::Journal => b"journal".to_vec(alloc),
+        Why::Stack { kept, configured } => differing(alloc, b"stack", kept, configured),
+        Why::Node { kept, configured } => differing(alloc, b"node", kept, configured),
+        Why::Cluster { kept, configured } => differing(alloc, b"cluster", kept, configured),
+        Why::Name { kept, configured } => differing_names(alloc, kept, configured),
+    }
+}
+
+// Why areas are refused.
+fn refusal_text(alloc: Global, why: Refusal) -> Result<Vec<u8>, AllocError>
+    ensures { IfOk result (λ text. text.items ≡ refusal_text why) }
+{
+    match why {
+        Refusal::Selector => b"selector".to_vec(alloc),
+        Refusal::Slot(why) => slot_text(alloc, why),
+    }
+}
+
+// The line that says why areas are refused.
+pub(crate) fn state_line(alloc: Global, why: Refusal) -> Result<Vec<u8>, AllocError>
+    ensures { IfOk result (λ text. text.items ≡ state_line why) }
+{
+    let mut text = b"state: ".to_vec(alloc)?;
+    text.extend_from_slice(&refusal_text(alloc, why)?)?;
+    text.push(NEWLINE)?;
+    Ok(text)
+}

@@ -1,0 +1,5 @@
+pub mod RealViews
+pub mod Outcomes
+pub mod Answers
+pub mod Leaving
+pub mod Examples

@@ -1,0 +1,6 @@
+//! Tests of a node's device over the system: what its socket, files and clock do in truth, which no clause says. They stand apart, as a
+//! crate that has tests is proved a second time with them.
+#![tactic(auto)]
+
+#[cfg(test)]
+mod real_device_tests;

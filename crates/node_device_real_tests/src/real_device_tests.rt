@@ -1,0 +1,189 @@
+ghost use Rattle.std.specs.Prelude.{◌≡◌, ◌<◌, true, IfSome};
+
+use node_device::{AreaRead, Device, Received, Shipped, Stored};
+use node_device_real::{Counts, RealDevice};
+use outside::{Address, Begun};
+use std::fs::File;
+use std::path::PathBuf;
+use std::rt::{Clock, Env, Files, Net};
+use std::test::Fail;
+use std::{env, fs, io};
+
+const NO_FAULTS: Counts = Counts {
+    begin: 0,
+    receive: 0,
+    store: 0,
+    send: 0,
+};
+
+// A datagram that a node sends.
+const SENT: [u8; 43] = [
+    0x56, 0x02, 0x05, 0x00, 0x01, 0x00, 0x00, 0x01, 0x02, 0x03, 0x04, 0x05, 0x06, 0x07, 0x08, 0x09,
+    0x0A, 0x0B, 0x0C, 0x0D, 0x0E, 0x0F, 0x01, 0x00, 0x00, 0x00, 0x00, 0x00, 0x00, 0x00, 0x01, 0x00,
+    0x00, 0x00, 0x00, 0x00, 0x00, 0x00, 0x00, 0x00, 0x00, 0x00, 0x00,
+];
+
+// A port of this computer.
+fn address(port: u16) -> Address {
+    Address {
+        ip: [127, 0, 0, 1],
+        port,
+    }
+}
+
+// An empty folder among the temporary files of the system. What an earlier run left goes first.
+fn empty_folder<R: Files + Env + AllocGlobal>(rt: &R, name: &str) -> io::Result<PathBuf> {
+    let folder = env::temp_dir(rt)?.join(rt.alloc(), name)?;
+    let _ = fs::remove_dir_all(rt, folder.as_path());
+    fs::create_dir(rt, folder.as_path())?;
+    Ok(folder)
+}
+
+// A device that has begun.
+fn begun<'a, R: Files<File = File> + Net + Clock + AllocGlobal>(
+    rt: &'a R,
+    at: Address,
+    folder: &str,
+) -> Option<RealDevice<'a, R>>
+    ensures { IfSome result (λ device. device.begun ≡ true) }
+{
+    let mut device = RealDevice::new(rt);
+    match device.begin(at, folder) {
+        Begun::Ready => Some(device),
+        Begun::Failed | Begun::Memory => None,
+    }
+}
+
+// What a receive comes to, and the room after it, which was filled with bars.
+fn receive<D: Device>(device: &mut D, wait_ms: u32) -> (Received, [u8; 48])
+    requires { D.begun device.old ≡ true }
+    ensures { D.begun device.new ≡ true }
+{
+    let mut room = [b'|'; 48];
+    let received = device.receive(wait_ms, &mut room);
+    (received, room)
+}
+
+// What a write of two bytes at the place 3 of an area, a sync and a cut to 4 come to.
+fn store<D: Device>(device: &mut D, area: u8, bytes: [u8; 2]) -> [Stored; 3]
+    requires begun { D.begun device.old ≡ true }
+    requires area { area < 3 }
+    ensures { D.begun device.new ≡ true }
+{
+    let wrote = device.write_at(area, 3, &bytes);
+    let synced = device.sync(area);
+    [wrote, synced, device.cut(area, 4)]
+}
+
+// What these come to at each area, with a letter of its own.
+fn store_each<D: Device>(device: &mut D) -> [[Stored; 3]; 3]
+    requires { D.begun device.old ≡ true }
+    ensures { D.begun device.new ≡ true }
+{
+    let slot0 = store(device, 0, *b"ax");
+    let slot1 = store(device, 1, *b"bx");
+    [slot0, slot1, store(device, 2, *b"cx")]
+}
+
+// What a read of four bytes from a place of an area comes to, and the room after it, which was filled with bars.
+fn read_four<D: Device>(device: &mut D, area: u8, at: u64) -> (AreaRead, [u8; 4])
+    requires begun { D.begun device.old ≡ true }
+    requires area { area < 3 }
+    ensures { D.begun device.new ≡ true }
+{
+    let mut room = [b'|'; 4];
+    let read = device.read_at(area, at, &mut room);
+    (read, room)
+}
+
+// Whether receives are quiet until the clock has grown.
+fn time_passes<D: Device>(device: &mut D) -> bool
+    requires { D.begun device.old ≡ true }
+    ensures { D.begun device.new ≡ true }
+{
+    let start = device.now();
+    for _ in 0..1_000 {
+        if receive(device, 10).0 != Received::Quiet {
+            return false;
+        }
+        if device.now() > start {
+            return true;
+        }
+    }
+    false
+}
+
+#[test]
+fn datagrams_time_and_areas_are_those_of_the_system(rt: HostRuntime) -> Result<(), Fail> {
+    let folder = empty_folder(&rt, "node_device_real_left")?;
+    let other = empty_folder(&rt, "node_device_real_right")?;
+    let mut left = begun(&rt, address(47101), folder.as_str()).expect(&rt, "begins");
+    let mut right = begun(&rt, address(47102), other.as_str()).expect(&rt, "begins");
+    assert_eq!(rt; left.send(address(47102), &SENT), Shipped::Sent);
+    let (received, room) = receive(&mut right, 10_000);
+    let from = address(47101);
+    assert_eq!(rt; received, Received::Datagram { from, len: 43 });
+    let mut wanted = [b'|'; 48];
+    wanted[..43].copy_from_slice(&SENT);
+    assert!(rt; room == wanted);
+    assert!(rt; time_passes(&mut right));
+    assert!(rt; receive(&mut right, 0) == (Received::Quiet, [b'|'; 48]));
+    for stored in store_each(&mut left) {
+        assert_eq!(rt; stored, [Stored::Done; 3]);
+    }
+    assert!(rt; read_four(&mut left, 2, 1) == (AreaRead::Got(3), *b"\0\0c|"));
+    assert!(rt; read_four(&mut left, 2, 4) == (AreaRead::Got(0), [b'|'; 4]));
+    for (name, bytes) in [
+        ("slot0", b"\0\0\0a"),
+        ("slot1", b"\0\0\0b"),
+        ("selector", b"\0\0\0c"),
+    ] {
+        let path = folder.join(rt.alloc(), name)?;
+        assert!(rt; fs::read(&rt, path.as_path())?.as_slice() == bytes.as_slice());
+    }
+    assert_eq!(rt; left.faults(), NO_FAULTS);
+    assert_eq!(rt; right.faults(), NO_FAULTS);
+    fs::remove_dir_all(&rt, folder.as_path())?;
+    fs::remove_dir_all(&rt, other.as_path())?;
+    Ok(())
+}
+
+#[test]
+fn calls_that_the_system_refuses_are_counted(rt: HostRuntime) -> Result<(), Fail> {
+    let folder = empty_folder(&rt, "node_device_real_faults")?;
+    let mut device = begun(&rt, address(47103), folder.as_str()).expect(&rt, "begins");
+    // Its port is taken, and it stays as it was begun.
+    assert_eq!(rt;
+        device.begin(address(47103), folder.as_str()),
+        Begun::Failed
+    );
+    let mut other = RealDevice::new(&rt);
+    assert_eq!(rt; other.begin(address(47103), folder.as_str()), Begun::Failed);
+    assert_eq!(rt;
+        other.begin(address(47104), "node_device_real_nowhere"),
+        Begun::Failed
+    );
+    assert_eq!(rt;
+        other.faults(),
+        Counts {
+            begin: 2,
+            ..NO_FAULTS
+        }
+    );
+    // Nothing of the beginnings that failed is open.
+    assert_eq!(rt; device.begin(address(47104), folder.as_str()), Begun::Ready);
+    assert_eq!(rt; other.begin(address(47103), folder.as_str()), Begun::Ready);
+    // A length, and a datagram, that the system cannot have.
+    assert_eq!(rt; other.cut(0, u64::MAX), Stored::Failed);
+    assert!(rt; read_four(&mut other, 0, u64::MAX) == (AreaRead::Failed, [b'|'; 4]));
+    assert_eq!(rt; other.send(address(47104), &[0; 70_000]), Shipped::Failed);
+    let counts = Counts {
+        begin: 2,
+        receive: 0,
+        store: 2,
+        send: 1,
+    };
+    assert_eq!(rt; other.faults(), counts);
+    fs::remove_dir_all(&rt, folder.as_path())?;
+    Ok(())
+}

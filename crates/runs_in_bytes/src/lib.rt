@@ -1,0 +1,17 @@
+//! Schedules that are run in bytes: each packet is spelled when it is sent and read when it comes, and what a node of a cluster keeps
+//! while it is stopped is bytes alone. What clients see, what is refused and the image are those of the handlers that the stack is of.
+//! It knows nothing of texts.
+#![tactic(auto)]
+
+mod always_fits;
+mod cluster;
+mod commands;
+mod name;
+mod on_wire;
+mod running;
+
+pub use always_fits::AlwaysFits;
+pub use cluster::ClusterInBytes;
+pub use commands::{BackedCommands, BackedNumberedCommands, ClusteredCommands};
+pub use on_wire::{OnWire, OnWireNumbered};
+pub use running::RunningInBytes;

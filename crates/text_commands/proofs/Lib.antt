@@ -1,0 +1,2 @@
+pub mod Complained
+pub mod Endings

@@ -1,0 +1,135 @@
+-- These print numbers, whose digits have to be computed.
+use Rattle.std.proofs.Common.{codes, inl, inr, lit≤, refl, ℕ, List, [], Option}
+use Rattle.std.specs.Fmt.{digits}
+use Rattle.line_reader.specs.declared.why.Why.TheVariants as why
+use Rattle.vst_base.specs.declared.stack.StackId.TheVariants as stack
+use Rattle.schedule_replay.specs.Replays.{replayed}
+use Rattle.run_streams.specs.Lines.{memory_line}
+use Rattle.run_streams.specs.Seen.{CountsNothing}
+use Rattle.text_commands.specs.declared.complaint.Complaint.TheVariants as complaint
+use Rattle.command_line.proofs.OnLiterals.{words_on_literals}
+use Rattle.text_commands.proofs.status_examples.worked_statuses.Goals as goal
+
+-- a sink without counts
+nothing : {written written' : Option (List ℕ)} → CountsNothing (record { written = written; faults = 0; wants = 0 }) (record { written = written'; faults = 0; wants = 0 })
+nothing = record { faults = refl; wants = refl }
+
+pub returns-clause-replayed : goal.returns-clause-replayed
+unfolding digits
+returns-clause-replayed c =
+    let bytes = codes "schedule 1 bag lock 2\n" in
+    record {
+      ended = refl;
+      status = refl;
+      out = refl;
+      verdict = tt;
+      err = refl;
+      explained = ((replayed bytes).out, refl, c.replays_are_explained.ensures.explained bytes refl);
+      quiet = record { reads = refl; writes = record { out = nothing; err = nothing } };
+    }
+
+pub returns-clause-permitted : goal.returns-clause-permitted
+unfolding digits
+returns-clause-permitted c = record {
+  ended = refl;
+  status = refl;
+  out = refl;
+  verdict = refl;
+  err = refl;
+  explained = (c.permitted_claims_are_explained.ensures.explained stack.Lock (codes "below\nschedule 1 bag lock 2\n")).0 refl;
+  quiet = record { reads = refl; writes = record { out = nothing; err = nothing } };
+}
+
+pub returns-clause-denied : goal.returns-clause-denied
+unfolding digits
+returns-clause-denied c = record {
+  condition = 5;
+  line = 1;
+  ended = refl;
+  status = refl;
+  named = refl;
+  out = refl;
+  err = refl;
+  refuted = c.permitted_claims_are_explained.ensures.refuted stack.Lock (codes "out 1 locked\nbelow\nschedule 1 bag lock 2\n") 5 1 refl;
+  quiet = record { reads = refl; writes = record { out = nothing; err = nothing } };
+}
+
+pub returns-clause-words : goal.returns-clause-words
+unfolding words_on_literals
+returns-clause-words c = record {
+  not_taken = refl;
+  input = refl;
+  out = refl;
+  err = refl;
+  quiet = record { reads = refl; writes = record { out = nothing; err = nothing } };
+}
+
+pub returns-clause-refused : goal.returns-clause-refused
+unfolding digits
+returns-clause-refused c = record {
+  line = 2;
+  why = why.NoCopy;
+  reading = refl;
+  status = refl;
+  named = refl;
+  ahead = (codes "schedule 1 bag lock 2\ndeliver 7\n", ([], refl, refl), lit≤ tt);
+  out = refl;
+  verdict = tt;
+  err = refl;
+  quiet = record { reads = refl; writes = record { out = nothing; err = nothing } };
+}
+
+pub returns-clause-read : goal.returns-clause-read
+unfolding digits
+returns-clause-read c = record {
+  reading = refl;
+  rose = lit≤ tt;
+  given = record {
+    given = codes "schedule 1 bag lock 2\nin 1";
+    gave = (codes " lock\n", refl, refl);
+    short = lit≤ tt;
+    taken = refl;
+    out = refl;
+  };
+  verdict = tt;
+  err = refl;
+  quiet = record { out = nothing; err = nothing };
+}
+
+pub returns-clause-write : goal.returns-clause-write
+unfolding digits
+returns-clause-write c = record { front = record { out = (3, refl); verdict = (3, refl) }; err = inl (lit≤ tt, refl) }
+
+pub returns-clause-write_of_a_line : goal.returns-clause-write_of_a_line
+unfolding digits
+returns-clause-write_of_a_line c = record {
+  front = record { out = (0, refl); verdict = tt };
+  err = inr (
+    lit≤ tt,
+    record {
+      status = 3;
+      line = codes "line 2: no copy\n";
+      may = record { saying = complaint.Line 2 why.NoCopy; cause = (refl, record { status = refl; line = refl }); status_is = refl; line_is = refl };
+      front = (4, refl);
+    },
+  );
+}
+
+pub returns-clause-memory : goal.returns-clause-memory
+unfolding digits
+returns-clause-memory c = record { front = record { out = (3, refl); verdict = tt }; err = inl refl }
+
+pub returns-clause-memory_of_the_error_stream : goal.returns-clause-memory_of_the_error_stream
+unfolding digits
+returns-clause-memory_of_the_error_stream c = record {
+  front = record { out = (0, refl); verdict = tt };
+  err = inr (
+    lit≤ tt,
+    record {
+      status = 8;
+      line = memory_line;
+      may = record { saying = complaint.Memory; cause = tt; status_is = refl; line_is = refl };
+      front = (3, refl);
+    },
+  );
+}

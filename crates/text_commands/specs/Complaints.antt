@@ -1,0 +1,60 @@
+-- What a run says on its error stream, and when it may say so.
+use Rattle.std.specs.Prelude.{◌≡◌, ℕ, List, IsTrue, None, Option}
+use Rattle.outside.specs.Counting.{Rose}
+use Rattle.outside.specs.Wholes.{GainedFront}
+use Rattle.schedule_text.specs.Printing.{refusal_line}
+use Rattle.command_line.specs.declared.command.Command.{Command}
+use Rattle.text_commands.specs.Answers.{Answer, condition_line, is_check, reads, usage_line}
+use Rattle.text_commands.specs.Runs.{IfAnswered}
+use Rattle.run_streams.specs.Lines.{memory_line, read_failed_line}
+use Rattle.run_streams.specs.Saying.{Tells}
+use Rattle.run_streams.specs.Seen.{Run, SinkSeen}
+use Rattle.text_commands.specs.declared.complaint.Complaint.{Complaint}
+use Rattle.text_commands.specs.declared.complaint.Complaint.TheVariants as complaint
+
+-- the status that a complaint is told with, and its line
+abbrev pub status_of : Complaint → ℕ
+status_of (complaint.Condition condition line) = 1
+status_of complaint.Words = 2
+status_of (complaint.Line line why) = 3
+status_of complaint.Read = 4
+status_of complaint.Memory = 8
+
+abbrev pub line_of : Complaint → List ℕ
+line_of (complaint.Condition condition line) = condition_line condition line
+line_of complaint.Words = usage_line
+line_of (complaint.Line line why) = refusal_line line why
+line_of complaint.Read = read_failed_line
+line_of complaint.Memory = memory_line
+
+-- the answer has the status and the line of this complaint
+pub record Complains (c : Complaint) (answer : Answer) : Type 0 where
+  pub status : answer.status ≡ status_of c
+  pub line : answer.err ≡ line_of c
+
+-- a run of a command has cause for a complaint: a false condition and a refused line where the answer to its input complains so,
+-- refused words where they name no command, a failed read where a read failed. Want of memory needs none
+abbrev pub HasCause : Option Command → Run → Complaint → Type 0
+HasCause command r (complaint.Condition condition line) = IsTrue (is_check command) × IfAnswered command r (Complains (complaint.Condition condition line))
+HasCause command r complaint.Words = command ≡ None
+HasCause command r (complaint.Line line why) = IsTrue (reads command) × IfAnswered command r (Complains (complaint.Line line why))
+HasCause command r complaint.Read = IsTrue (reads command) × Rose r.before.input.faults r.after.input.faults
+HasCause command r complaint.Memory = Unit {0}
+
+-- a run of a command may end with this status and this line on the error stream
+pub record MaySay (command : Option Command) (r : Run) (status : ℕ) (line : List ℕ) : Type 0 where
+  pub saying : Complaint
+  pub cause : HasCause command r saying
+  pub status_is : status ≡ status_of saying
+  pub line_is : line ≡ line_of saying
+
+-- a front of such a line was written
+pub record WasSaying (command : Option Command) (r : Run) : Type 0 where
+  pub status : ℕ
+  pub line : List ℕ
+  pub may : MaySay command r status line
+  pub front : GainedFront r.before.err.written r.after.err.written line
+
+-- what telling a complaint comes to
+abbrev pub Told : Complaint → SinkSeen → SinkSeen → ℕ → Type 0
+Told c before after result = Tells (status_of c) (line_of c) before after result

@@ -1,0 +1,5 @@
+pub mod Answers
+pub mod Complaints
+pub mod Examples
+pub mod Runs
+pub mod Statuses

@@ -1,0 +1,54 @@
+ghost use Rattle.std.specs.Prelude.{◌≡◌, ◌≢◌, ℕ, Some};
+ghost use Rattle.command_line.specs.declared.command.Command.TheVariants as command;
+ghost use Rattle.text_commands.specs.Runs.{IsComplete};
+ghost use Rattle.run_streams.specs.Seen.{KeepsCounts, ran};
+ghost use Rattle.text_commands.specs.Statuses.{HasReadFailed, HasWriteFailed, IsDenied, IsDone, IsLineRefused, IsOutOfMemory, IsStatus};
+
+use crate::Complaint;
+use crate::telling::tell;
+use outside::{Sink, Source, WriteFault, write_all};
+use permitted_claims::permitted_claims_are_explained;
+use run_streams::{DONE, WRITE_FAILED};
+use std::alloc::Global;
+use trace_check::{CheckFault, Verdict, check};
+use vst_base::StackId;
+
+// The command check: a trace and an image on the input, the verdict on the output or the error stream.
+pub(crate) fn run_check<S: Source, O: Sink, E: Sink>(
+    alloc: Global,
+    stack: StackId,
+    input: &mut S,
+    out: &mut O,
+    err: &mut E,
+) -> u8
+    ensures status { IsStatus result }
+    ensures complete { IsComplete (Some (command.Check stack))
+        (ran S.Source O.Sink E.Sink input.old input.new out.old out.new err.old err.new) result }
+    ensures done { result ≡ 0 → IsDone (Some (command.Check stack))
+        (ran S.Source O.Sink E.Sink input.old input.new out.old out.new err.old err.new) }
+    ensures denied { result ≡ 1 → IsDenied (Some (command.Check stack))
+        (ran S.Source O.Sink E.Sink input.old input.new out.old out.new err.old err.new) }
+    ensures words { result ≢ 2 }
+    ensures refused { result ≡ 3 → IsLineRefused (Some (command.Check stack))
+        (ran S.Source O.Sink E.Sink input.old input.new out.old out.new err.old err.new) }
+    ensures read { result ≡ 4 → HasReadFailed (Some (command.Check stack))
+        (ran S.Source O.Sink E.Sink input.old input.new out.old out.new err.old err.new) }
+    ensures write { result ≡ 5 → HasWriteFailed (Some (command.Check stack))
+        (ran S.Source O.Sink E.Sink input.old input.new out.old out.new err.old err.new) }
+    ensures memory { result ≡ 8 → IsOutOfMemory (Some (command.Check stack))
+        (ran S.Source O.Sink E.Sink input.old input.new out.old out.new err.old err.new) }
+    ensures counts { KeepsCounts (ran S.Source O.Sink E.Sink input.old input.new out.old out.new err.old err.new) }
+{
+    permitted_claims_are_explained();
+    match check(alloc, stack, input) {
+        Ok(Verdict::Yes) => match write_all(out, b"permitted\n") {
+            Ok(()) => DONE,
+            Err(WriteFault::Failed) => WRITE_FAILED,
+            Err(WriteFault::Memory) => tell(alloc, err, Complaint::Memory),
+        },
+        Ok(Verdict::No(condition, line)) => tell(alloc, err, Complaint::Condition(condition, line)),
+        Err(CheckFault::Read) => tell(alloc, err, Complaint::Read),
+        Err(CheckFault::Refused { line, why }) => tell(alloc, err, Complaint::Line(line, why)),
+        Err(CheckFault::Memory) => tell(alloc, err, Complaint::Memory),
+    }
+}
