@@ -8,6 +8,9 @@ use vst_base::Node;
 use wire_codec::{Heading, Kind};
 use wire_messages::Wire;
 
+// How many bytes a packet has room for from the first: a message of Raft with one entry of short tokens takes no more.
+const ROOM: usize = 96;
+
 /// What is sent in place of a message: the bytes of a datagram, or any others. Contracts see the bytes.
 #[derive(Debug, Drop)]
 pub struct Packet {
@@ -55,7 +58,7 @@ impl Packet {
             to: to.index(),
             name: cluster.name,
         };
-        let mut bytes = Vec::new(alloc);
+        let mut bytes = Vec::with_capacity(alloc, ROOM)?;
         heading.put(&mut bytes)?;
         message.put(&mut bytes)?;
         Ok(Packet { bytes })
