@@ -1,6 +1,7 @@
 pub mod Places
 pub mod Eventful
 pub mod Showing
+pub mod Counts
 pub mod Taken
 pub mod Stops
 pub mod FailShowing

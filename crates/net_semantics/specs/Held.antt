@@ -1,5 +1,5 @@
 -- Packets as a `World` holds them: the content of one goes with its last copy.
-use Rattle.std.specs.Prelude.{ℕ, ◌+◌, ◌-◌, ◌==◌, Option, Some, None, if◌then◌else◌}
+use Rattle.std.specs.Prelude.{ℕ, nat_lt, ◌+◌, ◌-◌, ◌==◌, List, count_by, Option, Some, None, if◌then◌else◌}
 use Rattle.net_semantics.specs.Shown.{Shown}
 
 -- a packet that was just sent
@@ -19,3 +19,7 @@ held_copies (Some p) = p.copies
 abbrev pub held_ends : {M : Type 0} → Option (Shown M) → Option (ℕ × ℕ)
 held_ends None = None
 held_ends (Some p) = Some (p.source, p.destination)
+
+-- how many of these have a copy in flight
+abbrev pub held_count : {M : Type 0} → List (Shown M) → ℕ
+held_count ps = count_by (λ p. nat_lt 0 p.copies) ps

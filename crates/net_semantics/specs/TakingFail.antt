@@ -1,5 +1,5 @@
 -- What one step makes of a `FailWorld`, as its parts do it.
-use Rattle.std.specs.Prelude.{◌≡◌, ◌≢◌, ℕ, ◌+◌, ◌++◌, length, Result, IfErr, OnOk}
+use Rattle.std.specs.Prelude.{◌≡◌, ◌≢◌, ◌+◌, ◌++◌, length, Result, IfErr, OnOk}
 use Rattle.handler_trait.specs.Facts.{RebootPromises, RebootableFacts, reboot_promises_of}
 use Rattle.vst_base.specs.declared.net.Net.TheVariants as net
 use Rattle.vst_base.specs.declared.step.Step.{Step}

@@ -1,5 +1,5 @@
 -- The world of a network (Verdi, PLDI 2015): the nodes, and every packet that was ever sent.
-use Rattle.std.specs.Prelude.{ℕ, zero, suc, Bool, true, ◌+◌, ◌-◌, ◌==◌, List, [], ◌∷◌, map, Option, Some, None, if◌then◌else◌, slice_get}
+use Rattle.std.specs.Prelude.{ℕ, zero, suc, Bool, true, nat_lt, ◌+◌, ◌-◌, ◌==◌, List, [], ◌∷◌, map, count_by, Option, Some, None, if◌then◌else◌, slice_get}
 use Rattle.handler_trait.specs.Handling.{Meaning}
 
 -- a packet: its ends, its content, and how many copies of it are in flight
@@ -54,3 +54,7 @@ copies w k = copies_of (slice_get w.packets k)
 
 abbrev pub ends : {S K M : Type 0} → World S K M → ℕ → Option (ℕ × ℕ)
 ends w k = ends_of (slice_get w.packets k)
+
+-- how many packets have a copy in flight
+abbrev pub held : {S K M : Type 0} → World S K M → ℕ
+held w = count_by (λ p. nat_lt 0 p.copies) w.packets

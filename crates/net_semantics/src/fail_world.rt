@@ -1,5 +1,5 @@
 ghost use Rattle.std.specs.Prelude.{◌≡◌, ◌≢◌, ℕ, ◌+◌, ◌<◌, ◌≤◌, [], ◌++◌, length, true, false, IsTrue, IfOk, IfErr, OnOk, OnErr, MatchResult, Ok, Err};
-ghost use Rattle.net_semantics.specs.Worlds.{first_world, copies, ends};
+ghost use Rattle.net_semantics.specs.Worlds.{first_world, copies, ends, held};
 ghost use Rattle.net_semantics.specs.Steps.{next, refusal_of, items_of, IsAnswer, acting, fails};
 ghost use Rattle.net_semantics.specs.ShownFail.{ForShownFail, IsSoundFailBy, ShowsFailBy};
 ghost use Rattle.net_semantics.specs.Taking.{GrowsBy};
@@ -118,7 +118,7 @@ impl<H: Rebootable> FailWorld<H> {
         self.world.trace()
     }
 
-    /// Lets go of what clients saw so far: the trace begins anew. Nothing else changes.
+    /// Clears what clients saw so far: the trace begins anew. Nothing else changes.
     pub fn forget_trace(&mut self)
         ensures { self.new ≡ record self.old { trace = [] } }
     {
@@ -145,6 +145,15 @@ impl<H: Rebootable> FailWorld<H> {
         ensures { ForShownFail H.Rebootable self.now (λ w. result ≡ length w.packets) }
     {
         self.world.sent()
+    }
+
+    /// How many packets have a copy in flight.
+    #[tactic(auto, using(crate::proofs::FailShowing::shows_up))]
+    pub fn held(&self) -> u32
+        requires sound { IsSoundFailBy H.Rebootable self.now }
+        ensures { ForShownFail H.Rebootable self.now (λ w. result ≡ held w) }
+    {
+        self.world.held()
     }
 
     /// Whether node `n` is up.

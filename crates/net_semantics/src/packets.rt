@@ -1,6 +1,6 @@
 ghost use Rattle.std.specs.Prelude.{◌≡◌, ℕ, ◌+◌, ◌<◌, ◌^◌, [], ◌∷◌, ◌++◌, length, Some, IfOk, IfErr, OnOk, OnErr, slice_get};
 ghost use Rattle.net_semantics.specs.Worlds.{change_at};
-ghost use Rattle.net_semantics.specs.Held.{held_sent, held_more, held_less, held_copies, held_ends};
+ghost use Rattle.net_semantics.specs.Held.{held_sent, held_more, held_less, held_copies, held_ends, held_count};
 
 use std::alloc::{AllocError, Global};
 use std::marker::Model;
@@ -48,15 +48,20 @@ impl<M: Drop> Packet<M> {
 #[derive(Drop)]
 pub struct Packets<M> {
     items: Vec<Packet<M>>,
+    held: usize,
 }
 
 impl<M> Model for Packets<M> {
     ghost use Rattle.std.specs.Prelude.{List};
+    ghost use Rattle.std.specs.Prelude.{◌≡◌};
     ghost use Rattle.net_semantics.specs.Shown.{Shown};
+    ghost use Rattle.net_semantics.specs.Held.{held_count};
 
     ghost Value = { List (Shown M) };
 
     ghost view = { λ p. p.items.items };
+
+    ghost invariant = { λ p. p.held ≡ held_count p.items.items };
 }
 
 impl<M: Drop> Packets<M> {
@@ -66,6 +71,7 @@ impl<M: Drop> Packets<M> {
     {
         Packets {
             items: Vec::new(alloc),
+            held: 0,
         }
     }
 
@@ -74,6 +80,13 @@ impl<M: Drop> Packets<M> {
         ensures { result ≡ length self.now }
     {
         self.items.len()
+    }
+
+    /// How many have a copy in flight.
+    pub fn held(&self) -> usize
+        ensures { result ≡ held_count self.now }
+    {
+        self.held
     }
 
     /// How many copies of packet `k` are in flight, none of one that was never sent.
@@ -116,8 +129,9 @@ impl<M: Drop> Packets<M> {
     }
 
     /// One more copy of packet `k` is in flight. It takes no memory.
+    #[tactic(auto, using(crate::proofs::Counts::count_some, crate::proofs::Counts::set_more))]
     pub fn add_copy(&mut self, k: usize)
-        requires sent { k < length self.old }
+        requires copy { 0 < held_copies (slice_get self.old k) }
         requires fits { held_copies (slice_get self.old k) + 1 < 2 ^ 32 }
         ensures { self.new ≡ change_at held_more k self.old }
     {
@@ -126,12 +140,16 @@ impl<M: Drop> Packets<M> {
     }
 
     /// One copy less of packet `k` is in flight.
+    #[tactic(auto, using(crate::proofs::Counts::count_some, crate::proofs::Counts::count_none, crate::proofs::Counts::counted, crate::proofs::Counts::set_less))]
     pub fn take_copy(&mut self, k: usize)
         requires { 0 < held_copies (slice_get self.old k) }
         ensures { self.new ≡ change_at held_less k self.old }
     {
         let packet = &mut self.items[k];
         packet.take_copy();
+        if packet.copies == 0 {
+            self.held -= 1;
+        }
     }
 
     /// Adds a packet with one copy in flight.
@@ -144,6 +162,7 @@ impl<M: Drop> Packets<M> {
             copies: 1,
             content: Some(content),
         })?;
+        self.held += 1;
         Ok(())
     }
 }

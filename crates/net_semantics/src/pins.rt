@@ -1,5 +1,5 @@
 ghost use Rattle.std.specs.Prelude.{◌≡◌, ℕ, [], ◌∷◌, true, false, Some, None, slice_get};
-ghost use Rattle.net_semantics.specs.Worlds.{copies, ends};
+ghost use Rattle.net_semantics.specs.Worlds.{copies, ends, held};
 ghost use Rattle.net_semantics.specs.Runs.{trace, first_refused, machine, machine_trace, no_recovery, outputs_in};
 ghost use Rattle.net_semantics.specs.Once.{once};
 ghost use Rattle.net_semantics.specs.ShownFail.{kept_at};
@@ -74,6 +74,13 @@ pub fn steps_of_a_world()
     ensures dup_other { copies (echo_after (Step.In 1 5 ∷ Step.In 1 6 ∷ Step.Dup 1 ∷ [])) 0 ≡ 1 }
     ensures lose_copies { copies (echo_after (Step.In 1 5 ∷ Step.Dup 0 ∷ Step.Lose 0 ∷ [])) 0 ≡ 1 }
     ensures lose_state { (echo_after (Step.In 1 5 ∷ Step.Lose 0 ∷ [])).state 0 ≡ 0 }
+
+    ensures held_of_none_one_and_two { held (echo_after (Step.In 1 5 ∷ Step.In 1 6 ∷ Step.In 1 7 ∷ Step.Deliver 0 ∷ Step.Dup 2 ∷ [])) ≡ 2 }
+    ensures dup_held { held (echo_after (Step.In 1 5 ∷ Step.Dup 0 ∷ [])) ≡ 1 }
+    ensures lose_held { held (echo_after (Step.In 1 5 ∷ Step.In 1 6 ∷ Step.Lose 0 ∷ [])) ≡ 1 }
+    ensures lose_of_two_held { held (echo_after (Step.In 1 5 ∷ Step.Dup 0 ∷ Step.Lose 0 ∷ [])) ≡ 1 }
+    ensures deliver_last_held { held (echo_after (Step.In 1 5 ∷ Step.Deliver 0 ∷ [])) ≡ 0 }
+    ensures deliver_of_two_held { held (echo_after (Step.In 1 5 ∷ Step.Dup 0 ∷ Step.Deliver 0 ∷ [])) ≡ 1 }
 
     ensures crash_up { (echo_after (Step.In 1 5 ∷ Step.Crash 1 ∷ [])).is_up 1 ≡ false }
     ensures crash_other_up { (echo_after (Step.In 1 5 ∷ Step.Crash 1 ∷ [])).is_up 0 ≡ true }

@@ -1,5 +1,5 @@
 ghost use Rattle.std.specs.Prelude.{◌≡◌, ◌≢◌, ℕ, ◌+◌, ◌<◌, ◌≤◌, [], ◌++◌, length, IsTrue, IsOk, IfOk, IfErr, OnOk, OnErr, Some, None, Ok, Err, slice_get};
-ghost use Rattle.net_semantics.specs.Worlds.{first_world, change_at, copies, ends};
+ghost use Rattle.net_semantics.specs.Worlds.{first_world, change_at, copies, ends, held};
 ghost use Rattle.net_semantics.specs.Steps.{next, refusal_of, items_of, IsAnswer};
 ghost use Rattle.net_semantics.specs.Runs.{no_recovery};
 ghost use Rattle.net_semantics.specs.Shown.{ForShown, IsSoundBy, ShowsBy};
@@ -134,7 +134,7 @@ impl<H: Handlers> World<H> {
         &self.trace
     }
 
-    /// Lets go of what clients saw so far: the trace begins anew. Nothing else changes.
+    /// Clears what clients saw so far: the trace begins anew. Nothing else changes.
     pub fn forget_trace(&mut self)
         ensures { self.new ≡ record self.old { trace = [] } }
     {
@@ -161,6 +161,15 @@ impl<H: Handlers> World<H> {
         ensures { ForShown H.Handlers self.now (λ w. result ≡ length w.packets) }
     {
         self.packets.len() as u32
+    }
+
+    /// How many packets have a copy in flight.
+    #[tactic(auto, using(crate::proofs::Counts::count_shown))]
+    pub fn held(&self) -> u32
+        requires sound { IsSoundBy H.Handlers self.now }
+        ensures { ForShown H.Handlers self.now (λ w. result ≡ held w) }
+    {
+        self.packets.held() as u32
     }
 
     /// Whether node `n` is up: on these networks it always is.

@@ -6,24 +6,28 @@ use net_semantics::{FailWorld, MAX_STEPS, Node, Step, StepRefusal};
 use std::alloc::Global;
 use std::test::Fail;
 
-// The world after these steps.
+// The world after these steps, and how many packets had a copy in flight after each.
 fn after<H: Rebootable>(
     alloc: Global,
     handlers: H,
     steps: &[Step<H::Input>],
-) -> Result<FailWorld<H>, StepRefusal>
+) -> Result<(FailWorld<H>, Vec<u32>), StepRefusal>
     requires { length steps.now < MAX_STEPS }
-    ensures handlers { IfOk result (λ world. world.handlers ≡ handlers) }
-    ensures taken { IfOk result (λ world. world.taken ≡ length steps.now) }
-    ensures sound { IfOk result (IsSoundFailBy H.Rebootable) }
+    ensures handlers { IfOk result (λ r. r.0.handlers ≡ handlers) }
+    ensures taken { IfOk result (λ r. r.0.taken ≡ length steps.now) }
+    ensures sound { IfOk result (λ r. IsSoundFailBy H.Rebootable r.0) }
 {
     let Ok(mut world) = FailWorld::new(alloc, handlers) else {
         return Err(StepRefusal::Memory);
     };
+    let mut held = Vec::new(alloc);
     for step in steps {
         world.step(step)?;
+        if held.push(world.held()).is_err() {
+            return Err(StepRefusal::Memory);
+        }
     }
-    Ok(world)
+    Ok((world, held))
 }
 
 #[test]
@@ -38,7 +42,8 @@ fn a_world_takes_steps_around_a_reboot(rt: HostRuntime) -> Result<(), Fail> {
         Step::Deliver(0),
         Step::Crash(1),
     ];
-    let mut world = after(rt.alloc(), Echo::new(3), &steps)?;
+    let (mut world, held) = after(rt.alloc(), Echo::new(3), &steps)?;
+    assert!(rt; held == [1, 1, 1, 1, 1, 2, 1, 1]);
     let first = Node::new(0, 2).unwrap();
     let second = Node::new(1, 2).unwrap();
     assert!(rt; world.is_up(first));
