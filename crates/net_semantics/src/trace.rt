@@ -36,7 +36,7 @@ impl<I: Drop, O: Drop> Trace<I, O> {
         &self.items
     }
 
-    /// Lets go of every item. It takes no memory.
+    /// Clears it of every item. It takes no memory.
     pub fn clear(&mut self)
         ensures { self.new ≡ [] }
     {
