@@ -1,1 +1,5 @@
-pub mod Kept
+pub mod Strips
+pub mod Rising
+pub mod Members
+pub mod Marks
+pub mod Rows

@@ -1,1 +1,3 @@
+pub mod Marked
+pub mod Members
 pub mod NumberSetLaws

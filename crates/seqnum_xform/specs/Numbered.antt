@@ -1,5 +1,5 @@
 -- What a node remembers under sequence numbering.
-use Rattle.std.specs.Prelude.{ℕ, zero, suc, Bool, false, List, [], ◌∷◌, Option, Some, None, slice_get, refl}
+use Rattle.std.specs.Prelude.{ℕ, zero, suc, Bool, false, List, [], ◌∷◌, Option, Some, None, slice_get, unwrap_or, refl}
 use Rattle.std.specs.Coded.{Coded, code_by, coded×, coded_list, coded_ℕ}
 use Rattle.std.specs.FinSet as set
 use Rattle.std.specs.FinSet.{FinSet}
@@ -27,6 +27,10 @@ is_in (Some s) n = set.contains s n
 
 abbrev pub has_seen : Seen → ℕ → ℕ → Bool
 has_seen ss sender n = is_in (slice_get ss sender) n
+
+-- all that were seen of a sender
+abbrev pub seen_of : Seen → ℕ → FinSet nat_cmp
+seen_of ss sender = unwrap_or (slice_get ss sender) set.empty
 
 -- with a number of a sender seen too
 abbrev pub with_seen : Seen → ℕ → ℕ → Seen

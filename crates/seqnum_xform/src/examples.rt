@@ -1,7 +1,8 @@
 ghost use Rattle.std.specs.Prelude.{◌≡◌, ℕ, [], ◌∷◌, true, false, None};
+ghost use Rattle.std.specs.FinSet as set;
 ghost use Rattle.handler_trait.specs.Echo.{echo};
 ghost use Rattle.net_semantics.specs.Runs.{first_refused, no_recovery, trace};
-ghost use Rattle.seqnum_xform.specs.Numbered.{Numbered, has_seen, with_seen};
+ghost use Rattle.seqnum_xform.specs.Numbered.{Numbered, has_seen, seen_of, with_seen};
 ghost use Rattle.seqnum_xform.specs.Numbering.{numbered_from, sequence_numbered};
 
 use vst_base::{Item, Net, SeqMsg, Step};
@@ -15,6 +16,10 @@ pub fn worked()
     ensures other_sender { has_seen (with_seen [] 1 0) 0 0 ≡ false }
     ensures later_sender { has_seen (with_seen [] 1 0) 2 0 ≡ false }
     ensures both { has_seen (with_seen (with_seen [] 1 0) 2 0) 1 0 ≡ true }
+    ensures of_none { seen_of [] 1 ≡ set.empty }
+    ensures of_itself { seen_of (with_seen (with_seen [] 1 1) 2 0) 1 ≡ set.insert set.empty 1 }
+    ensures of_another { seen_of (with_seen [] 1 1) 0 ≡ set.empty }
+    ensures of_a_later { seen_of (with_seen [] 1 1) 2 ≡ set.empty }
     ensures consecutive { numbered_from {M = ℕ} 4 ((0, 9) ∷ (2, 9) ∷ []) ≡ (0, record { number = 4; inner = 9 }) ∷ (2, record { number = 5; inner = 9 }) ∷ [] }
     ensures copies_do_nothing { trace (sequence_numbered (echo 3)) (no_recovery {S = Numbered ℕ}) (Step.In 1 5 ∷ Step.Dup 0 ∷ Step.Deliver 0 ∷ Step.Deliver 0 ∷ [])
         ≡ Item.Input 1 5 ∷ Item.Output 1 5 ∷ Item.Output 0 5 ∷ [] }

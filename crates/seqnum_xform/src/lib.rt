@@ -14,6 +14,6 @@ mod state;
 pub use examples::worked;
 pub use repeats::repeats_do_nothing;
 pub use seen::SeenNumbers;
-pub use seen_law::seen_is_noted;
+pub use seen_law::{seen_is_noted, seen_of_a_sender};
 pub use seqnum::SeqNum;
 pub use state::SeqState;

@@ -1,5 +1,6 @@
 ghost use Rattle.std.specs.Prelude.{◌≡◌, ℕ, [], ◌<◌, length, OnOk};
-ghost use Rattle.seqnum_xform.specs.Numbered.{has_seen, with_seen};
+ghost use Rattle.number_set.specs.Marked.{IsMarked};
+ghost use Rattle.seqnum_xform.specs.Numbered.{has_seen, seen_of, with_seen};
 
 use number_set::NumberSet;
 use std::alloc::{AllocError, Global};
@@ -52,6 +53,17 @@ impl SeenNumbers {
         match self.senders.get(usize::from(sender.index())) {
             Some(numbers) => numbers.contains(n),
             None => false,
+        }
+    }
+
+    /// The least number that was not seen of the sender, and those above it that were, in ascending order: 0 and none of a sender of whom
+    /// nothing was seen.
+    pub fn gaps(&self, sender: Node) -> (u64, &[u64])
+        ensures { IsMarked (seen_of self.now sender) result.0 result.1.now }
+    {
+        match self.senders.get(usize::from(sender.index())) {
+            Some(numbers) => numbers.gaps(),
+            None => (0, &[]),
         }
     }
 
