@@ -68,7 +68,7 @@ impl Strip {
         &self.places[self.start..]
     }
 
-    /// Lets the first k numbers go.
+    /// Drops the first k numbers.
     pub(crate) fn drop_front(&mut self, k: usize)
         requires { k ≤ length self.old }
         ensures { self.new ≡ drop k self.old }
