@@ -43,7 +43,7 @@ fn a_world_takes_steps_around_a_reboot(rt: HostRuntime) -> Result<(), Fail> {
         Step::Crash(1),
     ];
     let (mut world, held) = after(rt.alloc(), Echo::new(3), &steps)?;
-    assert!(rt; held == [1, 1, 1, 1, 1, 2, 1, 1]);
+    assert!(rt; held.as_slice() == [1, 1, 1, 1, 1, 2, 1, 1].as_slice());
     let first = Node::new(0, 2).unwrap();
     let second = Node::new(1, 2).unwrap();
     assert!(rt; world.is_up(first));

@@ -45,7 +45,7 @@ fn a_world_takes_its_steps(rt: HostRuntime) -> Result<(), Fail> {
         Step::Deliver(0),
     ];
     let (mut world, held) = after(rt.alloc(), Echo::new(2), Net::Dup, &steps)?;
-    assert!(rt; held == [1, 1, 1, 2, 1]);
+    assert!(rt; held.as_slice() == [1, 1, 1, 2, 1].as_slice());
     let second = Node::new(1, 2).unwrap();
     assert_eq!(rt; *world.state(second), 40);
     assert!(rt; world.is_up(second));
@@ -70,7 +70,7 @@ fn packets_are_held_until_their_last_copy(rt: HostRuntime) -> Result<(), Fail> {
         Step::Deliver(0),
     ];
     let (_, held) = after(rt.alloc(), Echo::new(2), Net::Bag, &echoes)?;
-    assert!(rt; held == [1, 2, 1, 0]);
+    assert!(rt; held.as_slice() == [1, 2, 1, 0].as_slice());
 
     let locks = [
         Step::In(1, LockInput::Lock),
@@ -82,6 +82,6 @@ fn packets_are_held_until_their_last_copy(rt: HostRuntime) -> Result<(), Fail> {
     ];
     let numbered = SeqNum::new(LockServer::new(3));
     let (_, held) = after(rt.alloc(), numbered, Net::Dup, &locks)?;
-    assert!(rt; held == [1, 2, 2, 3, 2, 1]);
+    assert!(rt; held.as_slice() == [1, 2, 2, 3, 2, 1].as_slice());
     Ok(())
 }
