@@ -1,0 +1,173 @@
+#!/usr/bin/env python3
+"""worst.py [PROGRAM] [KIND..]: how the time and memory of `vst replay` grow on the schedules that are worst for it.
+
+Each kind is a schedule of a size and of one ten times as large, and the replay of each has to end with 0. PROGRAM is
+crates/vst/out/vst unless given. Prints the times, their ratio and the peak memory, and exits 1 where a replay ends otherwise. The
+kinds:
+
+    inputs first     all inputs, and then each packet in the order of sending
+    newest first     all inputs, and then each packet, the last one first: numbers are seen from the greatest down
+    at random        the same in an order that is drawn from a number
+    a follower down  node 2 of three is down while the others take the entries, and then takes them from the leader, eight at a time
+    crashes          a node of a cluster of one with 20,000 entries crashes and reboots so many times
+    keys             so many keys are put, and then deleted in another order
+"""
+import os
+import random
+import sys
+import tempfile
+
+import replay
+
+ENTRIES = 20_000
+
+
+def asked(count):
+    """Client 1 asks for the lock so many times, each with a packet to the server."""
+    yield from ("in 1 lock" for _ in range(count))
+
+
+def inputs_first(stack):
+    """All inputs, and then the packets in order, of a lock server on three nodes."""
+    header = replay.STACKS[stack][0]
+
+    def lines(count):
+        yield header
+        yield from asked(count)
+        yield from (f"deliver {packet}" for packet in range(count))
+
+    return lines
+
+
+def newest_first(stack):
+    """The same with the last packet first."""
+    header = replay.STACKS[stack][0]
+
+    def lines(count):
+        yield header
+        yield from asked(count)
+        yield from (f"deliver {packet}" for packet in reversed(range(count)))
+
+    return lines
+
+
+def at_random(stack):
+    """The same in an order that is drawn."""
+    header = replay.STACKS[stack][0]
+
+    def lines(count):
+        yield header
+        yield from asked(count)
+        packets = list(range(count))
+        random.Random(1).shuffle(packets)
+        yield from (f"deliver {packet}" for packet in packets)
+
+    return lines
+
+
+def backed_inputs_first(stack):
+    """All commands at the primary, which hands them to the backup one after the other: two packets for each."""
+    header = replay.STACKS[stack][0]
+
+    def lines(count):
+        yield header
+        yield from (replay.command_in(turn) for turn in range(count))
+        yield from (f"deliver {packet}" for packet in range(2 * count))
+
+    return lines
+
+
+def cluster_inputs_first(count):
+    """All requests at the leader of three nodes, with a packet to each other node; then these, and the answers."""
+    yield replay.STACKS["kv/raft"][0]
+    yield from replay.ELECTION
+    yield from (f"in 0 7 {turn + 1} {replay.command(turn)}" for turn in range(count))
+    first = len(replay.ELECTION) - 1
+    yield from (f"deliver {packet}" for packet in range(first, first + 4 * count))
+
+
+def follower_down(count):
+    """Three packets for each request while node 2 is down, and then two for each eight entries."""
+    yield replay.STACKS["kv/raft"][0]
+    yield from replay.ELECTION
+    yield "crash 2"
+    packet = len(replay.ELECTION) - 1
+    for turn in range(count):
+        yield f"in 0 7 {turn + 1} {replay.command(turn)}"
+        yield f"deliver {packet}"
+        yield f"deliver {packet + 2}"
+        packet += 3
+    yield "reboot 2"
+    yield "tick 0"
+    # the heartbeat to node 2, and then its answers and entries in turn
+    yield from (f"deliver {k}" for k in range(packet + 1, packet + 1 + 2 * (count // 8)))
+
+
+def crashes(count):
+    """A cluster of one node, with all of its entries kept at each crash."""
+    yield "schedule 1 fail kv/raft 1"
+    yield "tick 0"
+    yield from (f"in 0 7 {turn + 1} put key-{turn % 1000} value-{turn}" for turn in range(ENTRIES))
+    for _ in range(count):
+        yield "crash 0"
+        yield "reboot 0"
+
+
+def keys(count):
+    """Keys that all stand at once, and then go."""
+    yield replay.STACKS["kv"][0]
+    yield from (f"in 0 put key-{number} value-{number}" for number in range(count))
+    numbers = list(range(count))
+    random.Random(1).shuffle(numbers)
+    yield from (f"in 0 del key-{number}" for number in numbers)
+
+
+MANY, SOME = (30_000, 300_000), (10_000, 100_000)
+KINDS = {
+    "inputs first, lock": (inputs_first("lock"), MANY, "inputs"),
+    "inputs first, lock/seq": (inputs_first("lock/seq"), MANY, "inputs"),
+    "inputs first, kv/pb": (backed_inputs_first("kv/pb"), MANY, "inputs"),
+    "inputs first, kv/pb/seq": (backed_inputs_first("kv/pb/seq"), MANY, "inputs"),
+    "inputs first, kv/raft": (cluster_inputs_first, SOME, "inputs"),
+    "newest first, lock": (newest_first("lock"), MANY, "inputs"),
+    "newest first, lock/seq": (newest_first("lock/seq"), MANY, "inputs"),
+    "at random, lock/seq": (at_random("lock/seq"), SOME, "inputs"),
+    "a follower down, kv/raft": (follower_down, SOME, "entries"),
+    "crashes, kv/raft": (crashes, (200, 2_000), "crashes"),
+    "keys, kv": (keys, SOME, "keys"),
+}
+
+
+def measure(program, name):
+    """Measures one kind, and returns whether each replay ended with 0."""
+    lines, sizes, unit = KINDS[name]
+    with tempfile.TemporaryDirectory() as room:
+        schedule, answer = (os.path.join(room, file) for file in ("schedule", "answer"))
+
+        def prepare(size):
+            with open(schedule, "w", encoding="ascii", newline="\n") as out:
+                out.writelines(line + "\n" for line in lines(size))
+            return size
+
+        def wrong(status):
+            return None if status == 0 else f"status {status}"
+
+        return replay.measure_growth(program, name, sizes, unit, prepare, schedule, answer, ["replay"], wrong)
+
+
+def main(words):
+    program = os.path.abspath(words[0] if words else "crates/vst/out/vst")
+    if not os.access(program, os.X_OK):
+        print(f"no program at {program}: build it first, as the README says")
+        return 2
+    chosen = words[1:] or KINDS
+    unknown = [name for name in chosen if name not in KINDS]
+    if unknown:
+        print(f"no such kind: {unknown[0]}; the kinds are {', '.join(KINDS)}")
+        return 2
+    right = [measure(program, name) for name in chosen]
+    return 0 if all(right) else 1
+
+
+if __name__ == "__main__":
+    sys.exit(main(sys.argv[1:]))
