@@ -13,6 +13,8 @@ mod net_semantics_tests;
 #[cfg(test)]
 mod primary_backup_tests;
 #[cfg(test)]
+mod seqnum_xform_tests;
+#[cfg(test)]
 mod single_node_tests;
 #[cfg(test)]
 mod trace_maps_tests;
