@@ -113,77 +113,120 @@ fn time_passes<D: Device>(device: &mut D) -> bool
     false
 }
 
+// Whether a datagram of the device at port 47101 comes to that at port 47102, byte for byte.
+fn comes<L: Device, R: Device>(left: &mut L, right: &mut R) -> bool
+    requires left { L.begun left.old ≡ true }
+    requires right { R.begun right.old ≡ true }
+    ensures left { L.begun left.new ≡ true }
+    ensures right { R.begun right.new ≡ true }
+{
+    if left.send(address(47102), &SENT) != Shipped::Sent {
+        return false;
+    }
+    let from = address(47101);
+    let mut wanted = [b'|'; 48];
+    wanted[..43].copy_from_slice(&SENT);
+    receive(right, 10_000) == (Received::Datagram { from, len: 43 }, wanted)
+}
+
+// Whether what is stored in each area is read again, up to the area's end.
+fn keeps<D: Device>(device: &mut D) -> bool
+    requires { D.begun device.old ≡ true }
+    ensures { D.begun device.new ≡ true }
+{
+    store_each(device) == [[Stored::Done; 3]; 3]
+        && read_four(device, 2, 1) == (AreaRead::Got(3), *b"\0\0c|")
+        && read_four(device, 2, 4) == (AreaRead::Got(0), [b'|'; 4])
+}
+
+// Whether a file of the folder has these bytes.
+fn has<R: Files + AllocGlobal>(
+    rt: &R,
+    folder: &PathBuf,
+    name: &str,
+    bytes: &[u8],
+) -> Result<bool, Fail> {
+    let path = folder.join(rt.alloc(), name)?;
+    let found = fs::read(rt, path.as_path())?;
+    Ok(found.as_slice() == bytes)
+}
+
+// Whether the files of the folder are what was stored.
+fn are_stored<R: Files + AllocGlobal>(rt: &R, folder: &PathBuf) -> Result<bool, Fail> {
+    Ok(
+        has(rt, folder, "slot0", b"\0\0\0a")?
+            && has(rt, folder, "slot1", b"\0\0\0b")?
+            && has(rt, folder, "selector", b"\0\0\0c")?,
+    )
+}
+
 #[test]
 fn datagrams_time_and_areas_are_those_of_the_system(rt: HostRuntime) -> Result<(), Fail> {
     let folder = empty_folder(&rt, "node_device_real_left")?;
     let other = empty_folder(&rt, "node_device_real_right")?;
     let mut left = begun(&rt, address(47101), folder.as_str()).expect(&rt, "begins");
     let mut right = begun(&rt, address(47102), other.as_str()).expect(&rt, "begins");
-    assert_eq!(rt; left.send(address(47102), &SENT), Shipped::Sent);
-    let (received, room) = receive(&mut right, 10_000);
-    let from = address(47101);
-    assert_eq!(rt; received, Received::Datagram { from, len: 43 });
-    let mut wanted = [b'|'; 48];
-    wanted[..43].copy_from_slice(&SENT);
-    assert!(rt; room == wanted);
+    assert!(rt; comes(&mut left, &mut right));
     assert!(rt; time_passes(&mut right));
     assert!(rt; receive(&mut right, 0) == (Received::Quiet, [b'|'; 48]));
-    for stored in store_each(&mut left) {
-        assert_eq!(rt; stored, [Stored::Done; 3]);
-    }
-    assert!(rt; read_four(&mut left, 2, 1) == (AreaRead::Got(3), *b"\0\0c|"));
-    assert!(rt; read_four(&mut left, 2, 4) == (AreaRead::Got(0), [b'|'; 4]));
-    for (name, bytes) in [
-        ("slot0", b"\0\0\0a"),
-        ("slot1", b"\0\0\0b"),
-        ("selector", b"\0\0\0c"),
-    ] {
-        let path = folder.join(rt.alloc(), name)?;
-        assert!(rt; fs::read(&rt, path.as_path())?.as_slice() == bytes.as_slice());
-    }
-    assert_eq!(rt; left.faults(), NO_FAULTS);
-    assert_eq!(rt; right.faults(), NO_FAULTS);
+    assert!(rt; keeps(&mut left));
+    assert!(rt; are_stored(&rt, &folder)?);
+    assert!(rt; left.faults() == NO_FAULTS && right.faults() == NO_FAULTS);
     fs::remove_dir_all(&rt, folder.as_path())?;
     fs::remove_dir_all(&rt, other.as_path())?;
+    Ok(())
+}
+
+// Whether a device fails to begin at a port that is taken, and in a folder that is not there.
+fn fails_to_begin<D: Device>(device: &mut D, taken: u16, folder: &str) -> bool {
+    device.begin(address(taken), folder) == Begun::Failed
+        && device.begin(address(47104), "node_device_real_nowhere") == Begun::Failed
+}
+
+// Whether a length, and a datagram, that the system cannot have are refused.
+fn refuses<D: Device>(device: &mut D) -> bool
+    requires { D.begun device.old ≡ true }
+{
+    device.cut(0, u64::MAX) == Stored::Failed
+        && read_four(device, 0, u64::MAX) == (AreaRead::Failed, [b'|'; 4])
+        && device.send(address(47104), &[0; 70_000]) == Shipped::Failed
+}
+
+#[test]
+fn a_device_that_begins_again_is_as_it_was_begun(rt: HostRuntime) -> Result<(), Fail> {
+    let folder = empty_folder(&rt, "node_device_real_again")?;
+    let mut device = begun(&rt, address(47103), folder.as_str()).expect(&rt, "begins");
+    // Its port is taken.
+    assert!(rt; device.begin(address(47103), folder.as_str()) == Begun::Failed);
+    assert!(rt;
+        device.faults()
+            == Counts {
+                begin: 1,
+                ..NO_FAULTS
+            }
+    );
+    // Nothing of what failed is open.
+    assert!(rt; device.begin(address(47104), folder.as_str()) == Begun::Ready);
+    assert!(rt; begun(&rt, address(47103), folder.as_str()).is_some());
+    fs::remove_dir_all(&rt, folder.as_path())?;
     Ok(())
 }
 
 #[test]
 fn calls_that_the_system_refuses_are_counted(rt: HostRuntime) -> Result<(), Fail> {
     let folder = empty_folder(&rt, "node_device_real_faults")?;
-    let mut device = begun(&rt, address(47103), folder.as_str()).expect(&rt, "begins");
-    // Its port is taken, and it stays as it was begun.
-    assert_eq!(rt;
-        device.begin(address(47103), folder.as_str()),
-        Begun::Failed
-    );
-    let mut other = RealDevice::new(&rt);
-    assert_eq!(rt; other.begin(address(47103), folder.as_str()), Begun::Failed);
-    assert_eq!(rt;
-        other.begin(address(47104), "node_device_real_nowhere"),
-        Begun::Failed
-    );
-    assert_eq!(rt;
-        other.faults(),
-        Counts {
-            begin: 2,
-            ..NO_FAULTS
-        }
-    );
-    // Nothing of the beginnings that failed is open.
-    assert_eq!(rt; device.begin(address(47104), folder.as_str()), Begun::Ready);
-    assert_eq!(rt; other.begin(address(47103), folder.as_str()), Begun::Ready);
-    // A length, and a datagram, that the system cannot have.
-    assert_eq!(rt; other.cut(0, u64::MAX), Stored::Failed);
-    assert!(rt; read_four(&mut other, 0, u64::MAX) == (AreaRead::Failed, [b'|'; 4]));
-    assert_eq!(rt; other.send(address(47104), &[0; 70_000]), Shipped::Failed);
+    let held = begun(&rt, address(47105), folder.as_str());
+    let mut device = RealDevice::new(&rt);
+    assert!(rt; held.is_some() && fails_to_begin(&mut device, 47105, folder.as_str()));
+    assert!(rt; device.begin(address(47106), folder.as_str()) == Begun::Ready);
+    assert!(rt; refuses(&mut device));
     let counts = Counts {
         begin: 2,
         receive: 0,
         store: 2,
         send: 1,
     };
-    assert_eq!(rt; other.faults(), counts);
+    assert!(rt; device.faults() == counts);
     fs::remove_dir_all(&rt, folder.as_path())?;
     Ok(())
 }
