@@ -10,7 +10,7 @@ use vst_base::LockInput;
 use xform_stack::SeqNum;
 
 // The world after these steps, and how many packets had a copy in flight after each.
-fn after<H: Handlers>(
+pub(crate) fn after<H: Handlers>(
     alloc: Global,
     handlers: H,
     net: Net,
