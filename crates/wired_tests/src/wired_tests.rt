@@ -71,7 +71,7 @@ fn a_lock_goes_round_in_bytes(rt: HostRuntime) -> Result<(), Fail> {
         Item::Input(first, LockInput::Unlock),
         Item::Output(second, LockOutput::Locked),
     ];
-    assert_eq!(rt; trace.items(), seen.as_slice());
+    assert!(rt; trace.items() == seen.as_slice());
     Ok(())
 }
 
@@ -111,7 +111,7 @@ fn a_node_starts_again_from_its_bytes(rt: HostRuntime) -> Result<(), Fail> {
     let handlers = Wired::new(Saved::new(Raft::new(KvMachine, 3), name), cluster);
     let trace = seen_where_nodes_stop(alloc, handlers, &steps)?;
     let plain = seen_where_nodes_stop(alloc, Raft::new(KvMachine, 3), &steps)?;
-    assert_eq!(rt; trace.items().len(), 2);
-    assert_eq!(rt; trace.items(), plain.items());
+    assert!(rt; trace.items().len() == 2);
+    assert!(rt; trace.items() == plain.items());
     Ok(())
 }
