@@ -1,0 +1,144 @@
+use crate::layout::{TOP, WIDTH, x_of, y_of};
+use crate::svg::{push, push_head, push_number, push_shape, push_text};
+use crate::words::push_words;
+use crate::{Arrow, Bar, BarKind, Mark, Picture, Row};
+use std::alloc::{AllocError, Global};
+
+// How many rows a picture has at most, so that their places fit.
+const MOST_ROWS: usize = 60_000;
+
+// How long a label is at most.
+const LABEL: u32 = 14;
+
+// How long a title is at most.
+const TITLE: u32 = 100;
+
+// The line of a node, with its name.
+fn push_life(out: &mut Vec<u8>, nodes: u8, node: u8, bottom: u32) -> Result<(), AllocError> {
+    let x = x_of(nodes, u16::from(node) * 2);
+    let mut name = b"node ".to_vec(*out.allocator())?;
+    push_number(&mut name, u64::from(node))?;
+    push_text(out, "text class=\"node\"", (x, TOP - 12), &name, LABEL)?;
+    push_line(out, "line class=\"life\"", (x, TOP), (x, bottom))
+}
+
+// A line between two places.
+fn push_line(
+    out: &mut Vec<u8>,
+    look: &str,
+    from: (u32, u32),
+    to: (u32, u32),
+) -> Result<(), AllocError> {
+    push_shape(
+        out,
+        look,
+        &[("x1", from.0), ("y1", from.1), ("x2", to.0), ("y2", to.1)],
+    )
+}
+
+// A bar along the line of a node.
+fn push_bar(out: &mut Vec<u8>, nodes: u8, bar: &Bar) -> Result<(), AllocError> {
+    let x = x_of(nodes, u16::from(bar.node) * 2) - 4;
+    let top = y_of(bar.first);
+    let height = y_of(bar.last).saturating_sub(top);
+    let look = match bar.kind {
+        BarKind::Down => "rect class=\"down\"",
+        BarKind::Leads => "rect class=\"leads\"",
+    };
+    push_shape(
+        out,
+        look,
+        &[("x", x), ("y", top), ("width", 9), ("height", height)],
+    )
+}
+
+// The way of a packet.
+fn push_arrow(out: &mut Vec<u8>, nodes: u8, arrow: &Arrow) -> Result<(), AllocError> {
+    let look = match arrow.mark {
+        Mark::Delivery => "line class=\"sent\"",
+        _ => "line class=\"gone\"",
+    };
+    let from = (x_of(nodes, arrow.from.column), y_of(arrow.from.row));
+    let to = (x_of(nodes, arrow.to.column), y_of(arrow.to.row));
+    push_line(out, look, from, to)
+}
+
+// The mark of a step.
+fn push_mark(out: &mut Vec<u8>, mark: Mark, x: u32, y: u32) -> Result<(), AllocError> {
+    let look = match mark {
+        Mark::Input => "use href=\"#input\"",
+        Mark::Delivery => "use href=\"#delivery\"",
+        Mark::Timer => "use href=\"#timer\"",
+        Mark::Copy => "use href=\"#copy\"",
+        Mark::Loss => "use href=\"#loss\"",
+        Mark::Crash => "use href=\"#crash\"",
+        Mark::Reboot => "use href=\"#reboot\"",
+    };
+    push_shape(out, look, &[("x", x), ("y", y)])
+}
+
+// A step, which stands in this row.
+fn push_row(out: &mut Vec<u8>, nodes: u8, row: &Row, place: u16) -> Result<(), AllocError> {
+    let x = x_of(nodes, row.column);
+    let y = y_of(place);
+    let mut number = Vec::new(*out.allocator());
+    push_number(&mut number, u64::from(place) + 1)?;
+    push_text(out, "text class=\"number\"", (34, y + 4), &number, LABEL)?;
+    push_text(out, "text", (42, y + 4), &row.label, LABEL)?;
+    push_mark(out, row.mark, x, y)?;
+    push_words(out, row, x, y)
+}
+
+// What lies below the steps: the lines of the rows and of the nodes, the bars, and the ways of packets.
+fn push_ground(out: &mut Vec<u8>, picture: &Picture, rows: u16) -> Result<(), AllocError> {
+    let bottom = y_of(rows);
+    for row in 0..rows {
+        let y = y_of(row);
+        push_line(out, "line class=\"row\"", (140, y), (WIDTH - 6, y))?;
+    }
+    for node in 0..picture.nodes {
+        push_life(out, picture.nodes, node, bottom)?;
+    }
+    for bar in &picture.bars {
+        push_bar(out, picture.nodes, bar)?;
+    }
+    for arrow in &picture.arrows {
+        push_arrow(out, picture.nodes, arrow)?;
+    }
+    Ok(())
+}
+
+// How many steps are not drawn, where there are such.
+fn push_undrawn(out: &mut Vec<u8>, undrawn: u64, y: u32) -> Result<(), AllocError> {
+    if undrawn == 0 {
+        return Ok(());
+    }
+    let mut more = Vec::new(*out.allocator());
+    push_number(&mut more, undrawn)?;
+    push(&mut more, " steps more are not drawn")?;
+    push_text(out, "text", (42, y), &more, TITLE)
+}
+
+/// The text of a picture, in SVG.
+pub fn svg_of(alloc: Global, picture: &Picture) -> Result<Vec<u8>, AllocError> {
+    let mut out = Vec::new(alloc);
+    let rows = picture.rows.len().min(MOST_ROWS) as u16;
+    let bottom = y_of(rows);
+    push_head(&mut out, WIDTH, bottom + 30)?;
+    push_text(
+        &mut out,
+        "text class=\"title\"",
+        (10, 22),
+        &picture.title,
+        TITLE,
+    )?;
+    push_ground(&mut out, picture, rows)?;
+    let mut place = 0;
+    for row in &picture.rows {
+        push_row(&mut out, picture.nodes, row, place)?;
+        place = place.saturating_add(1);
+    }
+    push_undrawn(&mut out, picture.undrawn, bottom + 16)?;
+    push(&mut out, "</svg>\n")?;
+    Ok(out)
+}

@@ -1,0 +1,66 @@
+use app_text::{AppText, KvText, TableText};
+use kv_machine::KvCmd;
+use lock_table::TableCmd;
+use std::alloc::AllocError;
+use vst_base::{LockMsg, PbMsg, SeqMsg};
+
+/// What can be said in a few words, for people to read.
+pub trait Says {
+    /// Adds the words at the end.
+    fn say(&self, out: &mut Vec<u8>) -> Result<(), AllocError>;
+}
+
+// Adds a number.
+pub(crate) fn say_number(out: &mut Vec<u8>, number: u64) -> Result<(), AllocError> {
+    let alloc = *out.allocator();
+    out.extend_from_slice(number.to_string(alloc)?.as_bytes())
+}
+
+// A machine alone sends nothing.
+impl Says for () {
+    fn say(&self, _out: &mut Vec<u8>) -> Result<(), AllocError> {
+        Ok(())
+    }
+}
+
+impl Says for LockMsg {
+    fn say(&self, out: &mut Vec<u8>) -> Result<(), AllocError> {
+        out.extend_from_slice(match self {
+            LockMsg::Lock => b"lock",
+            LockMsg::Unlock => b"unlock",
+            LockMsg::Locked => b"locked",
+        })
+    }
+}
+
+impl<M: Says> Says for SeqMsg<M> {
+    fn say(&self, out: &mut Vec<u8>) -> Result<(), AllocError> {
+        self.inner.say(out)?;
+        out.extend_from_slice(b" #")?;
+        say_number(out, self.number)
+    }
+}
+
+impl Says for KvCmd {
+    fn say(&self, out: &mut Vec<u8>) -> Result<(), AllocError> {
+        KvText::print_input(self, out)
+    }
+}
+
+impl Says for TableCmd {
+    fn say(&self, out: &mut Vec<u8>) -> Result<(), AllocError> {
+        TableText::print_input(self, out)
+    }
+}
+
+impl<C: Says> Says for PbMsg<C> {
+    fn say(&self, out: &mut Vec<u8>) -> Result<(), AllocError> {
+        match self {
+            PbMsg::Apply(cmd) => {
+                out.extend_from_slice(b"apply ")?;
+                cmd.say(out)
+            }
+            PbMsg::Ack => out.extend_from_slice(b"ack"),
+        }
+    }
+}

@@ -1,0 +1,102 @@
+ghost use Rattle.std.specs.Prelude.{◌≡◌, ◌≢◌};
+
+use crate::pictures::draw_rest;
+use crate::{Says, Telling};
+use app_text::{AppText, KvText, LockText, PbText, TableText};
+use drawing::Picture;
+use handler_trait::Handlers;
+use kv_machine::KvMachine;
+use lock_server::LockServer;
+use lock_table::TableMachine;
+use net_semantics::{FailWorld, World};
+use outside_mem::SteadySource;
+use primary_backup::PrimaryBackup;
+use raft_text::RaftText;
+use raft_xform::Raft;
+use schedule_text::{Header, Reader};
+use seqnum_xform::SeqNum;
+use single_node::SingleNode;
+use std::alloc::{AllocError, Global};
+use vst_base::{MAX_NODES, Machine, Net, StackId};
+
+// On a network that stops no node.
+fn draw_on<H, A>(
+    alloc: Global,
+    title: Vec<u8>,
+    handlers: H,
+    net: Net,
+    reader: &mut Reader,
+    source: &mut SteadySource,
+) -> Result<Picture, AllocError>
+where
+    H: Handlers<Input = A::Input, Output = A::Output>,
+    H::Msg: Says,
+    A: AppText,
+    requires net { net ≢ Net.Fail }
+    requires alone { net ≡ Net.One → (H.meaning handlers).nodes ≡ 1 }
+{
+    let world = World::new(alloc, Telling::new(handlers), net)?;
+    draw_rest::<World<Telling<H>>, A>(alloc, title, world, reader, source)
+}
+
+// On a cluster.
+fn draw_cluster<M, A>(
+    alloc: Global,
+    title: Vec<u8>,
+    machine: M,
+    nodes: u8,
+    reader: &mut Reader,
+    source: &mut SteadySource,
+) -> Result<Picture, AllocError>
+where
+    M: Machine,
+    M::Cmd: Says,
+    A: AppText<Input = M::Cmd, Output = M::Out>,
+{
+    // A header of a cluster names no other number of nodes.
+    let cluster = Raft::new(machine, nodes.max(1).min(MAX_NODES));
+    let world = FailWorld::new(alloc, Telling::new(cluster))?;
+    draw_rest::<FailWorld<Telling<Raft<M>>>, RaftText<A>>(alloc, title, world, reader, source)
+}
+
+/// The picture of the steps after a header, by its stack.
+pub(crate) fn draw_stack(
+    alloc: Global,
+    title: Vec<u8>,
+    header: &Header,
+    r: &mut Reader,
+    s: &mut SteadySource,
+) -> Result<Picture, AllocError> {
+    let n = header.nodes;
+    match header.stack {
+        StackId::Lock => {
+            draw_on::<_, LockText>(alloc, title, LockServer::new(n), Net::Bag, r, s)
+        }
+        StackId::LockSeq => {
+            let numbered = SeqNum::new(LockServer::new(n));
+            draw_on::<_, LockText>(alloc, title, numbered, Net::Dup, r, s)
+        }
+        StackId::KvPb => {
+            let backed = PrimaryBackup::new(KvMachine);
+            draw_on::<_, PbText<KvText>>(alloc, title, backed, Net::Bag, r, s)
+        }
+        StackId::KvPbSeq => {
+            let numbered = SeqNum::new(PrimaryBackup::new(KvMachine));
+            draw_on::<_, PbText<KvText>>(alloc, title, numbered, Net::Dup, r, s)
+        }
+        StackId::TablePbSeq => {
+            let numbered = SeqNum::new(PrimaryBackup::new(TableMachine));
+            draw_on::<_, PbText<TableText>>(alloc, title, numbered, Net::Dup, r, s)
+        }
+        StackId::KvRaft => draw_cluster::<_, KvText>(alloc, title, KvMachine, n, r, s),
+        StackId::TableRaft => draw_cluster::<_, TableText>(alloc, title, TableMachine, n, r, s),
+        StackId::Kv => {
+            let alone = SingleNode::new(KvMachine);
+            draw_on::<_, KvText>(alloc, title, alone, Net::One, r, s)
+        }
+        StackId::Table => {
+            let alone = SingleNode::new(TableMachine);
+            draw_on::<_, TableText>(alloc, title, alone, Net::One, r, s)
+        }
+    }
+}
