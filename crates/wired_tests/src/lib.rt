@@ -2,6 +2,8 @@
 #![tactic(auto)]
 
 #[cfg(test)]
+mod keys;
+#[cfg(test)]
 mod no_message_tests;
 #[cfg(test)]
 mod wired_tests;

@@ -1,5 +1,6 @@
-ghost use Rattle.std.specs.Prelude.{◌<◌, ℕ, List};
+ghost use Rattle.std.specs.Prelude.{◌<◌};
 
+use crate::keys::key;
 use handler_trait::{Effects, Handlers, MAX_SENDS, Rebootable};
 use kv_machine::{KvCmd, KvMachine};
 use lock_server::LockServer;
@@ -9,28 +10,43 @@ use raft_xform::Raft;
 use seqnum_xform::SeqNum;
 use std::alloc::{AllocError, Global};
 use std::test::Fail;
-use vst_base::{Key, LockMsg, Node, PbMsg, SeqMsg, StackId};
+use vst_base::{LockMsg, Node, PbMsg, SeqMsg, StackId};
 use wire_messages::Wire;
 use wired::{Cluster, Packet, Saved, SavedBytes, Wired, hear};
 
-// Bytes that are not those of this packet of a stack of byte `other`, each by one thing: nothing at all, another version, stack, kind,
-// source, receiver and name, a byte less and a byte more.
-fn no_messages(alloc: Global, bytes: &[u8], other: u8) -> Result<Vec<Packet>, AllocError> {
-    let mut packets = Vec::new(alloc);
-    packets.push(Packet::new(Vec::new(alloc)))?;
-    for (place, byte) in [(1, 1), (2, other), (3, 1), (4, 2), (5, 1), (21, 1)] {
-        let mut changed = bytes.to_vec(alloc)?;
-        if let Some(found) = changed.get_mut(place) {
-            *found = byte;
-        }
-        packets.push(Packet::new(changed))?;
+// A packet of these bytes, of which one is another.
+fn with_byte(alloc: Global, bytes: &[u8], place: usize, byte: u8) -> Result<Packet, AllocError> {
+    let mut changed = bytes.to_vec(alloc)?;
+    if let Some(found) = changed.get_mut(place) {
+        *found = byte;
     }
+    Ok(Packet::new(changed))
+}
+
+// A packet of a byte less.
+fn shorter(alloc: Global, bytes: &[u8]) -> Result<Packet, AllocError> {
     let mut less = bytes.to_vec(alloc)?;
     less.pop();
-    packets.push(Packet::new(less))?;
+    Ok(Packet::new(less))
+}
+
+// A packet of a byte more.
+fn longer(alloc: Global, bytes: &[u8]) -> Result<Packet, AllocError> {
     let mut more = bytes.to_vec(alloc)?;
     more.push(0)?;
-    packets.push(Packet::new(more))?;
+    Ok(Packet::new(more))
+}
+
+// Bytes that are not those of this packet of a stack of byte `other`, each by one thing: another version, stack, kind, source, receiver
+// and name, nothing at all, a byte less and a byte more.
+fn no_messages(alloc: Global, bytes: &[u8], other: u8) -> Result<Vec<Packet>, AllocError> {
+    let mut packets = Vec::new(alloc);
+    for (place, byte) in [(1, 1), (2, other), (3, 1), (4, 2), (5, 1), (21, 1)] {
+        packets.push(with_byte(alloc, bytes, place, byte)?)?;
+    }
+    packets.push(Packet::new(Vec::new(alloc)))?;
+    packets.push(shorter(alloc, bytes)?)?;
+    packets.push(longer(alloc, bytes)?)?;
     Ok(packets)
 }
 
@@ -49,6 +65,41 @@ fn does_nothing<H: Handlers>(
     let mut effects = Effects::with_capacity(alloc, 0, MAX_SENDS)?;
     handlers.message(alloc, to, &mut state, from, packet, &mut effects)?;
     Ok(effects.outputs().is_empty() && effects.sends().is_empty())
+}
+
+// Whether none of the packets does.
+fn do_nothing<H: Handlers>(
+    alloc: Global,
+    handlers: &H,
+    from: Node,
+    to: Node,
+    packets: &[H::Msg],
+) -> Result<bool, AllocError>
+    requires from { from < (H.meaning handlers.now).nodes }
+    requires to { to < (H.meaning handlers.now).nodes }
+{
+    for packet in packets {
+        if !does_nothing(alloc, handlers, from, to, packet)? {
+            return Ok(false);
+        }
+    }
+    Ok(true)
+}
+
+// The packet of a message from one node to another, where it is heard, and bytes that differ from its own by one thing.
+fn heard_and_not<M: Wire>(
+    alloc: Global,
+    cluster: &Cluster,
+    from: Node,
+    to: Node,
+    message: &M,
+    other: u8,
+) -> Result<Option<Vec<Packet>>, AllocError> {
+    let packet = Packet::of_message(alloc, cluster, from, to, message)?;
+    match hear::<M>(alloc, cluster, from, to, &packet)? {
+        Some(_) => Ok(Some(no_messages(alloc, packet.bytes(), other)?)),
+        None => Ok(None),
+    }
 }
 
 // Whether the message from node 1 to node 0 is heard, and bytes that differ from its own by one thing do nothing.
@@ -70,17 +121,11 @@ where
     let (Some(from), Some(to)) = (Node::new(1, nodes), Node::new(0, nodes)) else {
         return Ok(false);
     };
-    let packet = Packet::of_message(alloc, &cluster, from, to, message)?;
-    let Some(_) = hear::<H::Msg>(alloc, &cluster, from, to, &packet)? else {
-        return Ok(false);
-    };
     let wired = Wired::new(handlers, cluster);
-    for packet in &no_messages(alloc, packet.bytes(), other)? {
-        if !does_nothing(alloc, &wired, from, to, packet)? {
-            return Ok(false);
-        }
+    match heard_and_not(alloc, &cluster, from, to, message, other)? {
+        Some(packets) => do_nothing(alloc, &wired, from, to, &packets),
+        None => Ok(false),
     }
-    Ok(true)
 }
 
 #[test]
@@ -103,8 +148,7 @@ fn bytes_that_are_no_message_do_nothing_to_a_numbered_lock(rt: HostRuntime) -> R
 
 // The primary asks the backup to apply a get.
 fn get(alloc: Global) -> Result<PbMsg<KvCmd>, Fail> {
-    let key = Key::new(alloc, b"a")?.ok_or("a key")?;
-    Ok(PbMsg::Apply(KvCmd::Get(key)))
+    Ok(PbMsg::Apply(KvCmd::Get(key(alloc, b"a")?)))
 }
 
 #[test]
@@ -136,19 +180,37 @@ fn bytes_that_are_no_message_do_nothing_to_a_node_of_a_cluster(
     Ok(())
 }
 
-// What a node that starts from these bytes keeps.
-fn kept_after<H: Rebootable<Kept = SavedBytes>>(
+// What a node keeps whose timer fires in its first state.
+fn kept_at_first<H: Rebootable>(
     alloc: Global,
     handlers: &H,
     node: Node,
-    bytes: &[u8],
-) -> Result<SavedBytes, AllocError>
-    requires node { node < (H.meaning handlers.now).nodes }
-    requires fits { (kept : List ℕ) → H.fits handlers.now kept }
+) -> Result<H::Kept, AllocError>
+    requires { node < (H.meaning handlers.now).nodes }
 {
-    let kept = SavedBytes::new(bytes.to_vec(alloc)?);
+    let mut state = handlers.init(alloc, node)?;
+    let mut effects = Effects::with_capacity(alloc, 0, MAX_SENDS)?;
+    handlers.timeout(alloc, node, &mut state, &mut effects)?;
+    handlers.keep(alloc, &state)
+}
+
+// What a node keeps that starts from this.
+fn kept_after<H: Rebootable>(
+    alloc: Global,
+    handlers: &H,
+    node: Node,
+    kept: H::Kept,
+) -> Result<H::Kept, AllocError>
+    requires node { node < (H.meaning handlers.now).nodes }
+    requires fits { H.fits handlers.now kept }
+{
     let state = handlers.reboot(alloc, node, kept)?;
     handlers.keep(alloc, &state)
+}
+
+// These bytes, as a node keeps them.
+fn saved(alloc: Global, bytes: &[u8]) -> Result<SavedBytes, AllocError> {
+    Ok(SavedBytes::new(bytes.to_vec(alloc)?))
 }
 
 // Node 0, which has voted for itself, stops. It starts again from its bytes, and node 1 as if it had none.
@@ -158,14 +220,11 @@ fn a_body_of_another_node_is_none_of_its_own(rt: HostRuntime) -> Result<(), Fail
     let handlers = Saved::new(Raft::new(KvMachine, 3), [0; 16]);
     let first = Node::new(0, 3).unwrap();
     let second = Node::new(1, 3).unwrap();
-    let mut state = handlers.init(alloc, first)?;
-    let mut effects = Effects::with_capacity(alloc, 0, MAX_SENDS)?;
-    handlers.timeout(alloc, first, &mut state, &mut effects)?;
-    let body = handlers.keep(alloc, &state)?;
-    let own = kept_after(alloc, &handlers, first, body.bytes())?;
+    let body = kept_at_first(alloc, &handlers, first)?;
+    let own = kept_after(alloc, &handlers, first, saved(alloc, body.bytes())?)?;
     assert!(rt; own.bytes() == body.bytes());
-    let others = kept_after(alloc, &handlers, second, body.bytes())?;
-    let none = kept_after(alloc, &handlers, second, &[])?;
+    let others = kept_after(alloc, &handlers, second, saved(alloc, body.bytes())?)?;
+    let none = kept_after(alloc, &handlers, second, saved(alloc, &[])?)?;
     assert!(rt; others.bytes() == none.bytes());
     Ok(())
 }

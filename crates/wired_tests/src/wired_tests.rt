@@ -1,5 +1,6 @@
 ghost use Rattle.std.specs.Prelude.{◌<◌, length};
 
+use crate::keys::key;
 use handler_trait::{Handlers, Rebootable};
 use kv_machine::{KvCmd, KvMachine};
 use lock_server::LockServer;
@@ -8,7 +9,7 @@ use raft_types::RaftInput;
 use raft_xform::Raft;
 use std::alloc::Global;
 use std::test::Fail;
-use vst_base::{ClientId, Item, Key, LockInput, LockOutput, ReqId, StackId};
+use vst_base::{ClientId, Item, LockInput, LockOutput, ReqId, StackId};
 use wired::{Cluster, Saved, Wired};
 
 // What clients see of these steps on a bag.
@@ -77,11 +78,10 @@ fn a_lock_goes_round_in_bytes(rt: HostRuntime) -> Result<(), Fail> {
 
 // Client 7 asks what the key a has.
 fn asks(alloc: Global, request: u64) -> Result<RaftInput<KvCmd>, Fail> {
-    let key = Key::new(alloc, b"a")?.ok_or("a key")?;
     Ok(RaftInput {
         client: ClientId::new(7),
         request: ReqId::new(request),
-        cmd: KvCmd::Get(key),
+        cmd: KvCmd::Get(key(alloc, b"a")?),
     })
 }
 
