@@ -89,21 +89,54 @@ fn push_row(out: &mut Vec<u8>, nodes: u8, row: &Row, place: u16) -> Result<(), A
     push_words(out, row, x, y)
 }
 
-// What lies below the steps: the lines of the rows and of the nodes, the bars, and the ways of packets.
-fn push_ground(out: &mut Vec<u8>, picture: &Picture, rows: u16) -> Result<(), AllocError> {
-    let bottom = y_of(rows);
+// A faint line along each row.
+fn push_rules(out: &mut Vec<u8>, rows: u16) -> Result<(), AllocError> {
     for row in 0..rows {
         let y = y_of(row);
         push_line(out, "line class=\"row\"", (140, y), (WIDTH - 6, y))?;
     }
-    for node in 0..picture.nodes {
-        push_life(out, picture.nodes, node, bottom)?;
+    Ok(())
+}
+
+// The lines of the nodes, down to below the last row.
+fn push_lives(out: &mut Vec<u8>, nodes: u8, rows: u16) -> Result<(), AllocError> {
+    let bottom = y_of(rows);
+    for node in 0..nodes {
+        push_life(out, nodes, node, bottom)?;
     }
-    for bar in &picture.bars {
-        push_bar(out, picture.nodes, bar)?;
+    Ok(())
+}
+
+// The bars along the lines of the nodes.
+fn push_bars(out: &mut Vec<u8>, nodes: u8, bars: &[Bar]) -> Result<(), AllocError> {
+    for bar in bars {
+        push_bar(out, nodes, bar)?;
     }
-    for arrow in &picture.arrows {
-        push_arrow(out, picture.nodes, arrow)?;
+    Ok(())
+}
+
+// The ways of the packets.
+fn push_arrows(out: &mut Vec<u8>, nodes: u8, arrows: &[Arrow]) -> Result<(), AllocError> {
+    for arrow in arrows {
+        push_arrow(out, nodes, arrow)?;
+    }
+    Ok(())
+}
+
+// What lies below the steps.
+fn push_ground(out: &mut Vec<u8>, picture: &Picture, rows: u16) -> Result<(), AllocError> {
+    push_rules(out, rows)?;
+    push_lives(out, picture.nodes, rows)?;
+    push_bars(out, picture.nodes, &picture.bars)?;
+    push_arrows(out, picture.nodes, &picture.arrows)
+}
+
+// The steps, one below the other.
+fn push_rows(out: &mut Vec<u8>, nodes: u8, rows: &[Row]) -> Result<(), AllocError> {
+    let mut place = 0;
+    for row in rows {
+        push_row(out, nodes, row, place)?;
+        place = place.saturating_add(1);
     }
     Ok(())
 }
@@ -133,11 +166,7 @@ pub fn svg_of(alloc: Global, picture: &Picture) -> Result<Vec<u8>, AllocError> {
         TITLE,
     )?;
     push_ground(&mut out, picture, rows)?;
-    let mut place = 0;
-    for row in &picture.rows {
-        push_row(&mut out, picture.nodes, row, place)?;
-        place = place.saturating_add(1);
-    }
+    push_rows(&mut out, picture.nodes, &picture.rows)?;
     push_undrawn(&mut out, picture.undrawn, bottom + 16)?;
     push(&mut out, "</svg>\n")?;
     Ok(out)

@@ -3,7 +3,8 @@ use std::alloc::AllocError;
 
 // How the parts of a picture look, and the marks.
 const STYLE: &str = "<defs>
-<marker id=\"tip\" viewBox=\"0 0 10 10\" refX=\"9\" refY=\"5\" markerWidth=\"8\" markerHeight=\"8\" orient=\"auto\"><path d=\"M0 1L10 5L0 9z\" fill=\"#2166ac\"/></marker>
+<marker id=\"tip\" viewBox=\"0 0 10 10\" refX=\"9\" refY=\"5\" markerWidth=\"8\" markerHeight=\"8\" \
+orient=\"auto\"><path d=\"M0 1L10 5L0 9z\" fill=\"#2166ac\"/></marker>
 <path id=\"input\" d=\"M-5 -5h10v10h-10z\" fill=\"#1b7837\"/>
 <circle id=\"delivery\" r=\"3\" fill=\"#2166ac\"/>
 <circle id=\"timer\" r=\"5\" fill=\"#fff\" stroke=\"#222\" stroke-width=\"1.5\"/>
