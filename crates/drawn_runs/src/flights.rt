@@ -1,19 +1,32 @@
-use drawing::Spot;
+use crate::Sent;
+use crate::columns::column_of;
+use drawing::{Mark, Spot};
 use std::alloc::{AllocError, Global};
 
 /// A packet that was sent: its two ends, the row in which it was, what it says, and where its copies were made that are not drawn yet.
 #[derive(Drop)]
 pub(crate) struct Flight {
-    pub(crate) from: Spot,
-    pub(crate) to: u16,
-    pub(crate) words: Vec<u8>,
-    pub(crate) forks: Vec<Spot>,
-    pub(crate) is_drawn: bool,
+    from: Spot,
+    to: u16,
+    words: Vec<u8>,
+    forks: Vec<Spot>,
+    is_drawn: bool,
 }
 
 impl Flight {
-    /// The place on its way, in a row: between the lines of its source and of the next node towards its destination.
-    pub(crate) fn on_its_way(&self, row: u16) -> Spot {
+    /// A packet that is sent from a place.
+    pub(crate) fn new(alloc: Global, from: Spot, sent: &Sent) -> Result<Self, AllocError> {
+        Ok(Flight {
+            from,
+            to: column_of(u32::from(sent.to.index())),
+            words: sent.words.to_vec(alloc)?,
+            forks: Vec::new(alloc),
+            is_drawn: false,
+        })
+    }
+
+    // The place on its way, in a row: between the lines of its source and of the next node towards its destination.
+    fn on_its_way(&self, row: u16) -> Spot {
         let column = if self.to < self.from.column {
             self.from.column.saturating_sub(1)
         } else {
@@ -22,13 +35,35 @@ impl Flight {
         Spot { column, row }
     }
 
-    /// Where the next way that is drawn of it begins: the first where it was sent, and others where it was copied.
-    pub(crate) fn next_start(&mut self) -> Spot {
+    // Where the next way that is drawn of it begins: the first where it was sent, and others where it was copied.
+    fn next_start(&mut self) -> Spot {
         if self.is_drawn {
             self.forks.pop().unwrap_or(self.from)
         } else {
             self.is_drawn = true;
             self.from
+        }
+    }
+
+    /// Where a step of it is marked, in a row: a delivery at its destination, and others on its way.
+    pub(crate) fn marked_at(&self, mark: Mark, row: u16) -> Spot {
+        match mark {
+            Mark::Delivery => Spot {
+                column: self.to,
+                row,
+            },
+            _ => self.on_its_way(row),
+        }
+    }
+
+    /// Where the way begins that leads to this place, at which a step is marked: that to a copy where it was sent.
+    pub(crate) fn start_to(&mut self, mark: Mark, place: Spot) -> Result<Spot, AllocError> {
+        match mark {
+            Mark::Copy => {
+                self.forks.push(place)?;
+                Ok(self.from)
+            }
+            _ => Ok(self.next_start()),
         }
     }
 

@@ -1,7 +1,8 @@
-use crate::Told;
+use crate::columns::column_of;
 use crate::flights::Flight;
 use crate::lives::Life;
 use crate::words::{push_comma, push_numbered};
+use crate::{Sent, Told};
 use app_text::AppText;
 use drawing::{Arrow, Mark, Picture, Row, Spot};
 use std::alloc::{AllocError, Global};
@@ -16,21 +17,27 @@ pub(crate) struct Gathered {
     pub(crate) lives: Vec<Life>,
 }
 
-/// The column of a node.
-pub(crate) fn column_of(node: u32) -> u16 {
-    node.min(255) as u16 * 2
+// So many nodes, all up.
+fn lives_of(alloc: Global, nodes: u8) -> Result<Vec<Life>, AllocError> {
+    let mut lives = Vec::new(alloc);
+    for _ in 0..nodes {
+        lives.push(Life::new())?;
+    }
+    Ok(lives)
+}
+
+// Adds the texts of outputs, in order.
+fn print_outputs<A: AppText>(outputs: &[A::Output], out: &mut Vec<u8>) -> Result<(), AllocError> {
+    for output in outputs {
+        push_comma(out)?;
+        A::print_output(output, out)?;
+    }
+    Ok(())
 }
 
 impl Gathered {
     /// Nothing is drawn yet of a run on so many nodes.
     pub(crate) fn new(alloc: Global, title: Vec<u8>, nodes: u8) -> Result<Self, AllocError> {
-        let mut lives = Vec::new(alloc);
-        for _ in 0..nodes {
-            lives.push(Life {
-                down: None,
-                leads: None,
-            })?;
-        }
         Ok(Gathered {
             alloc,
             picture: Picture {
@@ -42,7 +49,7 @@ impl Gathered {
                 undrawn: 0,
             },
             flights: Vec::new(alloc),
-            lives,
+            lives: lives_of(alloc, nodes)?,
         })
     }
 
@@ -52,12 +59,7 @@ impl Gathered {
     }
 
     /// A step at a node, where no packet comes.
-    pub(crate) fn at_node(
-        &mut self,
-        mark: Mark,
-        word: &[u8],
-        node: u32,
-    ) -> Result<Row, AllocError> {
+    pub(crate) fn at_node(&self, mark: Mark, word: &[u8], node: u32) -> Result<Row, AllocError> {
         let mut label = Vec::new(self.alloc);
         push_numbered(&mut label, word, u64::from(node))?;
         Ok(Row {
@@ -77,20 +79,8 @@ impl Gathered {
         let Some(flight) = self.flights.get_mut(k as usize) else {
             return Ok(drawn);
         };
-        let to = match mark {
-            Mark::Delivery => Spot {
-                column: flight.to,
-                row,
-            },
-            _ => flight.on_its_way(row),
-        };
-        let from = match mark {
-            Mark::Copy => {
-                flight.forks.push(to)?;
-                flight.from
-            }
-            _ => flight.next_start(),
-        };
+        let to = flight.marked_at(mark, row);
+        let from = flight.start_to(mark, to)?;
         drawn.column = to.column;
         drawn.from = from.column;
         drawn.heard = flight.words(self.alloc)?;
@@ -98,40 +88,30 @@ impl Gathered {
         Ok(drawn)
     }
 
-    // A packet that a node sent in this row.
-    fn send(&mut self, row: u16, from: Node, to: Node, words: Vec<u8>) -> Result<(), AllocError> {
+    // The packets that a node sent in the next row are under way.
+    fn send_all(&mut self, from: Node, packets: &[Sent]) -> Result<(), AllocError> {
         let from = Spot {
             column: column_of(u32::from(from.index())),
-            row,
+            row: self.row(),
         };
-        self.flights.push(Flight {
-            from,
-            to: column_of(u32::from(to.index())),
-            words,
-            forks: Vec::new(self.alloc),
-            is_drawn: false,
-        })?;
+        for sent in packets {
+            self.flights.push(Flight::new(self.alloc, from, sent)?)?;
+        }
         Ok(())
     }
 
-    /// What an event at a node told in this row: its outputs are noted, and its packets are under way.
+    /// What an event at a node told in the next row: its outputs are noted, and its packets are under way.
     pub(crate) fn hear<A: AppText>(
         &mut self,
         items: &[Item<A::Input, Told<A::Output>>],
         drawn: &mut Row,
     ) -> Result<(), AllocError> {
-        let row = self.row();
         for item in items {
             match item {
                 Item::Input(_, input) => A::print_input(input, &mut drawn.heard)?,
                 Item::Output(node, told) => {
-                    for output in &told.outputs {
-                        push_comma(&mut drawn.told)?;
-                        A::print_output(output, &mut drawn.told)?;
-                    }
-                    for sent in &told.sent {
-                        self.send(row, *node, sent.to, sent.words.to_vec(self.alloc)?)?;
-                    }
+                    print_outputs::<A>(&told.outputs, &mut drawn.told)?;
+                    self.send_all(*node, &told.sent)?;
                 }
             }
         }

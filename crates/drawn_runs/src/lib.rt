@@ -2,6 +2,7 @@
 //! seen of each step is gathered. It knows nothing of replays, and not how a picture looks.
 #![tactic(auto)]
 
+mod columns;
 mod flights;
 mod gathered;
 mod hand_on;

@@ -3,7 +3,7 @@ use crate::gathered::Gathered;
 use crate::runs_to_draw::RunsToDraw;
 use crate::words::{push_comma, push_numbered};
 use app_text::AppText;
-use drawing::{Bar, BarKind, Mark, Picture, Row};
+use drawing::{Mark, Picture, Row};
 use std::alloc::{AllocError, Global};
 use vst_base::Step;
 
@@ -29,52 +29,57 @@ fn is_stopped<I>(step: &Step<I>, node: u8, was_down: bool) -> bool {
     }
 }
 
+// Adds that a node leads in a term.
+fn tell_term(told: &mut Vec<u8>, term: u64) -> Result<(), AllocError> {
+    push_comma(told)?;
+    push_numbered(told, b"leads in term", term)
+}
+
 impl Gathered {
-    // Notes whether a node is down, and whether it leads, after a step in this row: a bar begins or ends there.
+    // Whether a node was down before this step.
+    fn was_down(&self, node: u8) -> bool {
+        match self.lives.get(usize::from(node)) {
+            Some(life) => life.is_down(),
+            None => false,
+        }
+    }
+
+    // Notes whether a node is down, and in which term it leads, after a step in the next row.
     fn follow(
         &mut self,
         node: u8,
         is_down: bool,
-        leads: Option<u64>,
+        term: Option<u64>,
         drawn: &mut Row,
     ) -> Result<(), AllocError> {
         let row = self.row();
         let Some(life) = self.lives.get_mut(usize::from(node)) else {
             return Ok(());
         };
-        match life.down {
-            Some(first) if !is_down => {
-                self.picture.bars.push(Bar {
-                    node,
-                    first,
-                    last: row,
-                    kind: BarKind::Down,
-                })?;
-                life.down = None;
-            }
-            None if is_down => life.down = Some(row),
-            _ => {}
+        let bars = &mut self.picture.bars;
+        life.follow_down(bars, node, row, is_down)?;
+        let is_new = life.follow_term(bars, node, row, term)?;
+        match term {
+            Some(term) if is_new => tell_term(&mut drawn.told, term),
+            _ => Ok(()),
         }
-        let led = match life.leads {
-            Some((term, _)) => Some(term),
-            None => None,
-        };
-        if led == leads {
-            return Ok(());
-        }
-        if let Some((_, first)) = life.leads {
-            self.picture.bars.push(Bar {
-                node,
-                first,
-                last: row,
-                kind: BarKind::Leads,
-            })?;
-        }
-        life.leads = None;
-        if let Some(term) = leads {
-            life.leads = Some((term, row));
-            push_comma(&mut drawn.told)?;
-            push_numbered(&mut drawn.told, b"leads in term", term)?;
+    }
+
+    // Notes what became of each node by a step in the next row.
+    fn follow_all<R, A>(
+        &mut self,
+        run: &R,
+        step: &Step<A::Input>,
+        drawn: &mut Row,
+    ) -> Result<(), AllocError>
+    where
+        R: RunsToDraw<Input = A::Input, Output = Told<A::Output>>,
+        A: AppText,
+        requires { R.sound run.now }
+    {
+        for node in 0..self.picture.nodes {
+            let is_down = is_stopped(step, node, self.was_down(node));
+            self.follow(node, is_down, run.leads_in(node), drawn)?;
         }
         Ok(())
     }
@@ -88,14 +93,7 @@ impl Gathered {
     {
         let mut drawn = row_of(self, step)?;
         self.hear::<A>(run.items(), &mut drawn)?;
-        for node in 0..self.picture.nodes {
-            let was_down = match self.lives.get(usize::from(node)) {
-                Some(life) => life.down.is_some(),
-                None => false,
-            };
-            let is_down = is_stopped(step, node, was_down);
-            self.follow(node, is_down, run.leads_in(node), &mut drawn)?;
-        }
+        self.follow_all::<R, A>(run, step, &mut drawn)?;
         self.picture.rows.push(drawn)?;
         Ok(())
     }
