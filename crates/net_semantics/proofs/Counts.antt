@@ -1,8 +1,8 @@
 -- How many packets have a copy in flight, as they change and as they are shown.
-use Rattle.std.proofs.Common.{◌≡◌, ℕ, zero, suc, ◌+◌, ◌<◌, ◌≤◌, List, [], ◌∷◌, get_or, set, cond, true, refl, ap, subst, arith}
+use Rattle.std.proofs.Common.{◌≡◌, ℕ, zero, suc, ◌+◌, ◌<◌, ◌≤◌, List, [], ◌∷◌, ◌++◌, get_or, set, cond, true, refl, ap, subst, arith}
 use Rattle.std.specs.Prelude.{nat_lt, count_by, slice_get}
 use Rattle.std.proofs.lemmas.Bool.{lt-ltb}
-use Rattle.std.proofs.lemmas.List.Sums.{sum_by-cons, sum_by-set}
+use Rattle.std.proofs.lemmas.List.Sums.{sum_by-cons, sum_by_push, sum_by-set}
 use Rattle.net_semantics.specs.Worlds.{Packet, change_at}
 use Rattle.net_semantics.specs.Shown.{Shown}
 use Rattle.net_semantics.specs.Held.{held_count, held_copies, held_less, held_more}
@@ -27,7 +27,11 @@ count_shown (p ∷ ps) (q ∷ qs) h =
     let right = sum_by-cons (λ r. one r.copies) q qs in
     omega (arith, first, rest, left, right)
 
-copies_there : {M : Type 0} (ps : List (Shown M)) (k : ℕ) (d : Shown M) → 0 < held_copies (slice_get ps k) → held_copies (slice_get ps k) ≡ (get_or ps k d).copies
+-- one more packet, which has a copy
+pub count_one_more : {M : Type 0} (ps : List (Shown M)) (p : Shown M) → 0 < p.copies → held_count (ps ++ p ∷ []) ≡ held_count ps + 1
+count_one_more ps p h = let now = one_of_some p.copies h in let all = sum_by_push (λ r. one r.copies) ps p in omega (arith, now, all)
+
+pub copies_there : {M : Type 0} (ps : List (Shown M)) (k : ℕ) (d : Shown M) → 0 < held_copies (slice_get ps k) → held_copies (slice_get ps k) ≡ (get_or ps k d).copies
 copies_there [] k d h = absurd (omega arith)
 copies_there (p ∷ ps) zero d h = refl
 copies_there (p ∷ ps) (suc k) d h = copies_there ps k d h

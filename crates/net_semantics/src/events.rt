@@ -6,6 +6,7 @@ use crate::Trace;
 use crate::packets::{Packet, Packets};
 use handler_trait::{Effects, Handlers, MAX_SENDS};
 use std::alloc::{AllocError, Global};
+use std::mem;
 use vst_base::{Item, Node};
 
 // Forgets the event before, and makes room for the next.
@@ -111,9 +112,8 @@ fn send_packets<M: Drop>(
     Ok(())
 }
 
-/// Clients see what the event put out at the node, and what it sends is in flight. What is left are effects without either, with
-/// their room.
-pub fn publish<I: Drop, O: Drop, M: Drop>(
+// Clients see these outputs of the node, and these sends are in flight. What is left are effects without either, with their room.
+fn release<I: Drop, O: Drop, M: Drop>(
     node: Node,
     effects: Effects<O, M>,
     trace: &mut Trace<I, O>,
@@ -126,6 +126,23 @@ pub fn publish<I: Drop, O: Drop, M: Drop>(
     give_outputs(node, &mut outputs, trace)?;
     send_packets(node, &mut sends, packets)?;
     Ok(Effects::from_parts(outputs, sends))
+}
+
+/// Clients see what the event put out at the node, and what it sends is in flight. The effects are left without either, with
+/// their room.
+pub fn publish<I: Drop, O: Drop, M: Drop>(
+    alloc: Global,
+    node: Node,
+    effects: &mut Effects<O, M>,
+    trace: &mut Trace<I, O>,
+    packets: &mut Packets<M>,
+) -> Result<(), AllocError>
+    ensures trace { OnOk result (trace.new ≡ trace.old ++ map (λ o. Item.Output node o) effects.old.outputs) }
+    ensures packets { OnOk result (packets.new ≡ packets.old ++ map (held_sent node) effects.old.sends) }
+{
+    let gathered = mem::replace(effects, Effects::new(alloc));
+    *effects = release(node, gathered, trace, packets)?;
+    Ok(())
 }
 
 /// The first state of each node, in order.

@@ -129,7 +129,6 @@ impl<M: Drop> Packets<M> {
     }
 
     /// One more copy of packet `k` is in flight. It takes no memory.
-    #[tactic(auto, using(crate::proofs::Counts::count_some, crate::proofs::Counts::set_more))]
     pub fn add_copy(&mut self, k: usize)
         requires copy { 0 < held_copies (slice_get self.old k) }
         requires fits { held_copies (slice_get self.old k) + 1 < 2 ^ 32 }
@@ -140,7 +139,6 @@ impl<M: Drop> Packets<M> {
     }
 
     /// One copy less of packet `k` is in flight.
-    #[tactic(auto, using(crate::proofs::Counts::count_some, crate::proofs::Counts::count_none, crate::proofs::Counts::counted, crate::proofs::Counts::set_less))]
     pub fn take_copy(&mut self, k: usize)
         requires { 0 < held_copies (slice_get self.old k) }
         ensures { self.new ≡ change_at held_less k self.old }

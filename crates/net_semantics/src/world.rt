@@ -15,7 +15,6 @@ use crate::refusals::{existing_node, input_node, or_memory};
 use handler_trait::{Effects, Handlers};
 use std::alloc::{AllocError, Global};
 use std::marker::Model;
-use std::mem;
 use vst_base::{Item, Net, Node, Step, StepKind, StepRefusal};
 
 /// A network without crashes: inputs alone, a bag of packets, or a bag that `Dup` steps may copy from.
@@ -256,6 +255,25 @@ impl<H: Handlers> World<H> {
         ensures net { self.new.net ≡ self.old.net }
     {
         let copy = self.handlers.copy_input(self.alloc, input)?;
+        self.input_and_show(node, input, copy)
+    }
+
+    // The node takes the input, and clients see this copy of it.
+    fn input_and_show(
+        &mut self,
+        node: Node,
+        input: &H::Input,
+        copy: H::Input,
+    ) -> Result<(), AllocError>
+        requires sound { IsSoundBy H.Handlers self.old }
+        requires steps { self.old.taken < MAX_STEPS }
+        requires node { node < (H.meaning self.old.handlers).nodes }
+        requires takes { IsTrue ((H.meaning self.old.handlers).takes_input node) }
+        requires copy { copy ≡ input.now }
+        ensures takes { OnOk result (TakesBy H.Handlers (Step.In node input.now) self.old self.new) }
+        ensures handlers { self.new.handlers ≡ self.old.handlers }
+        ensures net { self.new.net ≡ self.old.net }
+    {
         input_event(
             &self.handlers,
             self.alloc,
@@ -265,9 +283,13 @@ impl<H: Handlers> World<H> {
             &mut self.effects,
         )?;
         self.trace.push(Item::Input(node, copy))?;
-        let effects = mem::replace(&mut self.effects, Effects::new(self.alloc));
-        let emptied = publish(node, effects, &mut self.trace, &mut self.packets)?;
-        self.effects = emptied;
+        publish(
+            self.alloc,
+            node,
+            &mut self.effects,
+            &mut self.trace,
+            &mut self.packets,
+        )?;
         self.taken += 1;
         Ok(())
     }
@@ -288,9 +310,13 @@ impl<H: Handlers> World<H> {
             &mut self.states,
             &mut self.effects,
         )?;
-        let effects = mem::replace(&mut self.effects, Effects::new(self.alloc));
-        let emptied = publish(node, effects, &mut self.trace, &mut self.packets)?;
-        self.effects = emptied;
+        publish(
+            self.alloc,
+            node,
+            &mut self.effects,
+            &mut self.trace,
+            &mut self.packets,
+        )?;
         self.taken += 1;
         Ok(())
     }
@@ -314,9 +340,13 @@ impl<H: Handlers> World<H> {
             &mut self.effects,
         )?;
         self.packets.take_copy(k);
-        let effects = mem::replace(&mut self.effects, Effects::new(self.alloc));
-        let emptied = publish(node, effects, &mut self.trace, &mut self.packets)?;
-        self.effects = emptied;
+        publish(
+            self.alloc,
+            node,
+            &mut self.effects,
+            &mut self.trace,
+            &mut self.packets,
+        )?;
         self.taken += 1;
         Ok(())
     }

@@ -27,7 +27,7 @@ returns-clause-takes g c =
       happens = rw (handlers, states) at (if_some_given (λ x. Happens (λ s. (g.H.Handlers.meaning c.self.inside.handlers).message c.at-packet.result.now.destination s c.at-packet.result.now.source x) c.at-packet.result.now.destination c.self.inside.states.items c.message_event.new.states.items c.message_event.new.effects) c.at-packet.result.now.content content.0 content.1 c.in_ok-message_event.ensures.happens);
       kept = rw handlers at c.in_ok-message_event.ensures.sound;
       modest = λ s ok. g.met.H.Handlers.modest_message c.args.self.now.handlers c.at-packet.result.now.destination s c.at-packet.result.now.source content.0 sound.destination sound.source ok;
-      packets = rw (node, c.take_copy.ensures, c.replace-effects.ensures.value, packets) at c.in_ok-emptied.ensures.packets;
-      trace = rw (node, c.replace-effects.ensures.value, trace) at c.in_ok-emptied.ensures.trace;
+      packets = rw (node, c.take_copy.ensures, packets) at c.in_ok-publish.ensures.packets;
+      trace = rw (node, trace) at c.in_ok-publish.ensures.trace;
       taken = ap (λ v. v.taken + 1) c.self.view_is;
     })

@@ -17,7 +17,7 @@ returns-clause-takes g c =
       happens = rw (handlers, states) at c.in_ok-timeout_event.ensures.happens;
       kept = rw handlers at c.in_ok-timeout_event.ensures.sound;
       modest = λ s ok. g.met.H.Handlers.modest_timeout c.args.self.now.handlers c.args.node s c.requires.node ok;
-      packets = rw (c.replace-effects.ensures.value, packets) at c.in_ok-emptied.ensures.packets;
-      trace = rw (c.replace-effects.ensures.value, trace) at c.in_ok-emptied.ensures.trace;
+      packets = rw packets at c.in_ok-publish.ensures.packets;
+      trace = rw trace at c.in_ok-publish.ensures.trace;
       taken = ap (λ v. v.taken + 1) c.self.view_is;
     })

@@ -2,7 +2,7 @@ use Rattle.std.proofs.Common.{◌≡◌, ◌+◌, ap, map}
 use Rattle.handler_trait.specs.Facts.{promises_of}
 use Rattle.vst_base.specs.declared.step.Item.TheVariants as item
 use Rattle.net_semantics.proofs.Taken.{takes_in, trace_in}
-use Rattle.net_semantics.proofs.world.World.input.Goals as goal
+use Rattle.net_semantics.proofs.world.World.input_and_show.Goals as goal
 
 pub returns-clause-takes : goal.returns-clause-takes
 returns-clause-takes g c =
@@ -18,7 +18,7 @@ returns-clause-takes g c =
       happens = rw (handlers, states) at c.in_ok-input_event.ensures.happens;
       kept = rw handlers at c.in_ok-input_event.ensures.sound;
       modest = λ s ok. g.met.H.Handlers.modest_input c.args.self.now.handlers c.args.node s c.args.input.now c.requires.node c.requires.takes ok;
-      packets = rw (c.replace-effects.ensures.value, packets) at c.in_ok-emptied.ensures.packets;
-      trace = trace_in c.args.node c.args.input.now c.in_ok-copy.copy c.args.self.now.trace c.self.inside.trace c.push.new.self c.publish.new.trace (map (λ o. item.Output c.args.node o) c.input_event.new.effects.outputs) (rw c.replace-effects.ensures.value at c.in_ok-emptied.ensures.trace) c.in_ok-push.ensures.added c.in_ok-copy.ensures trace;
+      packets = rw packets at c.in_ok-publish.ensures.packets;
+      trace = trace_in c.args.node c.args.input.now c.args.copy c.args.self.now.trace c.self.inside.trace c.push.new.self c.publish.new.trace (map (λ o. item.Output c.args.node o) c.input_event.new.effects.outputs) c.in_ok-publish.ensures.trace c.in_ok-push.ensures.added c.requires.copy trace;
       taken = ap (λ v. v.taken + 1) c.self.view_is;
     })
