@@ -19,7 +19,7 @@ use Rattle.net_semantics.specs.Worlds.{World, Packet, put, change_at, one_more, 
 use Rattle.net_semantics.specs.Steps.{refusal_of, input_item, delivery, after_event, with_packets, items_of_event}
 use Rattle.net_semantics.specs.Shown.{Shown, WorldView, Shows, ShowsAt, IsSound, IsSoundPacket, IsSoundState}
 use Rattle.net_semantics.specs.Held.{held_sent, held_more, held_less, held_copies}
-use Rattle.net_semantics.specs.Taking.{GrowsBy, Happens, Takes}
+use Rattle.net_semantics.specs.Taking.{GrowsBy, Happens, IsReady, Takes}
 use Rattle.net_semantics.proofs.Places.{put-there, put-elsewhere, length-change_at, change_at-there, change_at-elsewhere, each-append, each-change_at, slice_get_there}
 use Rattle.net_semantics.proofs.Eventful.{if_some_at, if_some_given}
 use Rattle.net_semantics.proofs.Showing.{ShowsAll, shown-append, shown_sent, shown-change_at, shown_more, shown_less, packet_of_shown}
@@ -259,6 +259,11 @@ module _ {H S I O M : Type 0} (x : Promises S I O M) (v v2 : WorldView H S I O M
           (each-change_at (IsSoundPacket x.meaning.nodes v2.taken) held_more v.packets k (each_later x.meaning.nodes v.taken v2.taken (omega arith) v.packets was.packets)
           (subst (λ t. IfSome (slice_get v.packets k) (λ p. IsSoundPacket x.meaning.nodes t (held_more p))) (sym taken) (more_sound x.meaning.nodes v.taken (slice_get v.packets k) copy (was.packets k)))));
     }
+
+-- each node can take an event while steps are left
+pub ready_there : {H S I O M : Type 0} (x : Promises S I O M) (v : WorldView H S I O M) → IsSound x v → v.taken < MAX_STEPS → (n : ℕ) → IfSome (slice_get v.states n) (IsReady (x.sound n) x.spent)
+ready_there x v was few n =
+    IfSome_then (slice_get v.states n) (was.states n) (λ s (p : IsSoundState (x.sound n) x.spent v.taken s). record { keeps = p.keeps; little = let a = p.little in omega arith })
 
 -- the trace after an input and its outputs
 pub trace_in : {I O : Type 0} (n : ℕ) (i j : I) (t t0 t1 t2 outs : List (Item I O)) → t2 ≡ t1 ++ outs → t1 ≡ t0 ++ item.Input n j ∷ [] → j ≡ i → t0 ≡ t → t2 ≡ t ++ (input_item n (Some i) ++ outs)

@@ -1,4 +1,4 @@
-use Rattle.std.proofs.Common.{◌≡◌, ◌∙◌, ◌∷◌, [], ◌++◌, List, Some, ap, arith, below_more, length, rules, sym}
+use Rattle.std.proofs.Common.{◌≡◌, ◌∙◌, ◌∷◌, [], ◌++◌, Some, ap, arith, below_more, rules, sym}
 use Rattle.std.specs.Prelude.{slice_get}
 use Rattle.net_semantics.proofs.Places.{slice_get-append_left, slice_get-append_last}
 use Rattle.net_semantics.proofs.events.first_states.Goals as goal

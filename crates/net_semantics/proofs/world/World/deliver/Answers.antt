@@ -5,8 +5,14 @@ use Rattle.net_semantics.specs.Shown.{IsSoundPacket}
 use Rattle.net_semantics.specs.Held.{held_copies}
 use Rattle.net_semantics.specs.Taking.{Happens}
 use Rattle.net_semantics.proofs.Eventful.{if_some_given}
-use Rattle.net_semantics.proofs.Taken.{takes_deliver, some_there}
+use Rattle.net_semantics.proofs.Taken.{ready_there, some_there, takes_deliver}
 use Rattle.net_semantics.proofs.world.World.deliver.Goals as goal
+
+pub message_event-requires-clause-ready : goal.message_event-requires-clause-ready
+message_event-requires-clause-ready g c =
+    let handlers : c.self.inside.handlers ≡ c.args.self.now.handlers = ap (λ v. v.handlers) c.self.view_is in
+    let states : c.self.inside.states.items ≡ c.args.self.now.states = ap (λ v. v.states) c.self.view_is in
+    rw (handlers, states) (ready_there (promises_of g.H.Handlers c.args.self.now.handlers) c.args.self.now c.requires.sound c.requires.steps c.at-packet.result.now.destination)
 
 pub returns-clause-takes : goal.returns-clause-takes
 returns-clause-takes g c =

@@ -1,8 +1,14 @@
 use Rattle.std.proofs.Common.{◌≡◌, ◌+◌, ap, map}
 use Rattle.handler_trait.specs.Facts.{promises_of}
 use Rattle.vst_base.specs.declared.step.Item.TheVariants as item
-use Rattle.net_semantics.proofs.Taken.{takes_in, trace_in}
+use Rattle.net_semantics.proofs.Taken.{ready_there, takes_in, trace_in}
 use Rattle.net_semantics.proofs.world.World.input_and_show.Goals as goal
+
+pub input_event-requires-clause-ready : goal.input_event-requires-clause-ready
+input_event-requires-clause-ready g c =
+    let handlers : c.self.inside.handlers ≡ c.args.self.now.handlers = ap (λ v. v.handlers) c.self.view_is in
+    let states : c.self.inside.states.items ≡ c.args.self.now.states = ap (λ v. v.states) c.self.view_is in
+    rw (handlers, states) (ready_there (promises_of g.H.Handlers c.args.self.now.handlers) c.args.self.now c.requires.sound c.requires.steps c.args.node)
 
 pub returns-clause-takes : goal.returns-clause-takes
 returns-clause-takes g c =

@@ -1,7 +1,13 @@
 use Rattle.std.proofs.Common.{◌≡◌, ◌+◌, ap}
 use Rattle.handler_trait.specs.Facts.{promises_of}
-use Rattle.net_semantics.proofs.Taken.{takes_tick}
+use Rattle.net_semantics.proofs.Taken.{ready_there, takes_tick}
 use Rattle.net_semantics.proofs.world.World.tick.Goals as goal
+
+pub timeout_event-requires-clause-ready : goal.timeout_event-requires-clause-ready
+timeout_event-requires-clause-ready g c =
+    let handlers : c.self.inside.handlers ≡ c.args.self.now.handlers = ap (λ v. v.handlers) c.self.view_is in
+    let states : c.self.inside.states.items ≡ c.args.self.now.states = ap (λ v. v.states) c.self.view_is in
+    rw (handlers, states) (ready_there (promises_of g.H.Handlers c.args.self.now.handlers) c.args.self.now c.requires.sound c.requires.steps c.args.node)
 
 pub returns-clause-takes : goal.returns-clause-takes
 returns-clause-takes g c =
