@@ -1,12 +1,14 @@
 -- What is done in parts is what a rule says, and each part may be done.
-use Rattle.std.proofs.Common.{◌≡◌, ℕ, suc, ◌+◌, ◌≤◌, max, min, Bool, true, false, List, [], ◌∷◌, ◌++◌, length, Some, None, IsTrue, cond, eqb, ap, refl, ◌∙◌, arith, ltb, rules}
+use Rattle.std.proofs.Common.{◌≡◌, ℕ, suc, ◌+◌, ◌<◌, ◌≤◌, max, min, Bool, true, false, List, [], ◌∷◌, ◌++◌, length, Some, None, IsTrue, cond, eqb, get_or, ap, refl, subst, sym, ◌∙◌, arith, ltb, rules}
 use Rattle.std.proofs.lemmas.Bool.{and_parts, false≢true, leb-true}
 use Rattle.std.proofs.lemmas.List.{append_assoc}
+use Rattle.std.proofs.lemmas.List.Elements.{All-get_or}
+use Rattle.std.specs.List.{All}
 use Rattle.vst_base.specs.Committing.{advance}
 use Rattle.vst_base.specs.Logs.{accepted, has_conflict, matches}
 use Rattle.vst_base.specs.Machines.{MachineMeaning}
 use Rattle.vst_base.specs.declared.entry.Entry.{Entry}
-use Rattle.raft_commit.specs.Peers.{matched_of}
+use Rattle.raft_commit.specs.Peers.{PeerView, matched_of}
 use Rattle.raft_commit.specs.declared.peer.Moved.TheVariants as moves
 use Rattle.raft_log.specs.Accepting.{answer, first_conflict, log_behind}
 use Rattle.raft_log.specs.declared.accept.Accept.TheVariants.{Taken, Below}
@@ -22,7 +24,7 @@ use Rattle.raft_xform.specs.Nodes.{RaftView, is_leader, sending}
 use Rattle.raft_xform.specs.Replicating.{follower, known, last_new, may_take, moved_by, on_append, on_appended, taken, takes}
 use Rattle.raft_xform.specs.Replicating.{answer as telling_leader}
 use Rattle.raft_xform.specs.Sending.{append, to_others}
-use Rattle.raft_xform.specs.Sound.{HasTerm, IsSoundNode, MaySend}
+use Rattle.raft_xform.specs.Sound.{HasTerm, IsPeer, IsSoundNode, MaySend}
 use Rattle.raft_xform.proofs.Lengths.{accepted_has_new, committed_stay}
 use Rattle.raft_xform.proofs.Sounding.{sound_caught_up, sound_committed}
 
@@ -57,6 +59,11 @@ learned_in_log log commit prev prev_term theirs es new last l m a n =
     let none = no_conflict log commit prev es last a in
     let is : new ≡ accepted log prev es = n ∙ rw (none.0) refl in
     rw is (omega (arith, none.1, committed_stay log commit prev es l there none.0, accepted_has_new log prev es there))
+
+-- what is read of node n keeps to what all do
+pub peer_there : (len : ℕ) (ps qs : List PeerView) (i n : ℕ) (p : PeerView) → ps ≡ qs → i ≡ n → n < length qs → p ≡ get_or ps i p → All (IsPeer len) qs → IsPeer len p
+peer_there len ps qs i n p e f lt at all =
+    subst (IsPeer len) (sym (at ∙ (ap (λ xs. get_or xs i p) e ∙ ap (λ k. get_or qs k p) f))) (All-get_or (IsPeer len) qs n p lt all)
 
 -- with a packet for node n, if it is another one, each other node up to n has its message
 pub sent_to : {M : Type 0} (n me to : ℕ) (message : ℕ → M) (first before after : List (ℕ × M)) → Some to ≡ cond (eqb n me) None (Some n) →
