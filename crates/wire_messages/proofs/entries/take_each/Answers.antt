@@ -2,8 +2,9 @@ use Rattle.std.proofs.Common.{◌+◌, ◌≡◌, ◌∷◌, ◌++◌, [], Ok, S
 use Rattle.std.specs.declared.alloc.AllocError.{AllocError}
 use Rattle.wire_fields.specs.Formats.{read_list}
 use Rattle.wire_messages.specs.EntryBytes.{entry}
-use Rattle.wire_messages.specs.Lists.{list_next}
+use Rattle.wire_messages.specs.Lists.{list_next, list_stops}
 use Rattle.wire_messages.specs.Wires.{Takes}
+use Rattle.wire_messages.proofs.Reading.{none_taken}
 use Rattle.wire_messages.proofs.entries.take_each.Goals as goal
 
 pub loop-taken-preserved : goal.loop-taken-preserved
@@ -20,3 +21,9 @@ loop-taken-preserved g c =
           (list_next f.read taken (taken + 1) c.args.input.now before c.loop-taken.input item c.take.new.input refl c.loop-taken.invariant.0 read),
       size,
     )
+
+pub returns-in_default-clause-items : goal.returns-in_default-clause-items
+returns-in_default-clause-items g c =
+    let f = entry g.C.Wire.format in
+    list_stops f.read c.loop-taken._taken c.args.count c.args.input.now c.loop-taken.items.items c.loop-taken.input (omega arith) c.loop-taken.invariant.0
+    (none_taken f c.loop-taken.input c.take.new.input c.in_ok-item.field-0 c.in_default.is c.in_ok-item.ensures)
