@@ -1,0 +1,10 @@
+use Rattle.runs_in_bytes.proofs.running.RunningInBytesRuns.forget_trace.Goals as goal
+
+pub returns-clause-follows : goal.returns-clause-follows
+returns-clause-follows g c = λ ss had.
+    let has = rw (← c.self.view_is) at had in
+    rw c.forget_trace.ensures (record {
+      ran = has.ran;
+      shows = record { states = has.shows.states; up = has.shows.up; packets = has.shows.packets };
+      mapped = has.mapped;
+    })
