@@ -2,6 +2,7 @@ ghost use Rattle.std.specs.Prelude.{◌<◌, length, vec_len, IfOk};
 ghost use Rattle.raft_types.specs.Ranges.{IsClusterSize};
 ghost use Rattle.vst_base.specs.declared.step.TheConstants.{MAX_STEPS};
 
+use super::requests::asked;
 use applied_order::AppliedOrder;
 use kv_machine::{KvCmd, KvMachine};
 use net_semantics::FailWorld;
@@ -10,19 +11,23 @@ use raft_xform::Raft;
 use std::alloc::{AllocError, Global};
 use std::process::Abort;
 use std::test::Fail;
-use vst_base::{ClientId, Entry, Key, Machine, Node, ReqId, Step, What};
+use vst_base::{ClientId, Entry, Key, Machine, ReqId, Step, What};
 
 // A client, the number of its request, and the letter of the key whose value it asks for.
 type Row = (u64, u64, u8);
 
+// The key of one letter.
+fn key(alloc: Global, letter: u8) -> Result<Key, Fail> {
+    Ok(Key::new(alloc, &[letter])?.ok_or("a key")?)
+}
+
 // The request of a row.
 fn asks(alloc: Global, row: Row) -> Result<RaftInput<KvCmd>, Fail> {
     let (client, request, letter) = row;
-    let key = Key::new(alloc, &[letter])?.ok_or("a key")?;
     Ok(RaftInput {
         client: ClientId::new(client),
         request: ReqId::new(request),
-        cmd: KvCmd::Get(key),
+        cmd: KvCmd::Get(key(alloc, letter)?),
     })
 }
 
@@ -31,19 +36,9 @@ fn entry(alloc: Global, row: Option<Row>) -> Result<Entry<KvCmd>, Fail> {
     let Some(row) = row else {
         return Ok(Entry::new(1, What::Noop));
     };
-    let origin = Node::new(0, 9).ok_or("a node")?;
-    let RaftInput {
-        client,
-        request,
-        cmd,
-    } = asks(alloc, row)?;
-    let what = What::Request {
-        client,
-        request,
-        origin,
-        cmd,
-    };
-    Ok(Entry::new(1, what))
+    let (client, request, letter) = row;
+    let cmd = KvCmd::Get(key(alloc, letter)?);
+    Ok(Entry::new(1, asked(client, request, cmd)))
 }
 
 // Whether this is the request of a row.
@@ -115,8 +110,8 @@ fn without_request<I>(row: &Step<Row>) -> Option<Step<I>> {
 
 // The step of a row.
 fn step_of(alloc: Global, row: &Step<Row>) -> Result<Step<RaftInput<KvCmd>>, Fail> {
-    if let Step::In(n, asked) = row {
-        return Ok(Step::In(*n, asks(alloc, *asked)?));
+    if let Step::In(n, input) = row {
+        return Ok(Step::In(*n, asks(alloc, *input)?));
     }
     Ok(without_request(row).ok_or("a step of these kinds")?)
 }

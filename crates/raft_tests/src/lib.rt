@@ -16,3 +16,5 @@ mod raft_log_tests;
 mod raft_xform_run_tests;
 #[cfg(test)]
 mod raft_xform_tests;
+#[cfg(test)]
+mod requests;

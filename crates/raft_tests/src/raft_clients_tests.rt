@@ -1,20 +1,8 @@
+use super::requests::asked;
 use raft_clients::{Sessions, apply_entry, executed};
 use std::alloc::{AllocError, Global};
 use std::test::Fail;
-use vst_base::{ClientId, Counter, Entry, Machine, Node, ReqId, What};
-
-// A request of a client, by its number, for this command.
-fn asks(client: u64, request: u64, cmd: u8) -> Result<Entry<u8>, Fail> {
-    let origin = Node::new(0, 9).ok_or("a node")?;
-    let (client, request) = (ClientId::new(client), ReqId::new(request));
-    let what = What::Request {
-        client,
-        request,
-        origin,
-        cmd,
-    };
-    Ok(Entry::new(1, what))
-}
+use vst_base::{ClientId, Counter, Entry, Machine, What};
 
 // What the machine and the sessions answer, through the bounds.
 fn apply<M: Machine>(
@@ -45,10 +33,9 @@ fn a_request_is_executed_once_and_answered_again(rt: HostRuntime) -> Result<(), 
         (8, 0, 2, Some(13), 15),
         (8, 0, 2, Some(13), 15),
     ] {
-        let entry = asks(client, request, cmd)?;
+        let entry = Entry::new(1, asked(client, request, cmd));
         let answer = apply(alloc, &Counter, &mut state, &mut sessions, &entry)?;
-        assert_eq!(rt; answer, output, "{client} {request}");
-        assert_eq!(rt; state, sum, "{client} {request}");
+        assert!(rt; answer == output && state == sum, "{client} {request}");
     }
     Ok(())
 }
@@ -60,47 +47,57 @@ fn a_noop_does_nothing(rt: HostRuntime) -> Result<(), Fail> {
     let mut sessions = Sessions::new(alloc);
     let noop = Entry::new(1, What::Noop);
     let answer = apply(alloc, &Counter, &mut state, &mut sessions, &noop)?;
-    assert_eq!(rt; (answer, state), (None, 5));
+    assert!(rt; answer.is_none() && state == 5);
     assert!(rt; sessions.get(ClientId::new(0)).is_none());
     Ok(())
 }
 
-#[test]
-fn each_client_has_its_own_session(rt: HostRuntime) -> Result<(), Fail> {
-    let alloc = rt.alloc();
+// The sessions of so many clients, of which each asked once, for 1 and by its own number.
+fn sessions_of(alloc: Global, clients: u64) -> Result<Sessions<u8>, AllocError> {
     let mut state = 0;
     let mut sessions = Sessions::new(alloc);
-    for client in 0..200 {
-        apply(
-            alloc,
-            &Counter,
-            &mut state,
-            &mut sessions,
-            &asks(client, client, 1)?,
-        )?;
+    for client in 0..clients {
+        let entry = Entry::new(1, asked(client, client, 1));
+        apply(alloc, &Counter, &mut state, &mut sessions, &entry)?;
     }
+    Ok(sessions)
+}
+
+#[test]
+fn each_client_has_its_own_session(rt: HostRuntime) -> Result<(), Fail> {
+    let sessions = sessions_of(rt.alloc(), 200)?;
     for client in 0..200 {
         let session = sessions.get(ClientId::new(client)).ok_or("a session")?;
-        assert_eq!(rt; session.request.number(), client);
-        assert_eq!(rt; u64::from(session.output), client);
+        assert!(rt; session.request.number() == client);
+        assert!(rt; u64::from(session.output) == client);
     }
     assert!(rt; sessions.get(ClientId::new(200)).is_none());
     Ok(())
 }
 
-// The places of the executed requests, of a client and a number each. A no-op stands before each.
-fn places(alloc: Global, requests: &[(u64, u64)]) -> Result<Vec<usize>, Fail> {
+// The requests, of a client and a number each. A no-op stands before each.
+fn after_noops(alloc: Global, requests: &[(u64, u64)]) -> Result<Vec<Entry<u8>>, AllocError> {
     let mut entries = Vec::new(alloc);
     for (client, request) in requests {
         entries.push(Entry::new(1, What::Noop))?;
-        entries.push(asks(*client, *request, 0)?)?;
+        entries.push(Entry::new(1, asked(*client, *request, 0)))?;
     }
-    Ok(executed(alloc, &entries)?)
+    Ok(entries)
+}
+
+// Whether these are the places of the requests that are executed.
+fn are_executed(
+    alloc: Global,
+    requests: &[(u64, u64)],
+    places: &[usize],
+) -> Result<bool, AllocError> {
+    let entries = after_noops(alloc, requests)?;
+    Ok(executed(alloc, &entries)?.as_slice() == places)
 }
 
 #[test]
 fn requests_over_all_earlier_ones_are_executed(rt: HostRuntime) -> Result<(), Fail> {
-    for (requests, executed) in [
+    for (requests, places) in [
         ([].as_slice(), [].as_slice()),
         (&[(7, 0), (7, 0)], &[1]),
         (&[(7, 1), (9, 1), (7, 1), (9, 2)], &[1, 3, 7]),
@@ -110,8 +107,7 @@ fn requests_over_all_earlier_ones_are_executed(rt: HostRuntime) -> Result<(), Fa
             &[1, 3, 5, 9],
         ),
     ] {
-        let found = places(rt.alloc(), requests)?;
-        assert_eq!(rt; found.as_slice(), executed, "{requests:?}");
+        assert!(rt; are_executed(rt.alloc(), requests, places)?, "{requests:?}");
     }
     Ok(())
 }

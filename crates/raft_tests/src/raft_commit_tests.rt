@@ -1,6 +1,5 @@
 use raft_commit::{Moved, Peer, advance, next_batch};
 use std::alloc::Global;
-use std::process::Abort;
 use std::test::Fail;
 use vst_base::{Entry, MAX_TERM, Node, What};
 
@@ -62,7 +61,7 @@ fn an_old_terms_entry_is_committed_with_one_of_the_leaders(rt: HostRuntime) -> R
         ([0, 3, 2, 2, 2], 1),
         ([0, 3, 3, 0, 0], 3),
     ] {
-        assert_eq!(rt; committed(alloc, &FIGURE_8, &matched, 0, 4, 1)?, commit);
+        assert!(rt; committed(alloc, &FIGURE_8, &matched, 0, 4, 1)? == commit);
     }
     Ok(())
 }
@@ -71,8 +70,8 @@ fn an_old_terms_entry_is_committed_with_one_of_the_leaders(rt: HostRuntime) -> R
 #[test]
 fn entries_of_an_old_term_wait_for_the_leaders_own(rt: HostRuntime) -> Result<(), Fail> {
     let alloc = rt.alloc();
-    assert_eq!(rt; committed(alloc, &[1, 1, 2], &[0, 2, 0], 0, 2, 0)?, 0);
-    assert_eq!(rt; committed(alloc, &[1, 1, 2], &[0, 3, 0], 0, 2, 0)?, 3);
+    assert!(rt; committed(alloc, &[1, 1, 2], &[0, 2, 0], 0, 2, 0)? == 0);
+    assert!(rt; committed(alloc, &[1, 1, 2], &[0, 3, 0], 0, 2, 0)? == 3);
     Ok(())
 }
 
@@ -91,7 +90,7 @@ fn most_nodes_decide(rt: HostRuntime) -> Result<(), Fail> {
         (&[0, 4, 4, 4, 2, 3, 3, 3, 3], 0, 3),
         (&[0, 9, 0], 0, 4),
     ] {
-        assert_eq!(rt; committed(alloc, &[1, 1, 1, 1], matched, me, 1, 0)?, commit);
+        assert!(rt; committed(alloc, &[1, 1, 1, 1], matched, me, 1, 0)? == commit);
     }
     Ok(())
 }
@@ -107,10 +106,8 @@ fn the_greatest_of_its_term_where_terms_fall(rt: HostRuntime) -> Result<(), Fail
         (4, 6, 1),
         (2, 6, 6),
     ] {
-        assert_eq!(rt;
-            committed(alloc, &[1, 3, 5, 2, 3, 2], &[0, held, 0], 0, term, 1)?,
-            commit
-        );
+        let found = committed(alloc, &[1, 3, 5, 2, 3, 2], &[0, held, 0], 0, term, 1)?;
+        assert!(rt; found == commit);
     }
     Ok(())
 }
@@ -119,20 +116,22 @@ fn the_greatest_of_its_term_where_terms_fall(rt: HostRuntime) -> Result<(), Fail
 fn a_commit_never_falls(rt: HostRuntime) -> Result<(), Fail> {
     let alloc = rt.alloc();
     for commit in 0..4 {
-        assert_eq!(rt;
-            committed(alloc, &[1, 1, 2], &[0, 2, 0], 0, 2, commit)?,
-            commit
-        );
+        assert!(rt; committed(alloc, &[1, 1, 2], &[0, 2, 0], 0, 2, commit)? == commit);
     }
-    assert_eq!(rt; committed(alloc, &[1, 1, 2], &[0, 3, 0], 0, 2, 0)?, 3);
-    assert_eq!(rt; committed(alloc, &[], &[0, 0, 0], 0, 1, 0)?, 0);
+    assert!(rt; committed(alloc, &[1, 1, 2], &[0, 3, 0], 0, 2, 0)? == 3);
+    assert!(rt; committed(alloc, &[], &[0, 0, 0], 0, 1, 0)? == 0);
     Ok(())
+}
+
+// Whether this is known of a node: the next index to send, and up to which it has the log.
+fn is_at(peer: &Peer, next: u32, matched: u32) -> bool {
+    peer.next() == next && peer.matched() == matched
 }
 
 #[test]
 fn answers_of_one_node_in_turn(rt: HostRuntime) {
     let mut peer = Peer::new(10);
-    assert_eq!(rt; (peer.next(), peer.matched()), (11, 0));
+    assert!(rt; is_at(&peer, 11, 0));
     for (ok, index, moved, next, matched) in [
         (false, 10, Moved::Back, 10, 0),
         (false, 10, Moved::Nothing, 10, 0),
@@ -148,36 +147,22 @@ fn answers_of_one_node_in_turn(rt: HostRuntime) {
         (false, u32::MAX, Moved::Nothing, 5, 4),
         (true, 10, Moved::Raised, 11, 10),
     ] {
-        assert_eq!(rt; peer.on_answer(ok, index, 10), moved, "{ok} {index}");
-        assert_eq!(rt;
-            (peer.next(), peer.matched()),
-            (next, matched),
+        let told = peer.on_answer(ok, index, 10);
+        assert!(rt;
+            told == moved && is_at(&peer, next, matched),
             "{ok} {index}"
         );
     }
 }
 
-// Of these terms, in order.
-fn is_of(rt: &impl Abort, entries: &[Entry<u8>], terms: &[u64]) {
-    assert_eq!(rt; entries.len(), terms.len());
-    for (entry, term) in entries.iter().zip(terms) {
-        assert_eq!(rt; entry.term(), *term);
-    }
-}
-
 #[test]
 fn eight_entries_at_most_from_next_on(rt: HostRuntime) -> Result<(), Fail> {
-    let terms = [1, 2, 3, 4, 5, 6, 7, 8, 9, 10];
-    let log = entries(rt.alloc(), &terms)?;
+    let log = entries(rt.alloc(), &[1, 2, 3, 4, 5, 6, 7, 8, 9, 10])?;
     if log.len() != 10 {
         return Err(Fail::from("ten entries"));
     }
     for (next, until) in [(1, 8), (2, 9), (3, 10), (4, 10), (10, 10), (11, 10)] {
-        is_of(
-            &rt,
-            next_batch(&log, next),
-            &terms[next as usize - 1..until],
-        );
+        assert!(rt; next_batch(&log, next) == &log[next as usize - 1..until]);
     }
     Ok(())
 }

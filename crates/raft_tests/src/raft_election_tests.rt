@@ -16,7 +16,7 @@ fn three_nodes_elect_a_leader(rt: HostRuntime) -> Result<(), Fail> {
     let (candidate, voter) = (node(0)?, node(1)?);
     let mut ballot = Ballot::kept(4, Some(node(2)?));
     assert!(rt; ballot.start(candidate));
-    assert_eq!(rt; (ballot.term(), ballot.votes()), (5, 0b001));
+    assert!(rt; ballot.term() == 5 && ballot.votes() == 0b001);
     assert!(rt; ballot.voted() == Some(candidate));
     assert!(rt; !is_majority(ballot.votes(), 3));
 
@@ -25,7 +25,7 @@ fn three_nodes_elect_a_leader(rt: HostRuntime) -> Result<(), Fail> {
     assert!(rt; other.on_request(5, candidate, true));
     ballot.on_grant(voter);
     ballot.on_grant(voter);
-    assert_eq!(rt; ballot.votes(), 0b011);
+    assert!(rt; ballot.votes() == 0b011);
     assert!(rt; is_majority(ballot.votes(), 3));
     Ok(())
 }
@@ -47,7 +47,7 @@ fn a_vote_goes_to_one_candidate_of_the_term(rt: HostRuntime) -> Result<(), Fail>
         };
         let mut ballot = Ballot::kept(5, voted);
         let from = node(from)?;
-        assert_eq!(rt; ballot.on_request(term, from, up_to_date), granted);
+        assert!(rt; ballot.on_request(term, from, up_to_date) == granted);
         let after = if granted { Some(from) } else { voted };
         assert!(rt; ballot == Ballot::kept(5, after));
     }
@@ -59,7 +59,7 @@ fn a_term_ends_with_its_vote(rt: HostRuntime) -> Result<(), Fail> {
     let voted = Some(node(3)?);
     for (term, greater) in [(4, false), (5, false), (6, true), (MAX_TERM, true)] {
         let mut ballot = Ballot::kept(5, voted);
-        assert_eq!(rt; ballot.learn(term), greater);
+        assert!(rt; ballot.learn(term) == greater);
         let after = if greater {
             Ballot::kept(term, None)
         } else {
@@ -75,9 +75,9 @@ fn the_greatest_term_has_no_next(rt: HostRuntime) -> Result<(), Fail> {
     let me = node(8)?;
     let mut ballot = Ballot::kept(MAX_TERM - 1, None);
     assert!(rt; ballot.start(me));
-    assert_eq!(rt; (ballot.term(), ballot.votes()), (MAX_TERM, 256));
+    assert!(rt; ballot.term() == MAX_TERM && ballot.votes() == 256);
     assert!(rt; !ballot.start(node(0)?));
-    assert_eq!(rt; (ballot.term(), ballot.votes()), (MAX_TERM, 256));
+    assert!(rt; ballot.term() == MAX_TERM && ballot.votes() == 256);
     assert!(rt; ballot.voted() == Some(me));
     Ok(())
 }
@@ -97,6 +97,6 @@ fn more_than_half_is_a_majority(rt: HostRuntime) {
         (u16::MAX, 32, false),
         (u16::MAX, 255, false),
     ] {
-        assert_eq!(rt; is_majority(votes, nodes), is, "{votes} of {nodes}");
+        assert!(rt; is_majority(votes, nodes) == is, "{votes} of {nodes}");
     }
 }

@@ -1,9 +1,9 @@
+use super::requests::asked;
 use raft_log::{Accept, Log};
 use raft_types::MAX_INDEX;
 use std::alloc::{AllocError, Global};
-use std::process::Abort;
 use std::test::Fail;
-use vst_base::{ClientId, Counter, Entry, MAX_TERM, Machine, Node, ReqId, What};
+use vst_base::{Counter, Entry, MAX_TERM, Machine, What};
 
 // The logs of Figure 7 of the Raft paper, by their terms: the new leader's, and the followers' a to f.
 const LEADER: [u64; 10] = [1, 1, 1, 4, 4, 5, 5, 6, 6, 6];
@@ -20,28 +20,22 @@ const E: [u64; 7] = [1, 1, 1, 4, 4, 4, 4];
 
 const F: [u64; 11] = [1, 1, 1, 2, 2, 2, 3, 3, 3, 3, 3];
 
-// Entries of these terms, with this command.
-fn entries(alloc: Global, terms: &[u64], cmd: u8) -> Result<Vec<Entry<u8>>, Fail> {
-    let origin = Node::new(0, 5).ok_or("a node")?;
+// Entries of these terms. The commands of those up to `kept` are 0, of the others 9.
+fn entries(alloc: Global, terms: &[u64], kept: usize) -> Result<Vec<Entry<u8>>, Fail> {
     let mut made = Vec::new(alloc);
     for term in terms {
         if *term == 0 || *term > MAX_TERM {
             return Err(Fail::from("a term of an entry"));
         }
-        let (client, request) = (ClientId::new(7), ReqId::new(1));
-        let what = What::Request {
-            client,
-            request,
-            origin,
-            cmd,
-        };
-        made.push(Entry::new(*term, what))?;
+        let cmd = if made.len() < kept { 0 } else { 9 };
+        made.push(Entry::new(*term, asked(7, 1, cmd)))?;
     }
     Ok(made)
 }
 
-fn log(alloc: Global, terms: &[u64], cmd: u8) -> Result<Log<u8>, Fail> {
-    let made = entries(alloc, terms, cmd)?;
+// A log of these terms, whose commands are 0.
+fn log(alloc: Global, terms: &[u64]) -> Result<Log<u8>, Fail> {
+    let made = entries(alloc, terms, terms.len())?;
     if made.len() > MAX_INDEX as usize {
         return Err(Fail::from("a short log"));
     }
@@ -63,13 +57,27 @@ fn accept<M: Machine>(
     Ok(log.accept(alloc, machine, prev, new, commit)?)
 }
 
-// Of these terms, in order, and the commands of those up to `kept` are 0, of the others 9.
-fn is_of(rt: &impl Abort, log: &Log<u8>, terms: &[u64], kept: usize) {
-    assert_eq!(rt; log.entries().len(), terms.len());
-    for (place, (entry, term)) in log.entries().iter().zip(terms).enumerate() {
-        assert_eq!(rt; entry.term(), *term);
-        let wanted = if place < kept { 0 } else { 9 };
-        assert!(rt; matches!(entry.what(), What::Request { cmd, .. } if *cmd == wanted));
+// Whether the log has entries of these terms, with the command 0 up to `kept` and 9 after that.
+fn is_of(alloc: Global, log: &Log<u8>, terms: &[u64], kept: usize) -> Result<bool, Fail> {
+    let wanted = entries(alloc, terms, kept)?;
+    Ok(log.entries() == wanted.as_slice())
+}
+
+// A leader's log: an entry of the first term, and one of its own.
+fn leaders(alloc: Global) -> Result<Log<u8>, Fail> {
+    let mut leader = log(alloc, &[1])?;
+    if leader.last().0 == MAX_INDEX {
+        return Err(Fail::from("a short log"));
+    }
+    leader.push(Entry::new(2, What::Noop))?;
+    Ok(leader)
+}
+
+// Whether the last entry is a no-op.
+fn ends_in_a_noop(log: &Log<u8>) -> bool {
+    match log.entries().last() {
+        Some(entry) => *entry.what() == What::Noop,
+        None => false,
     }
 }
 
@@ -77,19 +85,12 @@ fn is_of(rt: &impl Abort, log: &Log<u8>, terms: &[u64], kept: usize) {
 #[test]
 fn a_leaders_own_entry_is_taken_with_the_others(rt: HostRuntime) -> Result<(), Fail> {
     let alloc = rt.alloc();
-    let mut leader = log(alloc, &[1], 9)?;
-    if leader.last().0 == MAX_INDEX {
-        return Err(Fail::from("a short log"));
-    }
-    leader.push(Entry::new(2, What::Noop))?;
+    let leader = leaders(alloc)?;
     let mut follower = Log::new(Vec::new(alloc));
     let taken = accept(alloc, &Counter, &mut follower, 0, leader.entries(), 0)?;
-    assert_eq!(rt; taken, Accept::Taken(2));
+    assert!(rt; taken == Accept::Taken(2));
     assert!(rt; follower.entries() == leader.entries());
-    assert_eq!(rt;
-        *follower.entries().last().ok_or("an entry")?.what(),
-        What::Noop
-    );
+    assert!(rt; ends_in_a_noop(&follower));
     Ok(())
 }
 
@@ -101,7 +102,7 @@ fn answer(
     terms: &[u64],
     commit: u32,
 ) -> Result<Accept, Fail> {
-    let sent = entries(alloc, terms, 9)?;
+    let sent = entries(alloc, terms, 0)?;
     accept(alloc, &Counter, log, prev, &sent, commit)
 }
 
@@ -109,7 +110,7 @@ fn answer(
 // log afterwards.
 fn follow(alloc: Global, terms: &[u64], prev: u32, commit: u32) -> Result<(Accept, Log<u8>), Fail> {
     let sent = LEADER.get(prev as usize..).ok_or("an index")?;
-    let mut follower = log(alloc, terms, 0)?;
+    let mut follower = log(alloc, terms)?;
     let told = answer(alloc, &mut follower, prev, sent, commit)?;
     Ok((told, follower))
 }
@@ -127,8 +128,8 @@ fn the_followers_of_figure_7_take_the_leaders_entries(rt: HostRuntime) -> Result
         (F.as_slice(), 3, 3, LEADER.as_slice()),
     ] {
         let (told, follower) = follow(rt.alloc(), old, prev, 0)?;
-        assert_eq!(rt; told, Accept::Taken(10));
-        is_of(&rt, &follower, new, kept);
+        assert!(rt; told == Accept::Taken(10));
+        assert!(rt; is_of(rt.alloc(), &follower, new, kept)?);
     }
     Ok(())
 }
@@ -136,12 +137,12 @@ fn the_followers_of_figure_7_take_the_leaders_entries(rt: HostRuntime) -> Result
 #[test]
 fn an_old_or_an_empty_message_cuts_nothing(rt: HostRuntime) -> Result<(), Fail> {
     let alloc = rt.alloc();
-    let mut follower = log(alloc, &C, 0)?;
+    let mut follower = log(alloc, &C)?;
     for (prev, terms, index) in [(2, &LEADER[2..5], 5), (4, &LEADER[..0], 4)] {
         let told = answer(alloc, &mut follower, prev, terms, 11)?;
-        assert_eq!(rt; told, Accept::Taken(index));
+        assert!(rt; told == Accept::Taken(index));
     }
-    is_of(&rt, &follower, &C, 11);
+    assert!(rt; is_of(alloc, &follower, &C, 11)?);
     Ok(())
 }
 
@@ -155,8 +156,8 @@ fn a_conflict_up_to_commit_is_refused(rt: HostRuntime) -> Result<(), Fail> {
         (E.as_slice(), 5, 5, Accept::Taken(10), 5, LEADER.as_slice()),
     ] {
         let (told, follower) = follow(rt.alloc(), old, prev, commit)?;
-        assert_eq!(rt; told, answer);
-        is_of(&rt, &follower, new, kept);
+        assert!(rt; told == answer);
+        assert!(rt; is_of(rt.alloc(), &follower, new, kept)?);
     }
     Ok(())
 }
@@ -164,21 +165,21 @@ fn a_conflict_up_to_commit_is_refused(rt: HostRuntime) -> Result<(), Fail> {
 #[test]
 fn a_leader_adds_its_own_entry(rt: HostRuntime) -> Result<(), Fail> {
     let alloc = rt.alloc();
-    let mut leader = log(alloc, &[], 0)?;
+    let mut leader = log(alloc, &[])?;
     for (prev, term) in [(0, 1), (1, 1), (2, 3)] {
         let told = answer(alloc, &mut leader, prev, &[term], prev)?;
-        assert_eq!(rt; told, Accept::Taken(prev + 1));
+        assert!(rt; told == Accept::Taken(prev + 1));
     }
-    is_of(&rt, &leader, &[1, 1, 3], 0);
-    assert_eq!(rt; leader.into_entries().len(), 3);
+    assert!(rt; is_of(alloc, &leader, &[1, 1, 3], 0)?);
+    assert!(rt; leader.into_entries().len() == 3);
     Ok(())
 }
 
 #[test]
 fn a_log_is_asked_by_index_and_term(rt: HostRuntime) -> Result<(), Fail> {
-    let f = log(rt.alloc(), &F, 0)?;
-    assert_eq!(rt; f.last(), (11, 3));
-    assert_eq!(rt; f.term_at(4), Some(2));
+    let f = log(rt.alloc(), &F)?;
+    assert!(rt; f.last() == (11, 3));
+    assert!(rt; f.term_at(4) == Some(2));
     assert!(rt; f.matches(6, 2));
     assert!(rt; f.up_to_date(10, 6));
     Ok(())

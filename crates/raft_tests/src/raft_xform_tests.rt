@@ -2,8 +2,8 @@ ghost use Rattle.std.specs.Prelude.{◌≡◌, ◌<◌, ◌≤◌, length, vec_l
 ghost use Rattle.handler_trait.specs.declared.handlers.TheConstants.{MAX_SENDS};
 ghost use Rattle.raft_types.specs.Ranges.{IsIndex, IsTerm};
 ghost use Rattle.raft_xform.specs.Sound.{IsSoundNode};
-ghost use Rattle.vst_base.specs.Entries.{HasOrigin};
 
+use super::requests::asked;
 use handler_trait::{Effects, Handlers, MAX_SENDS, Rebootable};
 use raft_types::{
     Append, Appended, Entries, Kept, MAX_INDEX, RaftInput, RaftMsg, RaftOut, RequestVote, Vote,
@@ -23,18 +23,6 @@ pub(crate) fn asks(request: u64, cmd: u8) -> RaftInput<u8> {
     }
 }
 
-// Client 7's request of this number, which node 0 took.
-fn taken(request: u64) -> Result<What<u8>, Fail>
-    ensures { IfOk result HasOrigin }
-{
-    Ok(What::Request {
-        client: ClientId::new(7),
-        request: ReqId::new(request),
-        origin: Node::new(0, 3).ok_or("a node")?,
-        cmd: 0,
-    })
-}
-
 // Entries of these terms.
 fn entries(alloc: Global, terms: &[u64]) -> Result<Entries<u8>, Fail>
     ensures { IfOk result (λ made. length made ≤ 8) }
@@ -44,7 +32,7 @@ fn entries(alloc: Global, terms: &[u64]) -> Result<Entries<u8>, Fail>
         if *term == 0 || *term > MAX_TERM {
             return Err(Fail::from("a term of an entry"));
         }
-        made.push(Entry::new(*term, taken(1)?))?;
+        made.push(Entry::new(*term, asked(7, 1, 0)))?;
     }
     if made.len() > 8 {
         return Err(Fail::from("few entries"));
@@ -121,8 +109,8 @@ fn a_vote_goes_to_a_log_that_is_up_to_date(rt: HostRuntime) -> Result<(), Fail> 
     ] {
         let request = RequestVote::new(term, last_index, last_term);
         let (to, vote) = answer(rt.alloc(), voted, request)?;
-        assert_eq!(rt; to.index(), 2);
-        assert_eq!(rt; (vote.term(), vote.granted()), (term.max(2), granted));
+        assert!(rt; to.index() == 2);
+        assert!(rt; vote.term() == term.max(2) && vote.granted() == granted);
     }
     Ok(())
 }
@@ -180,8 +168,8 @@ fn sends_entries(
     let ((to, appended), applied, terms) = follower_told(alloc, &message)?;
     let told = (appended.term(), appended.ok(), appended.index());
     let may_apply = if answer.1 { answer.2.min(2) } else { 0 };
-    assert_eq!(rt; (to.index(), told, applied), (1, answer, may_apply));
-    assert_eq!(rt; terms.as_slice(), log);
+    assert!(rt; to.index() == 1 && told == answer && applied == may_apply);
+    assert!(rt; terms.as_slice() == log);
     Ok(())
 }
 
@@ -204,10 +192,10 @@ fn a_follower_takes_what_fits_its_log(rt: HostRuntime) -> Result<(), Fail> {
 }
 
 // As many entries of the first term as a log has places.
-fn full_log(alloc: Global) -> Result<Entries<u8>, Fail> {
+fn full_log(alloc: Global) -> Result<Entries<u8>, AllocError> {
     let mut made = Vec::new(alloc);
     for request in 0..u64::from(MAX_INDEX) {
-        made.push(Entry::new(1, taken(request)?))?;
+        made.push(Entry::new(1, asked(7, request, 0)))?;
     }
     Ok(Entries::new(made))
 }
@@ -311,11 +299,8 @@ fn a_leader_whose_log_is_full_says_so(rt: HostRuntime) -> Result<(), Fail> {
     let kept = Kept::new(1, None, full_log(rt.alloc())?);
     let (state, mut effects) = elected_and_asked(rt.alloc(), kept, 2)?;
     assert!(rt; is_full(&log_terms(rt.alloc(), &state)?));
-    assert_eq!(rt;
-        effects.next_output(),
-        Some(RaftOut::Full { client, request })
-    );
-    assert_eq!(rt; effects.next_output(), None);
+    assert!(rt; effects.next_output() == Some(RaftOut::Full { client, request }));
+    assert!(rt; effects.next_output().is_none());
     assert!(rt; effects.next_send().is_none());
     Ok(())
 }
@@ -324,10 +309,8 @@ fn a_leader_whose_log_is_full_says_so(rt: HostRuntime) -> Result<(), Fail> {
 fn a_leader_sends_a_request_to_the_others(rt: HostRuntime) -> Result<(), Fail> {
     let kept = Kept::new(1, None, entries(rt.alloc(), &[1])?);
     let (state, mut effects) = elected_and_asked(rt.alloc(), kept, 2)?;
-    assert_eq!(rt;
-        log_terms(rt.alloc(), &state)?.as_slice(),
-        [1u64, 2, 2].as_slice()
-    );
+    let terms = log_terms(rt.alloc(), &state)?;
+    assert!(rt; terms.as_slice() == [1, 2, 2].as_slice());
     assert!(rt; are_appends(&mut effects, 1, &[true, false]));
     Ok(())
 }
