@@ -1,4 +1,4 @@
-ghost use Rattle.std.specs.Prelude.{◌≡◌, ◌≤◌, ◌<◌, ◌+◌, ◌++◌, [], ◌∷◌, length, IsTrue, OnOk};
+ghost use Rattle.std.specs.Prelude.{◌≡◌, ◌≤◌, ◌<◌, ◌+◌, ◌++◌, [], ◌∷◌, length, IsFalse, IsTrue, OnOk};
 ghost use Rattle.handler_trait.specs.Handling.{Does};
 ghost use Rattle.raft_types.specs.Ranges.{IsIndex};
 ghost use Rattle.raft_xform.specs.Nodes.{is_leader};
@@ -111,6 +111,28 @@ pub(crate) fn on_append<M: Machine>(
     if state.role.is_leader() {
         return Ok(());
     }
+    follow(alloc, machine, me, state, from, append, effects)
+}
+
+// A node that does not lead follows the leader of its term, and takes the entries if it may.
+fn follow<M: Machine>(
+    alloc: Global,
+    machine: &M,
+    me: Node,
+    state: &mut RaftState<M::State, M::Cmd, M::Out>,
+    from: Node,
+    append: &Append<M::Cmd>,
+    effects: &mut Effects<RaftOut<M::Out>, RaftMsg<M::Cmd>>,
+) -> Result<(), AllocError>
+    requires applied { state.old.applied ≤ state.old.commit }
+    requires committed { state.old.commit ≤ length state.old.log }
+    requires term { IsElectionTerm state.old.ballot.term }
+    requires in_time { state.old.ballot.term ≤ append.now.term }
+    requires follows { IsFalse (is_leader state.old.role) }
+    requires room { 0 < effects.old.send_places }
+    ensures { OnOk result (Does (rules.on_append (M.meaning machine.now) me state.old from append.now) state.new effects.old effects.new) }
+{
+    let prev = append.prev_index();
     state.role = Role::Follower;
     if !state.log.matches(prev, append.prev_term()) {
         answer(state, false, prev, from, effects);

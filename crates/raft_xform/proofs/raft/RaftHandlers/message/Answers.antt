@@ -1,6 +1,23 @@
+use Rattle.raft_xform.specs.Sound.{IsSoundNode}
 use Rattle.raft_xform.proofs.Keeping.{keeps_append, keeps_appended, keeps_vote, sound_done}
 use Rattle.raft_xform.proofs.Sounding.{sound_heard}
 use Rattle.raft_xform.proofs.raft.RaftHandlers.message.Goals as goal
+
+pub on_vote-requires-clause-sound : goal.on_vote-requires-clause-sound
+on_vote-requires-clause-sound g c = rw (c.seat-seat.ensures, c.hear.ensures) (sound_heard c.requires.sound c.term.result (c.term.ensures.in_range.1))
+
+pub on_append-requires-clause-applied : goal.on_append-requires-clause-applied
+on_append-requires-clause-applied g c =
+    let k : IsSoundNode c.args.self.now.nodes c.args.node c.hear.new.state = rw (c.hear.ensures) (sound_heard c.requires.sound c.term.result (c.term.ensures.in_range.1)) in
+    k.applied
+
+pub on_append-requires-clause-committed : goal.on_append-requires-clause-committed
+on_append-requires-clause-committed g c =
+    let k : IsSoundNode c.args.self.now.nodes c.args.node c.hear.new.state = rw (c.hear.ensures) (sound_heard c.requires.sound c.term.result (c.term.ensures.in_range.1)) in
+    k.committed
+
+pub on_appended-requires-clause-sound : goal.on_appended-requires-clause-sound
+on_appended-requires-clause-sound g c = rw (c.seat-seat.ensures, c.hear.ensures) (sound_heard c.requires.sound c.term.result (c.term.ensures.in_range.1))
 
 pub returns-in-Vote-clause-sound : goal.returns-in-Vote-clause-sound
 returns-in-Vote-clause-sound g c =
