@@ -1,2 +1,4 @@
 pub mod Clusters
+pub mod Ended
 pub mod More
+pub mod Told

@@ -1,4 +1,4 @@
-use Rattle.std.proofs.Common.{subst}
+use Rattle.std.proofs.Common.{refl, subst}
 use Rattle.net_semantics.specs.ShownFail.{ShowsFail}
 use Rattle.net_semantics.specs.Steps.{next}
 use Rattle.raft_safety.specs.Runs.{world_after}
@@ -26,3 +26,21 @@ returns-clause-next g c = λ ss gone had.
     c.in-Ok.ensures.taken
     (cluster-more g.M.Machine.meaning h c.step.new.self.handlers c.step.ensures.handlers (record { world = world; order = c.self.inside.order }) (record { world = c.step.new.self; order = c.follow.new.self }) ss s
     before.followed before.allowed not_refused shows c.in-Ok-follow.ensures))
+
+pub returns-clause-refused : goal.returns-clause-refused
+returns-clause-refused g c = λ ss gone had.
+    let before = rw (← c.self.view_is) at had in
+    let h = c.self.inside.world.handlers in
+    rw (← c.self.view_is) (c.in-Ok.ensures.refused (world_after (g.M.Machine.meaning h.machine) h.nodes ss) before.followed.shows)
+
+pub returns-clause-system : goal.returns-clause-system
+returns-clause-system g c = rw (← c.self.view_is, c.step.ensures.handlers) refl
+
+pub returns-clause-grows : goal.returns-clause-grows
+returns-clause-grows g c = rw (← c.self.view_is) c.in-Ok.ensures.trace_grows
+
+pub returns-clause-taken : goal.returns-clause-taken
+returns-clause-taken g c = rw (← c.self.view_is) c.in-Ok.ensures.taken
+
+pub returns-clause-sound : goal.returns-clause-sound
+returns-clause-sound g c = c.in-Ok.ensures.sound

@@ -1,4 +1,4 @@
-use Rattle.std.proofs.Common.{ap, length, sym, subst, ◌++◌, ◌∷◌, [], ◌∙◌}
+use Rattle.std.proofs.Common.{ap, length, refl, sym, subst, ◌++◌, ◌∷◌, [], ◌∙◌}
 use Rattle.net_semantics.specs.Runs.{run, no_recovery}
 use Rattle.net_semantics.specs.Shown.{Shows}
 use Rattle.net_semantics.specs.Steps.{next}
@@ -25,3 +25,21 @@ returns-clause-next g c = λ ss gone had.
     trace
     c.in-Ok.ensures.taken
     (subst (λ (x : g.row.H.Denot). HasFollowed (h.meaning x) t.has_followed (record { world = c.step.new.self; map = c.follow_map-followed.new.map }) (ss ++ s ∷ [])) (sym c.step.ensures.handlers) followed))
+
+pub returns-clause-refused : goal.returns-clause-refused
+returns-clause-refused g c = λ ss gone had.
+    let before = rw (← c.self.view_is) at had in
+    let m = g.H.Handlers.meaning c.self.inside.world.handlers in
+    rw (← c.self.view_is) (c.in-Ok.ensures.refused (run m (no_recovery {S = g.row.H-State.Denot}) ss) before.followed.shows)
+
+pub returns-clause-system : goal.returns-clause-system
+returns-clause-system g c = rw (← c.self.view_is, c.step.ensures.handlers, c.step.ensures.net) refl
+
+pub returns-clause-grows : goal.returns-clause-grows
+returns-clause-grows g c = rw (← c.self.view_is) c.in-Ok.ensures.trace_grows
+
+pub returns-clause-taken : goal.returns-clause-taken
+returns-clause-taken g c = rw (← c.self.view_is) c.in-Ok.ensures.taken
+
+pub returns-clause-sound : goal.returns-clause-sound
+returns-clause-sound g c = c.in-Ok.ensures.sound

@@ -1,0 +1,22 @@
+use Rattle.xform_stack.proofs.Ended.{when-ended}
+use Rattle.xform_stack.proofs.backed.run_backed.Goals as goal
+
+pub returns-clause-allowed : goal.returns-clause-allowed
+returns-clause-allowed g c = rw c.new.ensures at c.run_mapped.ensures.allowed
+
+pub returns-clause-trace : goal.returns-clause-trace
+returns-clause-trace g c = rw c.new.ensures at c.run_mapped.ensures.trace
+
+pub returns-clause-refused : goal.returns-clause-refused
+returns-clause-refused g c = rw c.new.ensures at c.run_mapped.ensures.refused
+
+pub returns-clause-image : goal.returns-clause-image
+returns-clause-image g c =
+    let ran = rw c.new.ensures at c.run_mapped.ensures in
+    when-ended c.run_mapped.result ran.allowed ran.trace ran.image (λ a allowed traced image. rw traced image)
+
+pub returns-clause-explained : goal.returns-clause-explained
+returns-clause-explained g c =
+    let ran = rw c.new.ensures at c.run_mapped.ensures in
+    when-ended c.run_mapped.result ran.allowed ran.trace ran.image
+    (λ a allowed traced image. rw traced (c.one_machine_explains.ensures.explained (g.M.Machine.meaning c.args.machine) c.args.steps.now allowed))
