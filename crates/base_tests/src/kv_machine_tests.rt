@@ -1,47 +1,24 @@
+use crate::machines::{answer, text, token};
 use kv_machine::{KvCmd, KvMachine, KvState};
-use std::alloc::{AllocError, Global};
+use std::alloc::Global;
 use std::process::Abort;
 use std::test::Fail;
-use vst_base::{Key, Machine, Value};
-
-fn key(alloc: Global, text: &[u8]) -> Result<Key, Fail> {
-    Ok(Key::new(alloc, text)?.ok_or("no key")?)
-}
-
-fn value(alloc: Global, text: &[u8]) -> Result<Value, Fail> {
-    Ok(Value::new(alloc, text)?.ok_or("no value")?)
-}
+use vst_base::Machine;
 
 fn put(alloc: Global, k: &[u8], v: &[u8]) -> Result<KvCmd, Fail> {
-    Ok(KvCmd::Put(key(alloc, k)?, value(alloc, v)?))
+    Ok(KvCmd::Put(token(alloc, k)?, token(alloc, v)?))
 }
 
 fn cas(alloc: Global, k: &[u8], expected: Option<&[u8]>, v: &[u8]) -> Result<KvCmd, Fail> {
     let expected = match expected {
-        Some(text) => Some(value(alloc, text)?),
+        Some(text) => Some(token(alloc, text)?),
         None => None,
     };
-    Ok(KvCmd::Cas(key(alloc, k)?, expected, value(alloc, v)?))
+    Ok(KvCmd::Cas(token(alloc, k)?, expected, token(alloc, v)?))
 }
 
 fn cad(alloc: Global, k: &[u8], v: &[u8]) -> Result<KvCmd, Fail> {
-    Ok(KvCmd::Cad(key(alloc, k)?, value(alloc, v)?))
-}
-
-fn text(value: &Option<Value>) -> Option<&[u8]> {
-    value.as_ref().map(|v| v.as_bytes())
-}
-
-// What the machine answers to a copy of the command, copied.
-fn answer<M: Machine>(
-    alloc: Global,
-    machine: &M,
-    state: &mut M::State,
-    cmd: &M::Cmd,
-) -> Result<M::Out, AllocError> {
-    let copy = machine.copy_cmd(alloc, cmd)?;
-    let out = machine.apply(alloc, state, &copy)?;
-    machine.copy_out(alloc, &out)
+    Ok(KvCmd::Cad(token(alloc, k)?, token(alloc, v)?))
 }
 
 // The commands of a short run, by their place.
@@ -51,8 +28,8 @@ fn command(alloc: Global, place: u8) -> Result<KvCmd, Fail> {
         1 => put(alloc, b"b", b"y"),
         2 => cas(alloc, b"a", Some(b"y"), b"z"),
         3 => cad(alloc, b"a", b"x"),
-        4 => Ok(KvCmd::Del(key(alloc, b"a")?)),
-        _ => Ok(KvCmd::Get(key(alloc, b"b")?)),
+        4 => Ok(KvCmd::Del(token(alloc, b"a")?)),
+        _ => Ok(KvCmd::Get(token(alloc, b"b")?)),
     }
 }
 

@@ -13,6 +13,8 @@ mod line_reader_tests;
 #[cfg(test)]
 mod lock_table_tests;
 #[cfg(test)]
+mod machines;
+#[cfg(test)]
 mod number_set_tests;
 #[cfg(test)]
 mod outside_mem_tests;

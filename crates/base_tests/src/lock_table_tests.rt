@@ -1,62 +1,67 @@
-use lock_table::{TableCmd, TableMachine};
-use std::alloc::{AllocError, Global};
+use crate::machines::{answer, text, token};
+use lock_table::{TableCmd, TableMachine, TableState};
+use std::alloc::Global;
+use std::process::Abort;
 use std::test::Fail;
-use vst_base::{Key, Machine};
-
-fn key(alloc: Global, text: &[u8]) -> Result<Key, Fail> {
-    Ok(Key::new(alloc, text)?.ok_or("no key")?)
-}
+use vst_base::Machine;
 
 fn acquire(alloc: Global, name: &[u8], owner: &[u8]) -> Result<TableCmd, Fail> {
-    Ok(TableCmd::Acquire(key(alloc, name)?, key(alloc, owner)?))
+    Ok(TableCmd::Acquire(token(alloc, name)?, token(alloc, owner)?))
 }
 
-// What the machine answers to copies of the commands, in turn, copied.
-fn answers<M: Machine>(
-    alloc: Global,
-    machine: &M,
-    commands: &[M::Cmd],
-) -> Result<Vec<M::Out>, AllocError> {
-    let mut state = machine.init(alloc)?;
-    let mut outs = Vec::new(alloc);
-    for cmd in commands {
-        let copy = machine.copy_cmd(alloc, cmd)?;
-        let out = machine.apply(alloc, &mut state, &copy)?;
-        outs.push(machine.copy_out(alloc, &out)?)?;
+fn release(alloc: Global, name: &[u8], owner: &[u8]) -> Result<TableCmd, Fail> {
+    Ok(TableCmd::Release(token(alloc, name)?, token(alloc, owner)?))
+}
+
+fn holder(alloc: Global, name: &[u8]) -> Result<TableCmd, Fail> {
+    Ok(TableCmd::Holder(token(alloc, name)?))
+}
+
+// The commands of a short run, by their place.
+fn command(alloc: Global, place: u8) -> Result<TableCmd, Fail> {
+    match place {
+        0 => acquire(alloc, b"l", b"bob"),
+        1 => acquire(alloc, b"m", b"al"),
+        2 => acquire(alloc, b"l", b"al"),
+        3 => release(alloc, b"l", b"bob"),
+        4 => holder(alloc, b"l"),
+        _ => holder(alloc, b"m"),
     }
-    Ok(outs)
+}
+
+// The machine answers a copy of a command with this name, and this holder of it, and yes or no.
+fn tells(
+    rt: &impl Abort,
+    alloc: Global,
+    state: &mut TableState,
+    place: u8,
+    name: &[u8],
+    holder: Option<&[u8]>,
+    yes: bool,
+) -> Result<(), Fail> {
+    let cmd = command(alloc, place)?;
+    let told = answer(alloc, &TableMachine, state, &cmd)?;
+    assert!(rt; told.name.as_bytes() == name, "the name of command {place}");
+    assert!(rt; text(&told.holder) == holder, "after command {place}");
+    assert!(rt; told.yes == yes, "command {place}");
+    Ok(())
 }
 
 #[test]
 fn commands_are_answered_in_turn(rt: HostRuntime) -> Result<(), Fail> {
     let alloc = rt.alloc();
     let [l, m] = [b"l".as_slice(), b"m".as_slice()];
-    let [bob, al] = [b"bob".as_slice(), b"al".as_slice()];
-    let commands = [
-        acquire(alloc, l, bob)?,
-        acquire(alloc, m, al)?,
-        acquire(alloc, l, al)?,
-        TableCmd::Release(key(alloc, l)?, key(alloc, bob)?),
-        TableCmd::Holder(key(alloc, l)?),
-        TableCmd::Holder(key(alloc, m)?),
-    ];
-    let told = [
-        (l, Some(bob), true),
-        (m, Some(al), true),
-        (l, Some(bob), false),
-        (l, None, true),
-        (l, None, false),
-        (m, Some(al), true),
-    ];
-    let outs = answers(alloc, &TableMachine, &commands)?;
-    assert_eq!(rt; outs.len(), told.len());
-    for (place, (out, (name, holder, yes))) in outs.iter().zip(told).enumerate() {
-        assert!(rt; out.name.as_bytes() == name, "the name of command {place}");
-        assert!(rt;
-            out.holder.as_ref().map(|h| h.as_bytes()) == holder,
-            "after command {place}"
-        );
-        assert_eq!(rt; out.yes, yes, "command {place}");
+    let [bob, al] = [Some(b"bob".as_slice()), Some(b"al".as_slice())];
+    let mut state = TableMachine.init(alloc)?;
+    for (place, name, holder, yes) in [
+        (0, l, bob, true),
+        (1, m, al, true),
+        (2, l, bob, false),
+        (3, l, None, true),
+        (4, l, None, false),
+        (5, m, al, true),
+    ] {
+        tells(&rt, alloc, &mut state, place, name, holder, yes)?;
     }
     Ok(())
 }

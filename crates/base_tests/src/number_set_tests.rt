@@ -29,15 +29,19 @@ fn leave(alloc: Global, numbers: &[u64], mark: u64, above: &[u64]) -> Result<boo
 #[test]
 fn the_gaps_are_told_in_each_order(rt: HostRuntime) -> Result<(), Fail> {
     let alloc = rt.alloc();
-    assert!(rt; leave(alloc, &[], 0, &[])?);
-    assert!(rt; leave(alloc, &[0, 1, 2, 3], 4, &[])?);
-    assert!(rt; leave(alloc, &[3, 2, 1], 0, &[1, 2, 3])?);
-    assert!(rt; leave(alloc, &[3, 2, 1, 0], 4, &[])?);
-    assert!(rt; leave(alloc, &[4, 2, 6, 3, 5], 0, &[2, 3, 4, 5, 6])?);
-    assert!(rt; leave(alloc, &[4, 2, 6, 3, 0, 8, 1], 5, &[6, 8])?);
-    assert!(rt; leave(alloc, &[1, 1, 3, 0, 1, 0, 3], 2, &[3])?);
     let most = u64::MAX;
-    assert!(rt; leave(alloc, &[most, 0, most, most - 1], 1, &[most - 1, most])?);
+    for (numbers, mark, above) in [
+        ([].as_slice(), 0, [].as_slice()),
+        (&[0, 1, 2, 3], 4, &[]),
+        (&[3, 2, 1], 0, &[1, 2, 3]),
+        (&[3, 2, 1, 0], 4, &[]),
+        (&[4, 2, 6, 3, 5], 0, &[2, 3, 4, 5, 6]),
+        (&[4, 2, 6, 3, 0, 8, 1], 5, &[6, 8]),
+        (&[1, 1, 3, 0, 1, 0, 3], 2, &[3]),
+        (&[most, 0, most, most - 1], 1, &[most - 1, most]),
+    ] {
+        assert!(rt; leave(alloc, numbers, mark, above)?);
+    }
     Ok(())
 }
 
@@ -57,6 +61,6 @@ fn the_last_gap_closes_them_all(rt: HostRuntime) -> Result<(), Fail> {
     assert!(rt; mark == 0 && above.len() == 63);
     assert!(rt; above.first() == Some(&1) && above.last() == Some(&63));
     set.insert(0)?;
-    assert_eq!(rt; set.gaps(), (64, [].as_slice()));
+    assert!(rt; set.gaps() == (64, [].as_slice()));
     Ok(())
 }

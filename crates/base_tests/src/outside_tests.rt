@@ -61,10 +61,10 @@ impl Sink for Nibbles {
 #[test]
 fn all_is_written_in_small_writes(rt: HostRuntime) -> Result<(), Fail> {
     let mut sink = Nibbles::new(rt.alloc(), 3, WriteFault::Failed);
-    assert_eq!(rt; write_all(&mut sink, b""), Ok(()));
-    assert_eq!(rt; write_all(&mut sink, b"abc"), Ok(()));
-    assert_eq!(rt; sink.written.as_slice(), b"abc".as_slice());
-    assert_eq!(rt; (sink.faults, sink.wants), (0, 0));
+    assert!(rt; write_all(&mut sink, b"") == Ok(()));
+    assert!(rt; write_all(&mut sink, b"abc") == Ok(()));
+    assert!(rt; sink.written.as_slice() == b"abc".as_slice());
+    assert!(rt; (sink.faults, sink.wants) == (0, 0));
     Ok(())
 }
 
@@ -72,8 +72,8 @@ fn all_is_written_in_small_writes(rt: HostRuntime) -> Result<(), Fail> {
 fn a_fault_leaves_a_front_written(rt: HostRuntime) {
     for (fault, counts) in [(WriteFault::Failed, (1, 0)), (WriteFault::Memory, (0, 1))] {
         let mut sink = Nibbles::new(rt.alloc(), 2, fault);
-        assert_eq!(rt; write_all(&mut sink, b"abc"), Err(fault));
-        assert_eq!(rt; sink.written.as_slice(), b"ab".as_slice());
-        assert_eq!(rt; (sink.faults, sink.wants), counts);
+        assert!(rt; write_all(&mut sink, b"abc") == Err(fault));
+        assert!(rt; sink.written.as_slice() == b"ab".as_slice());
+        assert!(rt; (sink.faults, sink.wants) == counts);
     }
 }

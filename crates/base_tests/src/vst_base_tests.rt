@@ -1,3 +1,4 @@
+use crate::machines::{answer, token};
 use std::alloc::{AllocError, Global};
 use std::collections::HashSet;
 use std::hash::Hash;
@@ -12,14 +13,13 @@ fn twice<M: Machine>(
 ) -> Result<(M::Out, M::State), AllocError> {
     let mut state = machine.init(alloc)?;
     machine.apply(alloc, &mut state, cmd)?;
-    let again = machine.copy_cmd(alloc, cmd)?;
-    let out = machine.apply(alloc, &mut state, &again)?;
-    Ok((machine.copy_out(alloc, &out)?, state))
+    let out = answer(alloc, machine, &mut state, cmd)?;
+    Ok((out, state))
 }
 
 #[test]
 fn a_machine_answers_from_the_state_before(rt: HostRuntime) -> Result<(), Fail> {
-    assert_eq!(rt; twice(rt.alloc(), &Counter, &3)?, (3, 6));
+    assert!(rt; twice(rt.alloc(), &Counter, &3)? == (3, 6));
     Ok(())
 }
 
@@ -79,9 +79,8 @@ fn finds<K: Eq + Hash + Drop>(alloc: Global, held: K, sought: &K) -> Result<bool
 
 // Whether a set that holds the key of one text has the key of another.
 fn finds_key(alloc: Global, held: &[u8], sought: &[u8]) -> Result<bool, Fail> {
-    let sought = Key::new(alloc, sought)?.ok_or("a key")?;
-    let held = Key::new(alloc, held)?.ok_or("a key")?;
-    finds(alloc, held, &sought)
+    let sought: Key = token(alloc, sought)?;
+    finds(alloc, token(alloc, held)?, &sought)
 }
 
 #[test]
