@@ -61,17 +61,17 @@ pub fn y_of(row: u16) -> u32
     TOP + 20 + u32::from(row) * ROW
 }
 
-/// Where a text of so many characters stands beside a mark: behind it, where there is room, or else on the side that has more.
+/// Where a text of so many characters stands beside a mark: after it, where there is room, or else on the side that has more.
 pub fn place_beside(x: u32, chars: usize) -> Beside
     requires { x ≤ 8000000 }
 {
-    let behind = TEXT_RIGHT.saturating_sub(x + GAP) * 10 / TEN_WIDE;
+    let after = TEXT_RIGHT.saturating_sub(x + GAP) * 10 / TEN_WIDE;
     let before = x.saturating_sub(TEXT_LEFT + GAP) * 10 / TEN_WIDE;
-    if chars as u64 <= u64::from(behind) || before <= behind {
+    if chars as u64 <= u64::from(after) || before <= after {
         Beside {
             x: x + GAP,
             ends: false,
-            most: behind,
+            most: after,
         }
     } else {
         Beside {

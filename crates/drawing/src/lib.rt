@@ -13,4 +13,4 @@ mod words;
 pub use escaping::push_escaped;
 pub use examples::worked;
 pub use parts::{Arrow, Bar, BarKind, Mark, Picture, Row, Spot};
-pub use picture::svg_of;
+pub use picture::{MOST_ROWS, svg_of};

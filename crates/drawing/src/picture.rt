@@ -4,8 +4,8 @@ use crate::words::push_words;
 use crate::{Arrow, Bar, BarKind, Mark, Picture, Row};
 use std::alloc::{AllocError, Global};
 
-// How many rows a picture has at most, so that their places fit.
-const MOST_ROWS: usize = 60_000;
+/// How many rows are drawn at most, so that their places fit.
+pub const MOST_ROWS: usize = 60_000;
 
 // How long a label is at most.
 const LABEL: u32 = 14;
@@ -152,10 +152,12 @@ fn push_undrawn(out: &mut Vec<u8>, undrawn: u64, y: u32) -> Result<(), AllocErro
     push_text(out, "text", (42, y), &more, TITLE)
 }
 
-/// The text of a picture, in SVG.
+/// The text of a picture, in SVG. Of more than `MOST_ROWS` rows the first so many are drawn, and the others count as steps that are not
+/// drawn. A bar or the way of a packet that leads past them is not cut off.
 pub fn svg_of(alloc: Global, picture: &Picture) -> Result<Vec<u8>, AllocError> {
     let mut out = Vec::new(alloc);
-    let rows = picture.rows.len().min(MOST_ROWS) as u16;
+    let (drawn, past) = picture.rows.split_at(picture.rows.len().min(MOST_ROWS));
+    let rows = drawn.len() as u16;
     let bottom = y_of(rows);
     push_head(&mut out, WIDTH, bottom + 30)?;
     push_text(
@@ -166,8 +168,9 @@ pub fn svg_of(alloc: Global, picture: &Picture) -> Result<Vec<u8>, AllocError> {
         TITLE,
     )?;
     push_ground(&mut out, picture, rows)?;
-    push_rows(&mut out, picture.nodes, &picture.rows)?;
-    push_undrawn(&mut out, picture.undrawn, bottom + 16)?;
+    push_rows(&mut out, picture.nodes, drawn)?;
+    let undrawn = picture.undrawn.saturating_add(past.len() as u64);
+    push_undrawn(&mut out, undrawn, bottom + 16)?;
     push(&mut out, "</svg>\n")?;
     Ok(out)
 }
