@@ -4,7 +4,7 @@ use crate::lives::Life;
 use crate::words::{push_comma, push_numbered};
 use crate::{Sent, Told};
 use app_text::AppText;
-use drawing::{Arrow, Mark, Picture, Row, Spot};
+use drawing::{Arrow, MOST_ROWS, Mark, Picture, Row, Spot};
 use std::alloc::{AllocError, Global};
 use vst_base::{Item, Node};
 
@@ -55,7 +55,7 @@ impl Gathered {
 
     /// The row that is drawn next.
     pub(crate) fn row(&self) -> u16 {
-        self.picture.rows.len().min(60_000) as u16
+        self.picture.rows.len().min(MOST_ROWS) as u16
     }
 
     /// A step at a node, where no packet comes.

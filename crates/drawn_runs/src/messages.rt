@@ -1,5 +1,5 @@
 use crate::Says;
-use crate::says::say_number;
+use crate::words::push_number;
 use raft_types::{Append, Appended, RaftMsg, RequestVote, Vote};
 use std::alloc::AllocError;
 use vst_base::{Entry, What};
@@ -7,7 +7,7 @@ use vst_base::{Entry, What};
 // Adds the term of a message.
 fn say_term(out: &mut Vec<u8>, term: u64) -> Result<(), AllocError> {
     out.extend_from_slice(b" (term ")?;
-    say_number(out, term)?;
+    push_number(out, term)?;
     out.extend_from_slice(b")")
 }
 
@@ -53,15 +53,15 @@ impl<C: Says> Says for Append<C> {
             out.extend_from_slice(b"heartbeat")?;
         } else {
             out.extend_from_slice(b"log ")?;
-            say_number(out, before + 1)?;
+            push_number(out, before + 1)?;
             if count > 1 {
                 out.extend_from_slice(b"-")?;
-                say_number(out, before + count)?;
+                push_number(out, before + count)?;
             }
             say_entries(out, self.entries())?;
         }
         out.extend_from_slice(b" (commit ")?;
-        say_number(out, u64::from(self.commit()))?;
+        push_number(out, u64::from(self.commit()))?;
         out.extend_from_slice(b")")
     }
 }
@@ -73,7 +73,7 @@ impl Says for Appended {
         } else {
             b"lacks entry "
         })?;
-        say_number(out, u64::from(self.index()))
+        push_number(out, u64::from(self.index()))
     }
 }
 

@@ -1,3 +1,4 @@
+use crate::words::push_number;
 use app_text::{AppText, KvText, TableText};
 use kv_machine::KvCmd;
 use lock_table::TableCmd;
@@ -8,12 +9,6 @@ use vst_base::{LockMsg, PbMsg, SeqMsg};
 pub trait Says {
     /// Adds the words at the end.
     fn say(&self, out: &mut Vec<u8>) -> Result<(), AllocError>;
-}
-
-// Adds a number.
-pub(crate) fn say_number(out: &mut Vec<u8>, number: u64) -> Result<(), AllocError> {
-    let alloc = *out.allocator();
-    out.extend_from_slice(number.to_string(alloc)?.as_bytes())
 }
 
 // A machine alone sends nothing.
@@ -37,7 +32,7 @@ impl<M: Says> Says for SeqMsg<M> {
     fn say(&self, out: &mut Vec<u8>) -> Result<(), AllocError> {
         self.inner.say(out)?;
         out.extend_from_slice(b" #")?;
-        say_number(out, self.number)
+        push_number(out, self.number)
     }
 }
 
