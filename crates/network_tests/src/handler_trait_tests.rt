@@ -1,9 +1,34 @@
-ghost use Rattle.std.specs.Prelude.{◌≡◌, ◌<◌, IfOk};
+ghost use Rattle.std.specs.Prelude.{◌≡◌, ◌+◌, ◌<◌, ◌≤◌, IfOk, OnOk};
+ghost use Rattle.handler_trait.specs.declared.handlers.TheConstants.{STEP_COST, SPENT_MAX};
 
+use crate::events::are;
 use handler_trait::{Echo, Effects, Handlers, MAX_SENDS, Rebootable};
 use std::alloc::{AllocError, Global};
 use std::test::Fail;
 use vst_base::Node;
+
+// Adds what an input does at a node, where it takes any.
+fn add_input<H: Handlers>(
+    alloc: Global,
+    handlers: &H,
+    node: Node,
+    state: &mut H::State,
+    input: &H::Input,
+    effects: &mut Effects<H::Output, H::Msg>,
+) -> Result<(), AllocError>
+    requires node { node < (H.meaning handlers.now).nodes }
+    requires sound { H.sound handlers.now node state.old }
+    requires budget { H.spent handlers.now state.old + STEP_COST ≤ SPENT_MAX }
+    ensures sound { OnOk result (H.sound handlers.now node state.new) }
+    ensures spent { OnOk result (H.spent handlers.now state.new ≤ H.spent handlers.now state.old + STEP_COST) }
+{
+    if !handlers.takes_input(node) {
+        return Ok(());
+    }
+    effects.reserve(0, MAX_SENDS)?;
+    let same = handlers.copy_input(alloc, input)?;
+    handlers.input(alloc, node, state, &same, effects)
+}
 
 // What the node's first events leave: an input where it takes any, a packet from itself and its timer.
 fn first_events<H: Handlers>(
@@ -17,11 +42,7 @@ fn first_events<H: Handlers>(
 {
     let mut state = handlers.init(alloc, node)?;
     let mut effects = Effects::new(alloc);
-    if handlers.takes_input(node) {
-        effects.reserve(0, MAX_SENDS)?;
-        let same = handlers.copy_input(alloc, input)?;
-        handlers.input(alloc, node, &mut state, &same, &mut effects)?;
-    }
+    add_input(alloc, handlers, node, &mut state, input, &mut effects)?;
     effects.reserve(1, MAX_SENDS)?;
     handlers.message(alloc, node, &mut state, node, message, &mut effects)?;
     effects.reserve(0, MAX_SENDS)?;
@@ -29,38 +50,36 @@ fn first_events<H: Handlers>(
     Ok((state, effects))
 }
 
-// Whether the first events of the node with this number leave this state, these outputs and these packets to send.
-fn gathers(
-    alloc: Global,
-    number: u8,
-    left: u16,
-    outputs: &[u8],
-    sends: &[(Node, u8)],
-) -> Result<bool, Fail> {
-    let echo = Echo::new(3);
-    let node = Node::new(number, echo.nodes()).ok_or("no such node")?;
-    let (state, effects) = first_events(alloc, &echo, node, &7, &5)?;
-    let seen = effects.outputs() == outputs && effects.sends() == sends;
-    let (mut given, mut sent) = effects.into_parts();
-    let last = (given.pop(), sent.pop());
-    let mut effects = Effects::from_parts(given, sent);
-    let first = (effects.next_output(), effects.next_send());
-    let ends = (outputs.last().copied(), sends.last().copied());
-    let begins = (
-        outputs.first().copied(),
-        sends
-            .split_last()
-            .and_then(|(_, front)| front.first().copied()),
-    );
-    Ok(state == left && seen && last == ends && first == begins)
+type Taken = (Option<u8>, Option<(Node, u8)>);
+
+// The last output and packet of these effects, and the first of those that are left.
+fn last_and_first(effects: Effects<u8, u8>) -> (Taken, Taken) {
+    let (mut outputs, mut sends) = effects.into_parts();
+    let last = (outputs.pop(), sends.pop());
+    let mut left = Effects::from_parts(outputs, sends);
+    (last, (left.next_output(), left.next_send()))
 }
 
 #[test]
 fn events_gather_their_effects(rt: HostRuntime) -> Result<(), Fail> {
+    let echo = Echo::new(3);
+    let first = Node::new(0, 2).unwrap();
+    let (state, effects) = first_events(rt.alloc(), &echo, first, &7, &5)?;
+    assert!(rt; state == 40 && are(&effects, &[5, 40], &[(first, 9)]));
+    let ends = ((Some(40), Some((first, 9))), (Some(5), None));
+    assert!(rt; last_and_first(effects) == ends);
+    Ok(())
+}
+
+#[test]
+fn an_input_comes_before_the_other_events(rt: HostRuntime) -> Result<(), Fail> {
+    let echo = Echo::new(3);
     let first = Node::new(0, 2).unwrap();
     let second = Node::new(1, 2).unwrap();
-    assert!(rt; gathers(rt.alloc(), 0, 40, &[5, 40], &[(first, 9)])?);
-    assert!(rt; gathers(rt.alloc(), 1, 105, &[7, 5, 40], &[(first, 7), (second, 9)])?);
+    let (state, effects) = first_events(rt.alloc(), &echo, second, &7, &5)?;
+    assert!(rt; state == 105 && are(&effects, &[7, 5, 40], &[(first, 7), (second, 9)]));
+    let ends = ((Some(40), Some((second, 9))), (Some(7), Some((first, 7))));
+    assert!(rt; last_and_first(effects) == ends);
     Ok(())
 }
 

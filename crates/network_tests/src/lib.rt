@@ -3,6 +3,10 @@
 #![tactic(auto)]
 
 #[cfg(test)]
+mod counts;
+#[cfg(test)]
+mod events;
+#[cfg(test)]
 mod handler_trait_tests;
 #[cfg(test)]
 mod lock_server_tests;

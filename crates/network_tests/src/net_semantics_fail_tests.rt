@@ -30,6 +30,27 @@ fn after<H: Rebootable>(
     Ok((world, held))
 }
 
+// What a world tells: how many packets were sent, how many copies of the first are in flight, whether that one was sent, how many steps
+// were taken, and how many items clients saw.
+fn counts<H: Rebootable>(world: &FailWorld<H>) -> (u32, u32, bool, u32, usize)
+    requires { IsSoundFailBy H.Rebootable world.now }
+{
+    (
+        world.sent(),
+        world.copies(0),
+        world.ends(0).is_some(),
+        world.taken(),
+        world.trace().items().len(),
+    )
+}
+
+// How many nodes a world has, and how many items clients saw once its trace is forgotten.
+fn once_forgotten<H: Rebootable>(mut world: FailWorld<H>) -> (u8, usize) {
+    world.forget_trace();
+    let nodes = world.handlers().nodes();
+    (nodes, world.into_trace().items().len())
+}
+
 #[test]
 fn a_world_takes_steps_around_a_reboot(rt: HostRuntime) -> Result<(), Fail> {
     let steps = [
@@ -46,27 +67,33 @@ fn a_world_takes_steps_around_a_reboot(rt: HostRuntime) -> Result<(), Fail> {
     assert!(rt; held.as_slice() == [1, 1, 1, 1, 1, 2, 1, 1].as_slice());
     let first = Node::new(0, 2).unwrap();
     let second = Node::new(1, 2).unwrap();
-    assert!(rt; world.is_up(first));
-    assert!(rt; !world.is_up(second));
-    assert_eq!(rt; *world.state(first), 105);
-    assert_eq!(rt; world.sent(), 2);
-    assert_eq!(rt; world.copies(0), 0);
-    assert!(rt; world.ends(0).is_some());
-    assert_eq!(rt; world.taken(), 8);
-    assert_eq!(rt; world.trace().items().len(), 4);
+    assert!(rt; world.is_up(first) && !world.is_up(second));
+    assert!(rt; *world.state(first) == 105);
+    assert!(rt; counts(&world) == (2, 0, true, 8, 4));
     assert!(rt; world.step(&Step::Tick(1)) == Err(StepRefusal::NodeDown));
-    world.forget_trace();
-    assert_eq!(rt; world.handlers().nodes(), 3);
-    assert_eq!(rt; world.into_trace().items().len(), 0);
+    assert!(rt; once_forgotten(world) == (3, 0));
     Ok(())
+}
+
+// Whether one of these steps is refused for this.
+fn is_refused<H: Rebootable>(
+    alloc: Global,
+    handlers: H,
+    steps: &[Step<H::Input>],
+    why: StepRefusal,
+) -> bool
+    requires { length steps.now < MAX_STEPS }
+{
+    match after(alloc, handlers, steps) {
+        Ok(_) => false,
+        Err(told) => told == why,
+    }
 }
 
 #[test]
 fn a_stopped_node_cannot_stop_and_a_running_one_cannot_start(rt: HostRuntime) {
-    let twice: [Step<u8>; 2] = [Step::Crash(0), Step::Crash(0)];
-    let stopped = after(rt.alloc(), Echo::new(3), &twice).err();
-    assert!(rt; stopped == Some(StepRefusal::NodeDown));
-    let at_once: [Step<u8>; 1] = [Step::Reboot(0)];
-    let started = after(rt.alloc(), Echo::new(3), &at_once).err();
-    assert!(rt; started == Some(StepRefusal::NodeUp));
+    let twice = [Step::Crash(0), Step::Crash(0)];
+    assert!(rt; is_refused(rt.alloc(), Echo::new(3), &twice, StepRefusal::NodeDown));
+    let at_once = [Step::Reboot(0)];
+    assert!(rt; is_refused(rt.alloc(), Echo::new(3), &at_once, StepRefusal::NodeUp));
 }

@@ -35,6 +35,27 @@ pub(crate) fn after<H: Handlers>(
     Ok((world, held))
 }
 
+// What a world tells: how many packets were sent, how many copies of the first are in flight, whether that one was sent, how many steps
+// were taken, and how many items clients saw.
+fn counts<H: Handlers>(world: &World<H>) -> (u32, u32, bool, u32, usize)
+    requires { IsSoundBy H.Handlers world.now }
+{
+    (
+        world.sent(),
+        world.copies(0),
+        world.ends(0).is_some(),
+        world.taken(),
+        world.trace().items().len(),
+    )
+}
+
+// How many nodes a world has, and how many items clients saw once its trace is forgotten.
+fn once_forgotten<H: Handlers>(mut world: World<H>) -> (u8, usize) {
+    world.forget_trace();
+    let nodes = world.handlers().nodes();
+    (nodes, world.into_trace().items().len())
+}
+
 #[test]
 fn a_world_takes_its_steps(rt: HostRuntime) -> Result<(), Fail> {
     let steps = [
@@ -47,32 +68,43 @@ fn a_world_takes_its_steps(rt: HostRuntime) -> Result<(), Fail> {
     let (mut world, held) = after(rt.alloc(), Echo::new(2), Net::Dup, &steps)?;
     assert!(rt; held.as_slice() == [1, 1, 1, 2, 1].as_slice());
     let second = Node::new(1, 2).unwrap();
-    assert_eq!(rt; *world.state(second), 40);
-    assert!(rt; world.is_up(second));
-    assert_eq!(rt; world.sent(), 2);
-    assert_eq!(rt; world.copies(0), 0);
-    assert!(rt; world.ends(0).is_some());
-    assert_eq!(rt; world.taken(), 5);
-    assert_eq!(rt; world.trace().items().len(), 5);
+    assert!(rt; *world.state(second) == 40 && world.is_up(second));
+    assert!(rt; counts(&world) == (2, 0, true, 5, 5));
     assert!(rt; world.step(&Step::Deliver(0)) == Err(StepRefusal::NoCopy));
-    world.forget_trace();
-    assert_eq!(rt; world.handlers().nodes(), 2);
-    assert_eq!(rt; world.into_trace().items().len(), 0);
+    assert!(rt; once_forgotten(world) == (2, 0));
     Ok(())
+}
+
+// Whether so many packets had a copy in flight after each of these steps.
+fn holds<H: Handlers>(
+    alloc: Global,
+    handlers: H,
+    net: Net,
+    steps: &[Step<H::Input>],
+    wanted: &[u32],
+) -> Result<bool, StepRefusal>
+    requires net { (net ≡ Net.Bag) ⊎ (net ≡ Net.Dup) }
+    requires few { length steps.now < MAX_STEPS }
+{
+    let (_, held) = after(alloc, handlers, net, steps)?;
+    Ok(held.as_slice() == wanted)
 }
 
 #[test]
 fn packets_are_held_until_their_last_copy(rt: HostRuntime) -> Result<(), Fail> {
-    let echoes = [
+    let steps = [
         Step::In(1, 5),
         Step::Tick(0),
         Step::Deliver(1),
         Step::Deliver(0),
     ];
-    let (_, held) = after(rt.alloc(), Echo::new(2), Net::Bag, &echoes)?;
-    assert!(rt; held.as_slice() == [1, 2, 1, 0].as_slice());
+    assert!(rt; holds(rt.alloc(), Echo::new(2), Net::Bag, &steps, &[1, 2, 1, 0])?);
+    Ok(())
+}
 
-    let locks = [
+#[test]
+fn a_numbered_packet_is_held_until_its_last_copy(rt: HostRuntime) -> Result<(), Fail> {
+    let steps = [
         Step::In(1, LockInput::Lock),
         Step::In(2, LockInput::Lock),
         Step::Dup(0),
@@ -81,7 +113,6 @@ fn packets_are_held_until_their_last_copy(rt: HostRuntime) -> Result<(), Fail> {
         Step::Deliver(0),
     ];
     let numbered = SeqNum::new(LockServer::new(3));
-    let (_, held) = after(rt.alloc(), numbered, Net::Dup, &locks)?;
-    assert!(rt; held.as_slice() == [1, 2, 2, 3, 2, 1].as_slice());
+    assert!(rt; holds(rt.alloc(), numbered, Net::Dup, &steps, &[1, 2, 2, 3, 2, 1])?);
     Ok(())
 }

@@ -14,6 +14,6 @@ fn repeats_are_left_out(rt: HostRuntime) -> Result<(), Fail> {
     ];
     let left = once(rt.alloc(), &Echo::new(2), &steps)?;
     let wanted = [Step::In(1, 5), Step::Deliver(0), Step::Tick(1)];
-    assert_eq!(rt; left.as_slice(), wanted.as_slice());
+    assert!(rt; left.as_slice() == wanted.as_slice());
     Ok(())
 }

@@ -1,9 +1,10 @@
+use crate::counts::{Counts, tells};
 use net_semantics::Trace;
 use raft_types::{RaftInput, RaftOut};
 use std::alloc::Global;
 use std::test::Fail;
 use vst_base::{ClientId, Counter, Item, Node, PbOut, ReqId, Step};
-use xform_stack::{Explores, RunningCluster, Runs, run_backed, run_backed_dup, run_fail, run_one};
+use xform_stack::{RunningCluster, run_backed, run_backed_dup, run_fail, run_one};
 
 // Two commands at the primary, of which the first is answered, and one at the backup.
 fn is_seen(trace: &Trace<u8, PbOut<u8>>) -> bool {
@@ -132,19 +133,27 @@ fn the_order_has_what_was_executed(rt: HostRuntime) -> Result<(), Fail> {
     Ok(())
 }
 
-// Node 0 of three stood for election. Its second packet is lost, the first is there twice, and node 1 is down.
+// What is told after node 0 of three stood for election.
+fn told(copies: [u32; 3], is_up: bool) -> Counts {
+    Counts {
+        sent: 2,
+        copies,
+        ends: [Some((0, 1)), Some((0, 2))],
+        is_up,
+    }
+}
+
+// Node 0's first packet is there twice, the second is lost, and then node 1 is down.
 #[test]
 fn what_a_failing_network_holds_is_counted(rt: HostRuntime) -> Result<(), Fail> {
-    let mut running = RunningCluster::new(rt.alloc(), Counter, 3)?;
-    let node = Node::new(1, 3).ok_or("a node")?;
-    assert!(rt; running.sent() == 0 && running.is_up(node) && running.ends(0).is_none());
-    running.step(&Step::Tick(0))?;
-    running.step(&Step::Dup(0))?;
-    running.step(&Step::Lose(1))?;
-    running.step(&Step::Crash(1))?;
-    let ends = running.ends(1).map(|(from, to)| (from.index(), to.index()));
-    assert!(rt; running.sent() == 2 && ends == Some((0, 2)));
-    assert!(rt; running.copies(0) == 2 && running.copies(1) == 0 && running.copies(2) == 0);
-    assert!(rt; !running.is_up(node));
+    let running = RunningCluster::new(rt.alloc(), Counter, 3)?;
+    let node = Node::new(1, 3).unwrap();
+    let steps = [
+        (Step::Tick(0), told([1, 1, 0], true)),
+        (Step::Dup(0), told([2, 1, 0], true)),
+        (Step::Lose(1), told([2, 0, 0], true)),
+        (Step::Crash(1), told([2, 0, 0], false)),
+    ];
+    assert!(rt; tells(running, node, &steps)?);
     Ok(())
 }

@@ -1,8 +1,12 @@
+ghost use Rattle.std.specs.Prelude.{◌+◌, ◌≤◌};
+ghost use Rattle.vst_base.specs.declared.step.TheConstants.{MAX_STEPS};
+
+use crate::counts::{Counts, tells};
 use lock_server::LockServer;
 use net_semantics::Trace;
 use std::test::Fail;
 use vst_base::{Item, LockInput, LockOutput, Net, Node, Step, StepRefusal};
-use xform_stack::{Explores, Itself, RunFault, Running, Runs, TraceMap, run_bag, run_dup};
+use xform_stack::{Itself, RunFault, Running, Runs, run_bag, run_dup};
 
 // Client 1 asked for the lock and got it.
 fn is_locked(trace: &Trace<LockInput, LockOutput>) -> bool {
@@ -31,14 +35,27 @@ fn is_only_told(trace: &Trace<LockInput, LockOutput>) -> bool {
     trace.items() == seen.as_slice()
 }
 
+// Takes a step, clears what clients saw of it, and takes two more.
+fn forgets_the_first<R: Runs>(
+    running: &mut R,
+    first: &Step<R::Input>,
+    others: (&Step<R::Input>, &Step<R::Input>),
+) -> Result<(), RunFault>
+    requires sound { R.sound running.old }
+    requires few { (R.progress running.old).taken + 3 ≤ MAX_STEPS }
+{
+    running.step(first)?;
+    running.forget_trace();
+    running.step(others.0)?;
+    running.step(others.1)
+}
+
 #[test]
 fn a_forgotten_trace_begins_anew(rt: HostRuntime) -> Result<(), Fail> {
     let server = LockServer::new(2);
     let mut running = Running::<LockServer, Itself<LockInput>>::new(rt.alloc(), server, Net::Bag)?;
-    running.step(&Step::In(1, LockInput::Lock))?;
-    running.forget_trace();
-    running.step(&Step::Deliver(0))?;
-    running.step(&Step::Deliver(1))?;
+    let others = (&Step::Deliver(0), &Step::Deliver(1));
+    forgets_the_first(&mut running, &Step::In(1, LockInput::Lock), others)?;
     assert!(rt; is_only_told(running.trace()));
     assert!(rt; hands_over(running.image()));
     Ok(())
@@ -80,26 +97,30 @@ fn a_refused_step_is_named_with_its_place(rt: HostRuntime) {
     assert!(rt; on_bag == Some(RunFault::Step(StepRefusal::NotThisNet, 1)));
 }
 
-// What the world of a running schedule says of a packet: how many copies are in flight, and its ends.
-fn says_of<T: TraceMap<LockServer>>(
-    running: &Running<LockServer, T>,
-    k: u32,
-) -> (u32, Option<(u8, u8)>) {
-    let ends = running.ends(k).map(|(from, to)| (from.index(), to.index()));
-    (running.copies(k), ends)
+// What is told while client 1 is up.
+fn told(sent: u32, copies: [u32; 3], ends: [Option<(u8, u8)>; 2]) -> Counts {
+    Counts {
+        sent,
+        copies,
+        ends,
+        is_up: true,
+    }
 }
 
 #[test]
 fn the_packets_in_flight_are_counted(rt: HostRuntime) -> Result<(), Fail> {
     let server = LockServer::new(2);
-    let mut running = Running::<LockServer, Itself<LockInput>>::new(rt.alloc(), server, Net::Dup)?;
-    assert!(rt; says_of(&running, 0) == (0, None) && running.sent() == 0);
-    running.step(&Step::In(1, LockInput::Lock))?;
-    running.step(&Step::Dup(0))?;
-    assert!(rt; says_of(&running, 0) == (2, Some((1, 0))) && running.sent() == 1);
-    running.step(&Step::Deliver(0))?;
-    assert!(rt; says_of(&running, 0) == (1, Some((1, 0))) && running.sent() == 2);
-    assert!(rt; says_of(&running, 1) == (1, Some((0, 1))));
-    assert!(rt; running.is_up(Node::new(1, 2).ok_or("a node")?));
+    let running = Running::<LockServer, Itself<LockInput>>::new(rt.alloc(), server, Net::Dup)?;
+    let client = Node::new(1, 2).unwrap();
+    let (asks, answer) = (Some((1, 0)), Some((0, 1)));
+    let steps = [
+        (
+            Step::In(1, LockInput::Lock),
+            told(1, [1, 0, 0], [asks, None]),
+        ),
+        (Step::Dup(0), told(1, [2, 0, 0], [asks, None])),
+        (Step::Deliver(0), told(2, [1, 1, 0], [asks, answer])),
+    ];
+    assert!(rt; tells(running, client, &steps)?);
     Ok(())
 }
