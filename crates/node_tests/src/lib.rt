@@ -3,6 +3,8 @@
 #![tactic(auto)]
 
 #[cfg(test)]
+mod devices;
+#[cfg(test)]
 mod node_body_tests;
 #[cfg(test)]
 mod node_config_tests;

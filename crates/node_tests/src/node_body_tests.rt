@@ -1,15 +1,18 @@
-use crate::slot_bytes::{FRESH, NAME, OLD_FIRST, OLD_VOTED, VOTED, VOTED_IN_A_RECORD, WHO};
+use crate::slot_bytes::{
+    FRESH, NAME, OLD_FIRST, OLD_VOTED, VOTED, VOTED_IN_A_RECORD, WHO, old_first_and,
+};
 use kv_machine::KvCmd;
 use lock_table::TableCmd;
-use node_body::{Version, Who, Why, find_slot, make_base, put_body, put_record, take_body};
+use node_body::{
+    Commands, Version, Who, Why, find_slot, make_base, put_body, put_record, take_body,
+};
 use raft_types::{Entries, Kept};
-use std::alloc::Global;
-use std::process::Abort;
+use std::alloc::{AllocError, Global};
 use std::test::Fail;
 use vst_base::{Node, StackId};
 
 // What a slot holds, as far as these rows differ.
-#[derive(Clone, Copy, Debug, PartialEq, Eq)]
+#[derive(Clone, Copy, PartialEq, Eq)]
 struct Seen {
     version: Version,
     term: u64,
@@ -18,7 +21,8 @@ struct Seen {
     hidden: usize,
 }
 
-fn found(alloc: Global, bytes: &[u8]) -> Result<Result<Seen, Why>, Fail> {
+// What node 0 finds in a slot.
+fn found(alloc: Global, bytes: &[u8]) -> Result<Result<Seen, Why>, AllocError> {
     match find_slot::<KvCmd, TableCmd>(alloc, &WHO, bytes)? {
         Ok(held) => Ok(Ok(Seen {
             version: held.version,
@@ -42,96 +46,124 @@ fn first(version: Version, left: u32, hidden: usize) -> Seen {
     }
 }
 
-fn voted(version: Version, left: u32, hidden: usize) -> Seen {
+fn voted(version: Version, left: u32) -> Seen {
     Seen {
         version,
         term: 1,
         voted: Node::new(1, 3),
         left,
-        hidden,
+        hidden: 0,
     }
 }
 
 #[test]
 fn slots_are_found(rt: HostRuntime) -> Result<(), Fail> {
-    let alloc = rt.alloc();
-    assert!(rt; found(alloc, &OLD_FIRST)? == Ok(first(Version::One, 0, 0)));
-    assert!(rt; found(alloc, &OLD_VOTED)? == Ok(voted(Version::One, 0, 0)));
-    assert!(rt; found(alloc, &FRESH)? == Ok(first(Version::Two, 1000, 0)));
-    assert!(rt; found(alloc, &VOTED)? == Ok(voted(Version::Two, 1000, 0)));
-    assert!(rt; found(alloc, &VOTED_IN_A_RECORD)? == Ok(voted(Version::Two, 999, 0)));
-    assert!(rt; found(alloc, &OLD_VOTED[..21])? == Err(Why::Slot));
-    let mut slot = Vec::new(alloc);
-    slot.extend_from_slice(&OLD_FIRST)?;
-    slot.push(1)?;
-    assert!(rt; found(alloc, &slot)? == Err(Why::Journal));
-    slot.truncate(22);
-    slot.extend_from_slice(&[2, 255, 255])?;
-    assert!(rt; found(alloc, &slot)? == Ok(first(Version::One, 1000, 2)));
+    for (bytes, wanted) in [
+        (OLD_FIRST.as_slice(), Ok(first(Version::One, 0, 0))),
+        (&OLD_VOTED, Ok(voted(Version::One, 0))),
+        (&FRESH, Ok(first(Version::Two, 1000, 0))),
+        (&VOTED, Ok(voted(Version::Two, 1000))),
+        (&VOTED_IN_A_RECORD, Ok(voted(Version::Two, 999))),
+        (&OLD_VOTED[..21], Err(Why::Slot)),
+    ] {
+        assert!(rt; found(rt.alloc(), bytes)? == wanted);
+    }
     Ok(())
 }
 
 #[test]
-fn another_name_is_told(rt: HostRuntime) -> Result<(), Fail> {
+fn an_open_gate_wants_a_record_and_a_closed_one_hides(rt: HostRuntime) -> Result<(), Fail> {
     let alloc = rt.alloc();
+    let open = old_first_and(alloc, &[1])?;
+    assert!(rt; found(alloc, &open)? == Err(Why::Journal));
+    let closed = old_first_and(alloc, &[2, 255, 255])?;
+    assert!(rt; found(alloc, &closed)? == Ok(first(Version::One, 1000, 2)));
+    Ok(())
+}
+
+// Whether a slot is refused for this to a node with commands of these kinds, its own and the others.
+fn is_refused<C: Commands, O: Commands>(
+    alloc: Global,
+    who: &Who,
+    bytes: &[u8],
+    why: Why,
+) -> Result<bool, AllocError> {
+    match find_slot::<C, O>(alloc, who, bytes)? {
+        Ok(_) => Ok(false),
+        Err(told) => Ok(told == why),
+    }
+}
+
+#[test]
+fn another_name_is_told(rt: HostRuntime) -> Result<(), Fail> {
     let configured = [0, 1, 2, 3, 4, 5, 6, 7, 8, 9, 10, 11, 12, 13, 14, 0];
     let who = Who {
         name: configured,
         ..WHO
     };
-    let answer = find_slot::<KvCmd, TableCmd>(alloc, &who, &VOTED)?;
     let why = Why::Name {
         kept: NAME,
         configured,
     };
-    assert!(rt; matches!(answer, Err(w) if w == why));
+    assert!(rt; is_refused::<KvCmd, TableCmd>(rt.alloc(), &who, &VOTED, why)?);
     Ok(())
 }
 
 #[test]
 fn another_stack_is_told(rt: HostRuntime) -> Result<(), Fail> {
-    let alloc = rt.alloc();
     let who = Who {
         stack: StackId::TableRaft,
         ..WHO
     };
-    let answer = find_slot::<TableCmd, KvCmd>(alloc, &who, &VOTED)?;
     let why = Why::Stack {
         kept: 5,
         configured: 7,
     };
-    assert!(rt; matches!(answer, Err(w) if w == why));
+    assert!(rt; is_refused::<TableCmd, KvCmd>(rt.alloc(), &who, &VOTED, why)?);
     Ok(())
 }
 
-// While the record is written, its gate is closed, and then any byte may stand there.
+// While the record is written, its gate is closed.
 #[test]
-fn a_torn_record_and_a_torn_gate(rt: HostRuntime) -> Result<(), Fail> {
-    let alloc = rt.alloc();
+fn a_torn_record_is_hidden(rt: HostRuntime) -> Result<(), Fail> {
     let mut slot = { VOTED_IN_A_RECORD };
     slot[38] = 0;
     for len in 39..=slot.len() {
-        assert!(rt; found(alloc, &slot[..len])? == Ok(first(Version::Two, 1000, len - 39)));
+        let wanted = first(Version::Two, 1000, len - 39);
+        assert!(rt; found(rt.alloc(), &slot[..len])? == Ok(wanted));
     }
+    Ok(())
+}
+
+// While a gate is written, any byte may stand there.
+#[test]
+fn a_torn_gate_is_open_or_closed(rt: HostRuntime) -> Result<(), Fail> {
+    let mut slot = { VOTED_IN_A_RECORD };
     for gate in 0..=255u8 {
         slot[38] = gate;
-        let state = if gate % 2 == 0 {
+        let wanted = if gate % 2 == 0 {
             first(Version::Two, 1000, 18)
         } else {
-            voted(Version::Two, 999, 0)
+            voted(Version::Two, 999)
         };
-        assert!(rt; found(alloc, &slot)? == Ok(state));
+        assert!(rt; found(rt.alloc(), &slot)? == Ok(wanted));
     }
     Ok(())
 }
 
 #[test]
-fn a_base_and_a_record_are_put(rt: HostRuntime) -> Result<(), Fail> {
+fn a_base_is_made(rt: HostRuntime) -> Result<(), Fail> {
     let alloc = rt.alloc();
     let kept = Kept::<KvCmd>::new(0, None, Entries::new(Vec::new(alloc)));
-    let mut slot = make_base(alloc, &WHO, &kept)?;
+    let slot = make_base(alloc, &WHO, &kept)?;
     assert!(rt; slot.as_slice() == FRESH.as_slice());
-    slot[38] = 1;
+    Ok(())
+}
+
+#[test]
+fn a_record_is_put_after_an_open_gate(rt: HostRuntime) -> Result<(), Fail> {
+    let mut slot = Vec::from_slice(rt.alloc(), &FRESH[..38])?;
+    slot.push(1)?;
     put_record::<KvCmd>(&mut slot, 1, Node::new(1, 3), 0, &[])?;
     slot.push(0)?;
     assert!(rt; slot.as_slice() == VOTED_IN_A_RECORD.as_slice());
@@ -139,21 +171,37 @@ fn a_base_and_a_record_are_put(rt: HostRuntime) -> Result<(), Fail> {
 }
 
 #[test]
-fn bodies_are_put_and_taken(rt: HostRuntime) -> Result<(), Fail> {
+fn a_body_is_put(rt: HostRuntime) -> Result<(), Fail> {
     let alloc = rt.alloc();
     let kept = Kept::<KvCmd>::new(1, Node::new(1, 3), Entries::new(Vec::new(alloc)));
     let mut bytes = Vec::new(alloc);
     put_body(&mut bytes, &WHO, &kept)?;
     assert!(rt; bytes.as_slice() == &VOTED[4..38]);
-    let (who, again) = take_body::<KvCmd>(alloc, &bytes)?.ok_or("no body")?;
+    Ok(())
+}
+
+#[test]
+fn a_body_is_taken(rt: HostRuntime) -> Result<(), Fail> {
+    let (who, kept) = take_body::<KvCmd>(rt.alloc(), &VOTED[4..38])?.ok_or("no body")?;
     assert!(rt; who == WHO);
-    assert!(rt; again.term() == 1 && again.voted() == Node::new(1, 3) && again.log().is_empty());
+    assert!(rt; kept.term() == 1 && kept.voted() == Node::new(1, 3) && kept.log().is_empty());
+    Ok(())
+}
+
+// Whether no body with these commands stands there.
+fn has_no_body<C: Commands>(alloc: Global, bytes: &[u8]) -> Result<bool, AllocError> {
+    Ok(take_body::<C>(alloc, bytes)?.is_none())
+}
+
+#[test]
+fn other_bodies_are_not_taken(rt: HostRuntime) -> Result<(), Fail> {
+    let alloc = rt.alloc();
     assert!(rt;
-        take_body::<TableCmd>(alloc, &bytes)?.is_none(),
+        has_no_body::<TableCmd>(alloc, &VOTED[4..38])?,
         "of the other stack"
     );
     assert!(rt;
-        take_body::<KvCmd>(alloc, &OLD_VOTED[4..])?.is_none(),
+        has_no_body::<KvCmd>(alloc, &OLD_VOTED[4..])?,
         "of version 1"
     );
     Ok(())

@@ -1,4 +1,4 @@
-use node_config::{ConfigFault, ConfigKey, read_config};
+use node_config::{Config, ConfigFault, ConfigKey, read_config};
 use outside::Address;
 use outside_mem::MemorySource;
 use std::alloc::Global;
@@ -26,65 +26,73 @@ fn refused(alloc: Global, text: Vec<u8>, me: u8) -> Result<Option<ConfigKey>, Fa
     }
 }
 
-#[test]
-fn a_configuration_keeps_its_order(rt: HostRuntime) -> Result<(), Fail> {
-    let alloc = rt.alloc();
+// The configuration of node 2 of a cluster of lock tables.
+fn table_config(alloc: Global) -> Result<Config, Fail> {
     let text = text_after(alloc, b"stack = \"table/raft\"\n")?;
     let mut source = MemorySource::new(text, 10, Vec::new(alloc));
-    let config = match read_config(alloc, &mut source, 2) {
-        Ok(config) => config,
-        Err(_) => return Err(Fail::from("not taken")),
-    };
-    assert_eq!(rt; config.stack, StackId::TableRaft);
-    assert_eq!(rt; config.me, 2);
-    assert_eq!(rt; config.peers.as_slice().len(), 3);
-    let clients = config.clients.as_slice();
-    let first = Address {
-        ip: [10, 0, 0, 9],
-        port: 1,
-    };
-    let second = Address {
-        ip: [10, 0, 0, 8],
-        port: 65_535,
-    };
-    assert!(rt; clients == [first, second].as_slice());
-    assert_eq!(rt; config.heartbeat_ms, 50);
-    assert_eq!(rt; config.election_ms, 300);
-    assert_eq!(rt; config.cluster[15], 15);
+    match read_config(alloc, &mut source, 2) {
+        Ok(config) => Ok(config),
+        Err(_) => Err(Fail::from("not taken")),
+    }
+}
+
+// The address of the network 10.0.0 with this last byte and port.
+fn at(last: u8, port: u16) -> Address {
+    Address {
+        ip: [10, 0, 0, last],
+        port,
+    }
+}
+
+#[test]
+fn a_configuration_keeps_its_order(rt: HostRuntime) -> Result<(), Fail> {
+    let config = table_config(rt.alloc())?;
+    assert!(rt; config.stack == StackId::TableRaft && config.me == 2);
+    assert!(rt; config.peers.as_slice().len() == 3);
+    assert!(rt; config.clients.as_slice() == [at(9, 1), at(8, 65_535)].as_slice());
+    assert!(rt; config.heartbeat_ms == 50 && config.election_ms == 300);
+    assert!(rt; config.cluster[15] == 15);
+    Ok(())
+}
+
+#[test]
+fn a_whole_configuration_is_taken_by_its_nodes(rt: HostRuntime) -> Result<(), Fail> {
+    let alloc = rt.alloc();
+    for (me, key) in [(2, None), (3, Some(ConfigKey::Me))] {
+        let text = text_after(alloc, b"stack = 'kv/raft'\n")?;
+        assert!(rt; refused(alloc, text, me)? == key);
+    }
     Ok(())
 }
 
 #[test]
 fn the_first_key_that_applies_is_named(rt: HostRuntime) -> Result<(), Fail> {
     let alloc = rt.alloc();
-    let whole = b"stack = 'kv/raft'\n";
-    assert_eq!(rt; refused(alloc, text_after(alloc, whole)?, 2)?, None);
-    assert_eq!(rt;
-        refused(alloc, text_after(alloc, whole)?, 3)?,
-        Some(ConfigKey::Me)
-    );
-    let rows: [(&[u8], ConfigKey); 6] = [
-        (b"", ConfigKey::Stack),
+    for (first, key) in [
+        (b"".as_slice(), ConfigKey::Stack),
         (b"stack = \"kv\"\n", ConfigKey::Stack),
         (b"stack = kv/raft\n", ConfigKey::Text),
         (b"stack = 'kv/raft'\nstack = 'kv/raft'\n", ConfigKey::Text),
         (b"stack = 'kv/raft'\nport = 1\n", ConfigKey::Unknown),
         (b"stack = 'kv/raft'\n[raft]\n", ConfigKey::Peers),
-    ];
-    for (first, key) in &rows {
-        assert_eq!(rt; refused(alloc, text_after(alloc, *first)?, 3)?, Some(*key));
+    ] {
+        assert!(rt; refused(alloc, text_after(alloc, first)?, 3)? == Some(key));
     }
     Ok(())
+}
+
+// A configuration of this size, which ends in empty lines.
+fn text_of(alloc: Global, size: usize) -> Result<Vec<u8>, Fail> {
+    let mut text = text_after(alloc, b"stack = \"kv/raft\"\n")?;
+    text.resize(size, b'\n')?;
+    Ok(text)
 }
 
 #[test]
 fn a_text_may_have_65_536_bytes(rt: HostRuntime) -> Result<(), Fail> {
     let alloc = rt.alloc();
     for (size, key) in [(65_536, None), (65_537, Some(ConfigKey::Text))] {
-        let mut text = text_after(alloc, b"stack = \"kv/raft\"\n")?;
-        let spaces = vec![in alloc; b'\n'; size - text.len().min(size)]?;
-        text.extend_from_slice(&spaces)?;
-        assert_eq!(rt; refused(alloc, text, 0)?, key);
+        assert!(rt; refused(alloc, text_of(alloc, size)?, 0)? == key);
     }
     Ok(())
 }
@@ -95,7 +103,7 @@ fn a_failed_read_is_told(rt: HostRuntime) -> Result<(), Fail> {
     let text = text_after(alloc, b"stack = \"kv/raft\"\n")?;
     let mut source = MemorySource::new(text, 10, vec![in alloc; 3]?);
     let fault = read_config(alloc, &mut source, 0).err();
-    assert_eq!(rt; fault, Some(ConfigFault::Read));
-    assert_eq!(rt; source.faults(), 1);
+    assert!(rt; fault == Some(ConfigFault::Read));
+    assert!(rt; source.faults() == 1);
     Ok(())
 }

@@ -1,43 +1,26 @@
 ghost use Rattle.std.specs.Prelude.{◌≡◌, true, IfOk};
 ghost use Rattle.node_device_mem.specs.MemoryDevices.{memory_begun};
 
+use crate::devices::{HERE, areas, begun};
 use node_device::{AreaRead, Device, Received, Shipped, Stored};
-use node_device_mem::{Areas, Arrival, Counts, MemoryDevice, MemoryDisk, SteadyDevice};
+use node_device_mem::{Arrival, Counts, MemoryDevice, MemoryDisk, SteadyDevice};
 use outside::{Address, Begun};
 use std::alloc::{AllocError, Global};
 use std::test::Fail;
-
-const HERE: Address = Address {
-    ip: [127, 0, 0, 1],
-    port: 7000,
-};
 
 const THERE: Address = Address {
     ip: [127, 0, 0, 1],
     port: 7001,
 };
 
-// Three areas, the first of which holds these bytes.
-fn areas(alloc: Global, slot0: &[u8]) -> Result<Areas, AllocError> {
-    Ok(Areas {
-        slot0: Vec::from_slice(alloc, slot0)?,
-        slot1: Vec::new(alloc),
-        selector: Vec::new(alloc),
-    })
-}
-
 // A device that has begun, whose slot 0 holds these bytes. Beginning is its first call, and those of these numbers fail.
-fn begun(alloc: Global, slot0: &[u8], failing: &[u64]) -> Result<MemoryDevice, AllocError>
+fn with_slot_0(alloc: Global, slot0: &[u8], failing: &[u64]) -> Result<MemoryDevice, AllocError>
     ensures { IfOk result (λ device. memory_begun device ≡ true) }
 {
-    let disk = MemoryDisk::new(alloc, areas(alloc, slot0)?);
-    let failing = Vec::from_slice(alloc, failing)?;
-    let mut device = MemoryDevice::new(alloc, disk, Vec::new(alloc), Vec::new(alloc), failing)?;
-    match device.begin(HERE, "state") {
-        Begun::Ready => Ok(device),
-        _ => Err(AllocError),
-    }
+    begun(alloc, areas(alloc, slot0, b"", b"")?, failing)
 }
+
+const ALL_DONE: (Stored, Stored, Stored) = (Stored::Done, Stored::Done, Stored::Done);
 
 // What a write of two bytes at the place 3 of slot 0, a cut to 4 and a sync come to.
 fn store<D: Device>(device: &mut D) -> (Stored, Stored, Stored)
@@ -69,11 +52,20 @@ fn receive_four<D: Device>(device: &mut D) -> (Received, [u8; 4])
     (received, room)
 }
 
+// What two sends of a byte come to.
+fn send_twice<D: Device>(device: &mut D) -> (Shipped, Shipped)
+    requires { D.begun device.old ≡ true }
+    ensures { D.begun device.new ≡ true }
+{
+    let first = device.send(THERE, b"c");
+    (first, device.send(THERE, b"c"))
+}
+
 // A device that has begun, with a datagram of five bytes, none and one of one byte to come, and two clock values.
 fn scripted(alloc: Global) -> Result<SteadyDevice, AllocError>
     ensures { IfOk result (λ device. device.begun ≡ true) }
 {
-    let disk = MemoryDisk::new(alloc, areas(alloc, b"")?);
+    let disk = MemoryDisk::new(alloc, areas(alloc, b"", b"", b"")?);
     let mut arrivals = Vec::new(alloc);
     let bytes = Vec::from_slice(alloc, b"hello")?;
     arrivals.push(Arrival::Datagram { from: THERE, bytes })?;
@@ -89,7 +81,7 @@ fn scripted(alloc: Global) -> Result<SteadyDevice, AllocError>
 
 // A device on whose slot 0 an earlier process left a write pending.
 fn left_pending(alloc: Global) -> Result<MemoryDevice, AllocError> {
-    let mut disk = MemoryDisk::new(alloc, areas(alloc, b"abc")?);
+    let mut disk = MemoryDisk::new(alloc, areas(alloc, b"abc", b"", b"")?);
     disk.write(alloc, 0, 1, b"x")?;
     let none = Vec::new(alloc);
     MemoryDevice::new(alloc, disk, none, Vec::new(alloc), Vec::new(alloc))
@@ -105,104 +97,88 @@ fn is_image(device: &MemoryDevice, acts: u64, word: u32, wanted: &[u8]) -> bool 
 
 #[test]
 fn an_area_is_written_cut_synced_and_read(rt: HostRuntime) -> Result<(), Fail> {
-    let mut device = begun(rt.alloc(), b"a", &[])?;
-    assert_eq!(rt;
-        store(&mut device),
-        (Stored::Done, Stored::Done, Stored::Done)
-    );
+    let mut device = with_slot_0(rt.alloc(), b"a", &[])?;
+    assert!(rt; store(&mut device) == ALL_DONE);
     assert!(rt; device.area(0) == b"a\0\0x".as_slice());
     assert!(rt; read_four(&mut device) == (AreaRead::Got(3), [0, 0, b'x', b'|']));
     assert!(rt; device.area(1).is_empty() && device.area(2).is_empty());
-    assert_eq!(rt; (device.calls(), device.acts()), (5, 4));
+    assert!(rt; device.calls() == 5 && device.acts() == 4);
     Ok(())
 }
 
 #[test]
 fn calls_fail_by_the_script(rt: HostRuntime) -> Result<(), Fail> {
-    let mut device = begun(rt.alloc(), b"ab", &[2, 4, 5, 6, 7])?;
-    assert_eq!(rt;
-        store(&mut device),
-        (Stored::Failed, Stored::Done, Stored::Failed)
-    );
+    let mut device = with_slot_0(rt.alloc(), b"ab", &[2, 4, 5, 6, 7])?;
+    assert!(rt; store(&mut device) == (Stored::Failed, Stored::Done, Stored::Failed));
     // the write that failed was done, and then cut
     assert!(rt; device.area(0) == b"ab\0x".as_slice());
     assert!(rt; is_image(&device, 4, 1, b"ab\0x") && is_image(&device, 2, 1, b"ab\0xy"));
     assert!(rt; read_four(&mut device) == (AreaRead::Failed, [b'|'; 4]));
     assert!(rt; receive_four(&mut device) == (Received::Failed, [b'|'; 4]));
-    assert_eq!(rt; device.send(THERE, b"c"), Shipped::Failed);
-    assert_eq!(rt; device.send(THERE, b"c"), Shipped::Sent);
+    assert!(rt; send_twice(&mut device) == (Shipped::Failed, Shipped::Sent));
     let counts = Counts {
         begin: 0,
         receive: 1,
         store: 3,
         send: 1,
     };
-    assert_eq!(rt; device.counts(), counts);
-    assert_eq!(rt; device.past().len(), 8);
+    assert!(rt; device.counts() == counts);
+    assert!(rt; device.past().len() == 8);
     Ok(())
 }
 
 #[test]
 fn a_device_may_fail_to_begin(rt: HostRuntime) -> Result<(), Fail> {
     let alloc = rt.alloc();
-    let disk = MemoryDisk::new(alloc, areas(alloc, b"")?);
+    let disk = MemoryDisk::new(alloc, areas(alloc, b"", b"", b"")?);
     let none = Vec::new(alloc);
     let mut device = MemoryDevice::new(alloc, disk, none, Vec::new(alloc), vec![in alloc; 1]?)?;
-    assert_eq!(rt; device.begin(HERE, "state"), Begun::Failed);
-    assert_eq!(rt; device.counts().begin, 1);
-    assert_eq!(rt; device.begin(HERE, "state"), Begun::Ready);
+    assert!(rt; device.begin(HERE, "state") == Begun::Failed);
+    assert!(rt; device.counts().begin == 1);
+    assert!(rt; device.begin(HERE, "state") == Begun::Ready);
     Ok(())
 }
 
 #[test]
 fn each_call_fails_after_so_many_acts(rt: HostRuntime) -> Result<(), Fail> {
-    let mut device = begun(rt.alloc(), b"", &[])?;
+    let mut device = with_slot_0(rt.alloc(), b"", &[])?;
     device.stop_after(3);
-    assert_eq!(rt; device.now(), 0);
-    assert_eq!(rt;
-        store(&mut device),
-        (Stored::Done, Stored::Failed, Stored::Failed)
-    );
+    assert!(rt; device.now() == 0);
+    assert!(rt; store(&mut device) == (Stored::Done, Stored::Failed, Stored::Failed));
     assert!(rt; receive_four(&mut device) == (Received::Failed, [b'|'; 4]));
-    assert_eq!(rt; device.now(), 0);
+    assert!(rt; device.now() == 0);
     Ok(())
+}
+
+// A datagram of so many bytes is received.
+fn datagram(len: usize) -> Received {
+    Received::Datagram { from: THERE, len }
 }
 
 #[test]
 fn datagrams_come_by_the_script(rt: HostRuntime) -> Result<(), Fail> {
     let mut device = scripted(rt.alloc())?;
-    let cut = Received::Datagram {
-        from: THERE,
-        len: 4,
-    };
-    assert!(rt; receive_four(&mut device) == (cut, *b"hell"));
-    assert!(rt; receive_four(&mut device) == (Received::Quiet, [b'|'; 4]));
-    let whole = Received::Datagram {
-        from: THERE,
-        len: 1,
-    };
-    assert!(rt; receive_four(&mut device) == (whole, *b"a|||"));
-    assert!(rt; receive_four(&mut device) == (Received::Quiet, [b'|'; 4]));
+    assert!(rt; receive_four(&mut device) == (datagram(4), *b"hell"));
+    assert!(rt; receive_four(&mut device) == (Received::Quiet, *b"||||"));
+    assert!(rt; receive_four(&mut device) == (datagram(1), *b"a|||"));
+    assert!(rt; receive_four(&mut device) == (Received::Quiet, *b"||||"));
     Ok(())
 }
 
 #[test]
 fn clock_values_come_by_the_script(rt: HostRuntime) -> Result<(), Fail> {
     let mut device = scripted(rt.alloc())?;
-    assert_eq!(rt; device.now(), 5);
-    assert_eq!(rt; device.now(), 9);
-    assert_eq!(rt; device.now(), 9);
+    assert!(rt; device.now() == 5);
+    assert!(rt; device.now() == 9);
+    assert!(rt; device.now() == 9);
     Ok(())
 }
 
 #[test]
 fn images_are_given_by_word(rt: HostRuntime) -> Result<(), Fail> {
-    let mut device = begun(rt.alloc(), b"ab", &[])?;
-    assert_eq!(rt; device.now(), 0);
-    assert_eq!(rt;
-        store(&mut device),
-        (Stored::Done, Stored::Done, Stored::Done)
-    );
+    let mut device = with_slot_0(rt.alloc(), b"ab", &[])?;
+    assert!(rt; device.now() == 0);
+    assert!(rt; store(&mut device) == ALL_DONE);
     // acts 2 to 5 are the clock value, the write, the cut and the sync
     for (acts, word, wanted) in [
         (2, 2, b"ab".as_slice()),

@@ -3,44 +3,37 @@ ghost use Rattle.node_device_mem.specs.MemoryDevices.{memory_begun};
 ghost use Rattle.node_state.specs.Answers.{store_in};
 ghost use Rattle.node_tests.specs.declared.slot_bytes.TheConstants.{WHO};
 
+use crate::devices::{areas, begun};
 use crate::silent::Silent;
-use crate::slot_bytes::{FRESH, NAME, OLD_FIRST, OLD_VOTED, VOTED, VOTED_IN_A_RECORD, WHO};
+use crate::slot_bytes::{
+    FRESH, NAME, OLD_FIRST, OLD_VOTED, VOTED, VOTED_IN_A_RECORD, WHO, old_first_and,
+};
 use kv_machine::KvCmd;
 use lock_table::TableCmd;
 use node_body::{Who, Why};
 use node_device::Device;
-use node_device_mem::{Areas, MemoryDevice, MemoryDisk};
+use node_device_mem::{Areas, MemoryDevice};
 use node_state::{OpenFault, Opened, Refusal, StateFault, open, save};
-use outside::{Address, Begun};
 use raft_types::{Entries, Kept};
 use std::alloc::{AllocError, Global};
 use std::test::Fail;
 use vst_base::{Entry, Node, What};
 
-const HERE: Address = Address {
-    ip: [127, 0, 0, 1],
-    port: 7000,
-};
-
 // What a call on a node's state came to, as far as these rows differ: the term and the number of entries of the state.
-#[derive(Clone, Copy, Debug, PartialEq, Eq)]
+#[derive(Clone, Copy, PartialEq, Eq)]
 enum Seen {
     Fresh,
     Held(u64, usize),
     Not(OpenFault),
 }
 
-fn areas(alloc: Global, slot0: &[u8], slot1: &[u8], selector: &[u8]) -> Result<Areas, AllocError> {
-    Ok(Areas {
-        slot0: Vec::from_slice(alloc, slot0)?,
-        slot1: Vec::from_slice(alloc, slot1)?,
-        selector: Vec::from_slice(alloc, selector)?,
-    })
-}
+// The state before the vote, and the one after it.
+const OLD: Seen = Seen::Held(0, 0);
 
-// A device with these areas that has begun, which is its first call and its first act. Calls of these numbers fail, and all after so
-// many acts.
-fn begun(
+const NEW: Seen = Seen::Held(1, 0);
+
+// A device that tells nothing, over areas that hold this. Calls of these numbers fail, and all after so many acts.
+fn silent(
     alloc: Global,
     areas: Areas,
     failing: &[u64],
@@ -48,16 +41,21 @@ fn begun(
 ) -> Result<Silent<MemoryDevice>, AllocError>
     ensures { IfOk result (λ device. memory_begun device.device ≡ true) }
 {
-    let disk = MemoryDisk::new(alloc, areas);
-    let failing = Vec::from_slice(alloc, failing)?;
-    let mut device = MemoryDevice::new(alloc, disk, Vec::new(alloc), Vec::new(alloc), failing)?;
-    match device.begin(HERE, "state") {
-        Begun::Ready => {
-            device.stop_after(stop);
-            Ok(Silent { device })
-        }
-        _ => Err(AllocError),
-    }
+    let mut device = begun(alloc, areas, failing)?;
+    device.stop_after(stop);
+    Ok(Silent { device })
+}
+
+// Such a device where nothing fails.
+fn steady(
+    alloc: Global,
+    slot0: &[u8],
+    slot1: &[u8],
+    selector: &[u8],
+) -> Result<Silent<MemoryDevice>, AllocError>
+    ensures { IfOk result (λ device. memory_begun device.device ≡ true) }
+{
+    silent(alloc, areas(alloc, slot0, slot1, selector)?, &[], u64::MAX)
 }
 
 // Opens the areas of a device, for node 0 of three.
@@ -89,16 +87,16 @@ fn voted(alloc: Global, with_no_op: bool) -> Result<Kept<KvCmd>, AllocError>
 }
 
 // Saves a state after what was opened.
-fn saved(
+fn saved<D: Device>(
     alloc: Global,
-    device: &mut Silent<MemoryDevice>,
+    device: &mut Silent<D>,
     opened: Result<Opened<KvCmd>, OpenFault>,
     kept: &Kept<KvCmd>,
 ) -> Option<Result<(), StateFault>>
-    requires begun { memory_begun device.old.device ≡ true }
+    requires begun { D.begun device.old.device ≡ true }
     requires who { IfOk opened (λ opened. (store_in opened).who ≡ WHO) }
     requires voted { kept.now.voted ≡ Some 1 }
-    ensures { memory_begun device.new.device ≡ true }
+    ensures { D.begun device.new.device ≡ true }
 {
     match opened {
         Ok(Opened::Fresh(mut store)) => {
@@ -111,6 +109,21 @@ fn saved(
     }
 }
 
+// What the areas of a device open as, and what it comes to where the vote is saved after that.
+fn opened_and_saved<D: Device>(
+    alloc: Global,
+    device: &mut Silent<D>,
+    with_no_op: bool,
+) -> Result<(Seen, Option<Result<(), StateFault>>), AllocError>
+    requires { D.begun device.old.device ≡ true }
+    ensures { D.begun device.new.device ≡ true }
+{
+    let kept = voted(alloc, with_no_op)?;
+    let found = opened(alloc, device);
+    let seen = seen_of(&found);
+    Ok((seen, saved(alloc, device, found, &kept)))
+}
+
 // What the areas of a device read as.
 fn reads(device: &Silent<MemoryDevice>, slot0: &[u8], slot1: &[u8], selector: &[u8]) -> bool {
     device.device.area(0) == slot0
@@ -119,10 +132,24 @@ fn reads(device: &Silent<MemoryDevice>, slot0: &[u8], slot1: &[u8], selector: &[
 }
 
 // What the image of a word after so many acts opens as.
-fn left(alloc: Global, device: &Silent<MemoryDevice>, acts: u64, word: u32) -> Result<Seen, Fail> {
-    let image = device.device.image(acts, word)?;
-    let mut again = begun(alloc, image, &[], u64::MAX)?;
+fn left(alloc: Global, device: &MemoryDevice, acts: u64, word: u32) -> Result<Seen, AllocError> {
+    let mut again = silent(alloc, device.image(acts, word)?, &[], u64::MAX)?;
     Ok(seen_of(&opened(alloc, &mut again)))
+}
+
+// Whether the images of the words 0 to 3 after so many acts open as these states.
+fn leaves(
+    alloc: Global,
+    device: &MemoryDevice,
+    acts: u64,
+    wanted: [Seen; 4],
+) -> Result<bool, AllocError> {
+    for word in 0..4 {
+        if left(alloc, device, acts, word)? != wanted[word as usize] {
+            return Ok(false);
+        }
+    }
+    Ok(true)
 }
 
 // Slot 0 with so many records of the vote after the first state, and a closed gate.
@@ -136,81 +163,90 @@ fn with_records(alloc: Global, records: usize) -> Result<Vec<u8>, AllocError> {
 }
 
 #[test]
-fn empty_areas_are_opened_and_saved_in(rt: HostRuntime) -> Result<(), Fail> {
+fn empty_areas_are_opened(rt: HostRuntime) -> Result<(), Fail> {
+    let mut device = steady(rt.alloc(), b"", b"", b"")?;
+    assert!(rt; seen_of(&opened(rt.alloc(), &mut device)) == Seen::Fresh);
+    assert!(rt; reads(&device, &FRESH, &FRESH, &[0]) && device.device.acts() == 12);
+    Ok(())
+}
+
+#[test]
+fn empty_areas_are_saved_in_once(rt: HostRuntime) -> Result<(), Fail> {
     let alloc = rt.alloc();
-    let mut device = begun(alloc, areas(alloc, b"", b"", b"")?, &[], u64::MAX)?;
-    let found = opened(alloc, &mut device);
-    assert!(rt; seen_of(&found) == Seen::Fresh);
-    assert!(rt; reads(&device, &FRESH, &FRESH, &[0]));
-    assert_eq!(rt; device.device.acts(), 12);
-    assert!(rt; saved(alloc, &mut device, found, &voted(alloc, false)?) == Some(Ok(())));
-    assert!(rt; reads(&device, &VOTED_IN_A_RECORD, &FRESH, &[0]));
-    assert_eq!(rt; device.device.acts(), 16);
-    let again = opened(alloc, &mut device);
-    assert!(rt; seen_of(&again) == Seen::Held(1, 0));
-    assert!(rt; saved(alloc, &mut device, again, &voted(alloc, false)?) == Some(Ok(())));
-    assert_eq!(rt; device.device.acts(), 19, "what is held is not written");
+    let mut device = steady(alloc, b"", b"", b"")?;
+    assert!(rt; opened_and_saved(alloc, &mut device, false)? == (Seen::Fresh, Some(Ok(()))));
+    assert!(rt; reads(&device, &VOTED_IN_A_RECORD, &FRESH, &[0]) && device.device.acts() == 16);
+    assert!(rt; opened_and_saved(alloc, &mut device, false)? == (NEW, Some(Ok(()))));
+    assert!(rt; device.device.acts() == 19, "what is held is not written");
+    Ok(())
+}
+
+#[test]
+fn a_slot_of_version_1_is_written_anew(rt: HostRuntime) -> Result<(), Fail> {
+    let old = old_first_and(rt.alloc(), &[2, 255, 255])?;
+    let mut device = steady(rt.alloc(), &old, &OLD_FIRST, &[0])?;
+    assert!(rt; seen_of(&opened(rt.alloc(), &mut device)) == OLD);
+    assert!(rt; reads(&device, &old, &FRESH, &[1]));
     Ok(())
 }
 
 #[test]
 fn a_slot_of_version_1_is_saved_anew(rt: HostRuntime) -> Result<(), Fail> {
-    let alloc = rt.alloc();
-    let mut old = Vec::from_slice(alloc, &OLD_FIRST)?;
-    old.extend_from_slice(&[2, 255, 255])?;
-    let mut device = begun(alloc, areas(alloc, &old, &OLD_FIRST, &[0])?, &[], u64::MAX)?;
-    let found = opened(alloc, &mut device);
-    assert!(rt; seen_of(&found) == Seen::Held(0, 0));
-    assert!(rt; reads(&device, &old, &FRESH, &[1]));
-    assert!(rt; saved(alloc, &mut device, found, &voted(alloc, false)?) == Some(Ok(())));
+    let old = old_first_and(rt.alloc(), &[2, 255, 255])?;
+    let mut device = steady(rt.alloc(), &old, &OLD_FIRST, &[0])?;
+    assert!(rt; opened_and_saved(rt.alloc(), &mut device, false)? == (OLD, Some(Ok(()))));
     assert!(rt; reads(&device, &old, &VOTED_IN_A_RECORD, &[1]));
     Ok(())
 }
 
 #[test]
-fn a_journal_of_version_1_is_saved_anew(rt: HostRuntime) -> Result<(), Fail> {
-    let alloc = rt.alloc();
-    let mut old = Vec::from_slice(alloc, &OLD_FIRST)?;
-    old.extend_from_slice(&VOTED_IN_A_RECORD[38..])?;
-    let mut device = begun(alloc, areas(alloc, b"", &old, &[255])?, &[], u64::MAX)?;
-    let found = opened(alloc, &mut device);
-    assert!(rt; seen_of(&found) == Seen::Held(1, 0));
+fn a_journal_of_version_1_is_written_anew(rt: HostRuntime) -> Result<(), Fail> {
+    let old = old_first_and(rt.alloc(), &VOTED_IN_A_RECORD[38..])?;
+    let mut device = steady(rt.alloc(), b"", &old, &[255])?;
+    assert!(rt; seen_of(&opened(rt.alloc(), &mut device)) == NEW);
     assert!(rt; reads(&device, &VOTED, &old, &[0]));
     Ok(())
 }
 
+// Whether areas are refused for this to a node, and stay as they were.
+fn refused_and_left(
+    alloc: Global,
+    slot0: &[u8],
+    selector: &[u8],
+    why: Refusal,
+) -> Result<bool, AllocError> {
+    let mut device = steady(alloc, slot0, b"", selector)?;
+    let found = seen_of(&opened(alloc, &mut device));
+    Ok(
+        found == Seen::Not(OpenFault::Refused(why))
+            && reads(&device, slot0, b"", selector)
+            && device.device.acts() == 4,
+    )
+}
+
 #[test]
 fn areas_are_refused_and_left(rt: HostRuntime) -> Result<(), Fail> {
-    let alloc = rt.alloc();
-    let mut open = Vec::from_slice(alloc, &OLD_FIRST)?;
-    open.push(1)?;
-    let journal = Refusal::Slot(Why::Journal);
-    let slot = Refusal::Slot(Why::Slot);
-    for (slot0, selector, refusal) in [
-        (open.as_slice(), [0].as_slice(), journal),
-        (&OLD_VOTED[..21], &[2], slot),
+    let open = old_first_and(rt.alloc(), &[1])?;
+    for (slot0, selector, why) in [
+        (open.as_slice(), [0].as_slice(), Refusal::Slot(Why::Journal)),
+        (&OLD_VOTED[..21], &[2], Refusal::Slot(Why::Slot)),
         (&FRESH, &[0, 0], Refusal::Selector),
     ] {
-        let mut device = begun(alloc, areas(alloc, slot0, b"", selector)?, &[], u64::MAX)?;
-        let found = seen_of(&opened(alloc, &mut device));
-        assert!(rt; found == Seen::Not(OpenFault::Refused(refusal)));
-        assert!(rt; reads(&device, slot0, b"", selector));
-        assert_eq!(rt; device.device.acts(), 4);
+        assert!(rt; refused_and_left(rt.alloc(), slot0, selector, why)?);
     }
     Ok(())
 }
 
 #[test]
 fn another_name_is_refused(rt: HostRuntime) -> Result<(), Fail> {
-    let alloc = rt.alloc();
     let mut configured = NAME;
     configured[15] = 0;
     let who = Who {
         name: configured,
         ..WHO
     };
-    let mut device = begun(alloc, areas(alloc, &VOTED, b"", &[4])?, &[], u64::MAX)?;
-    let found = open::<_, KvCmd, TableCmd>(alloc, &mut device, &who);
+    let mut device = steady(rt.alloc(), &VOTED, b"", &[4])?;
+    let found = open::<_, KvCmd, TableCmd>(rt.alloc(), &mut device, &who);
     let why = Why::Name {
         kept: NAME,
         configured,
@@ -222,42 +258,51 @@ fn another_name_is_refused(rt: HostRuntime) -> Result<(), Fail> {
 #[test]
 fn a_base_follows_the_last_record(rt: HostRuntime) -> Result<(), Fail> {
     let alloc = rt.alloc();
-    let slot = with_records(alloc, 999)?;
-    let mut device = begun(alloc, areas(alloc, &slot, b"", &[0])?, &[], u64::MAX)?;
-    let found = opened(alloc, &mut device);
-    assert!(rt; saved(alloc, &mut device, found, &voted(alloc, true)?) == Some(Ok(())));
-    assert_eq!(rt; device.device.area(0).len(), 38 + 1000 * 18 + 9 + 1);
+    let mut device = steady(alloc, &with_records(alloc, 999)?, b"", &[0])?;
+    assert!(rt; opened_and_saved(alloc, &mut device, true)? == (NEW, Some(Ok(()))));
+    assert!(rt; device.device.area(0).len() == 38 + 1000 * 18 + 9 + 1);
     assert!(rt; device.device.area(1).is_empty());
-    let full = opened(alloc, &mut device);
-    assert!(rt; seen_of(&full) == Seen::Held(1, 1));
-    assert!(rt; saved(alloc, &mut device, full, &voted(alloc, false)?) == Some(Ok(())));
-    assert!(rt;
-        device.device.area(1) == VOTED.as_slice() && device.device.area(2) == [1].as_slice()
-    );
+    let after_a_no_op = Seen::Held(1, 1);
+    assert!(rt; opened_and_saved(alloc, &mut device, false)? == (after_a_no_op, Some(Ok(()))));
+    assert!(rt; device.device.area(1) == VOTED.as_slice());
+    assert!(rt; device.device.area(2) == [1].as_slice());
     Ok(())
+}
+
+// Whether a device over these areas leaves these states by word, where it stops after so many acts of its opening and of a save of the
+// vote.
+fn stopped_leaves(
+    alloc: Global,
+    areas: Areas,
+    stop: u64,
+    wanted: [Seen; 4],
+) -> Result<bool, AllocError> {
+    let mut device = silent(alloc, areas, &[], stop)?;
+    let _stopped = opened_and_saved(alloc, &mut device, false)?;
+    leaves(alloc, &device.device, stop, wanted)
+}
+
+// What a save leaves by word, of which so many acts are left: the last of them is a sync.
+fn left_by_save(acts_left: u64) -> [Seen; 4] {
+    match acts_left {
+        0 => [NEW; 4],
+        1 => [OLD, NEW, NEW, OLD],
+        _ => [OLD; 4],
+    }
 }
 
 // Beginning is the first act, an opening of empty areas makes the acts 2 to 12, and a record 13 to 16.
 #[test]
 fn a_stop_after_each_act_leaves_one_of_two_states(rt: HostRuntime) -> Result<(), Fail> {
     let alloc = rt.alloc();
-    let held = Seen::Held(0, 0);
-    let new = Seen::Held(1, 0);
-    for stop in 1..=16 {
-        let mut device = begun(alloc, areas(alloc, b"", b"", b"")?, &[], stop)?;
-        let found = opened(alloc, &mut device);
-        let _stopped = saved(alloc, &mut device, found, &voted(alloc, false)?);
-        for word in 0..4 {
-            let wanted = match (stop, word) {
-                (..=10, _) | (11, 0) => Seen::Fresh,
-                (11..=14, _) | (15, 0 | 3) => held,
-                _ => new,
-            };
-            assert!(rt;
-                left(alloc, &device, stop, word)? == wanted,
-                "{stop} {word}"
-            );
-        }
+    for stop in 1..=16u64 {
+        let wanted = match stop {
+            ..=10 => [Seen::Fresh; 4],
+            11 => [Seen::Fresh, OLD, OLD, OLD],
+            _ => left_by_save(16 - stop),
+        };
+        let areas = areas(alloc, b"", b"", b"")?;
+        assert!(rt; stopped_leaves(alloc, areas, stop, wanted)?, "{stop}");
     }
     Ok(())
 }
@@ -266,40 +311,32 @@ fn a_stop_after_each_act_leaves_one_of_two_states(rt: HostRuntime) -> Result<(),
 #[test]
 fn a_stop_within_a_base_leaves_one_of_two_states(rt: HostRuntime) -> Result<(), Fail> {
     let alloc = rt.alloc();
-    for (slot, acts) in [(&FRESH[..38], 9), (&OLD_FIRST[..], 13)] {
+    for (slot, acts) in [(&FRESH[..38], 9u64), (&OLD_FIRST[..], 13)] {
         for stop in 1..=acts {
-            let mut device = begun(alloc, areas(alloc, slot, b"", &[6])?, &[], stop)?;
-            let found = opened(alloc, &mut device);
-            let _stopped = saved(alloc, &mut device, found, &voted(alloc, false)?);
-            for word in 0..4 {
-                let is_new = stop == acts || stop + 1 == acts && matches!(word, 1 | 2);
-                let state = left(alloc, &device, stop, word)?;
-                let wanted = Seen::Held(u64::from(is_new), 0);
-                assert!(rt; state == wanted, "{stop} {word}");
-            }
+            let areas = areas(alloc, slot, b"", &[6])?;
+            let wanted = left_by_save(acts - stop);
+            assert!(rt; stopped_leaves(alloc, areas, stop, wanted)?, "{stop}");
         }
     }
     Ok(())
 }
 
+// Whether an opening and a save of the vote over empty areas end so where a call fails: the calls up to 13 are those of the opening.
+fn failed_by(alloc: Global, call: u64) -> Result<bool, AllocError> {
+    let mut device = silent(alloc, areas(alloc, b"", b"", b"")?, &[call], u64::MAX)?;
+    let wanted = if call > 13 {
+        (Seen::Fresh, Some(Err(StateFault::Store)))
+    } else {
+        (Seen::Not(OpenFault::Store), None)
+    };
+    let ended = opened_and_saved(alloc, &mut device, false)?;
+    Ok(ended == wanted && device.device.counts().store == 1)
+}
+
 #[test]
 fn each_call_that_fails_is_told(rt: HostRuntime) -> Result<(), Fail> {
-    let alloc = rt.alloc();
     for call in 2..=17 {
-        let mut device = begun(alloc, areas(alloc, b"", b"", b"")?, &[call], u64::MAX)?;
-        let found = opened(alloc, &mut device);
-        let is_open = found.is_ok();
-        let outcome = saved(alloc, &mut device, found, &voted(alloc, false)?);
-        assert_eq!(rt; is_open, call > 13);
-        assert!(rt;
-            outcome
-                == if call > 13 {
-                    Some(Err(StateFault::Store))
-                } else {
-                    None
-                }
-        );
-        assert_eq!(rt; device.device.counts().store, 1);
+        assert!(rt; failed_by(rt.alloc(), call)?, "{call}");
     }
     Ok(())
 }

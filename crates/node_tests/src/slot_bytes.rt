@@ -1,4 +1,5 @@
 use node_body::Who;
+use std::alloc::{AllocError, Global};
 use vst_base::StackId;
 
 // Slots whose bytes an independent reference worked out, of node 0 of three of the cluster whose name is the bytes 0 to 15.
@@ -34,3 +35,10 @@ pub const VOTED_IN_A_RECORD: [u8; 57] = [
     0, 0, 0, 34, 83, 2, 5, 0, 3, 0, 1, 2, 3, 4, 5, 6, 7, 8, 9, 10, 11, 12, 13, 14, 15, 0, 0, 0, 0,
     0, 0, 0, 0, 255, 0, 0, 0, 0, 1, 0, 0, 0, 0, 0, 0, 0, 1, 1, 0, 0, 0, 0, 0, 0, 0, 0, 0,
 ];
+
+// The first state in a slot of version 1, and these bytes after it.
+pub fn old_first_and(alloc: Global, more: &[u8]) -> Result<Vec<u8>, AllocError> {
+    let mut slot = Vec::from_slice(alloc, &OLD_FIRST)?;
+    slot.extend_from_slice(more)?;
+    Ok(slot)
+}
