@@ -3,6 +3,7 @@
 #![tactic(auto)]
 
 mod columns;
+mod examples;
 mod flights;
 mod gathered;
 mod hand_on;
@@ -18,6 +19,7 @@ mod telling;
 mod told;
 mod words;
 
+pub use examples::{worked_runs, worked_telling};
 pub use leads::Leads;
 pub use pictures::{MAX_ROWS, picture_of};
 pub use runs_to_draw::RunsToDraw;
