@@ -1,5 +1,5 @@
 -- What drawing a schedule comes to, by what replay makes of its text. Of the picture it says nothing.
-use Rattle.std.specs.Prelude.{◌≡◌, ◌≢◌, ℕ, List, Option, None, Some, Result, Ok, Err}
+use Rattle.std.specs.Prelude.{◌≡◌, ℕ, List, None, Some, Result, Ok, Err}
 use Rattle.outside.specs.Counting.{Rose}
 use Rattle.run_streams.specs.Seen.{CountsNothing, SinkSeen}
 use Rattle.schedule_replay.specs.Replaying.{Replayed}
