@@ -4,7 +4,9 @@
 
 mod drawing_run;
 mod drawn;
+mod examples;
 mod reading;
 
 pub use drawing_run::run_draw;
 pub use drawn::draw;
+pub use examples::{worked_drawing, worked_endings, worked_writes};
