@@ -1,5 +1,5 @@
 use crate::bytes::{KV_CLIENT, PUT, PUT_DONE};
-use crate::run::{Answer, Ran, START, Start, THREE_TURNS, at, run};
+use crate::run::{Answer, Ran, START, Start, THREE_TURNS, arrival, run};
 use node_device_mem::Arrival;
 use std::alloc::Global;
 use std::test::Fail;
@@ -28,11 +28,7 @@ const EIGHT_TURNS: Answer<'static> = Answer {
 fn heard(alloc: Global, ran: &Ran) -> Result<Vec<Arrival>, Fail> {
     let other = run(alloc, &NODE_1, ran.brings(alloc, 7000, 7001)?)?;
     let mut heard = other.brings(alloc, 7001, 7000)?;
-    let request = Arrival::Datagram {
-        from: at(7100),
-        bytes: Vec::from_slice(alloc, PUT)?,
-    };
-    heard.insert(heard.len().min(1), request)?;
+    heard.insert(heard.len().min(1), arrival(alloc, 7100, PUT)?)?;
     Ok(heard)
 }
 

@@ -1,5 +1,5 @@
 use crate::bytes::KV;
-use node_device_mem::{Areas, Arrival, MemoryDevice, MemoryDisk, PastAct};
+use node_device_mem::{Areas, Arrival, MemoryDevice, MemoryDisk, Past, PastAct};
 use outside::Address;
 use outside_mem::{MemorySink, MemorySource};
 use std::alloc::{AllocError, Global};
@@ -72,15 +72,19 @@ pub fn at(port: u16) -> Address {
     }
 }
 
+/// The arrival of a datagram.
+pub fn arrival(alloc: Global, port: u16, bytes: &[u8]) -> Result<Arrival, AllocError> {
+    Ok(Arrival::Datagram {
+        from: at(port),
+        bytes: Vec::from_slice(alloc, bytes)?,
+    })
+}
+
 /// The arrivals of datagrams.
 pub fn arrivals(alloc: Global, datagrams: &[Ported<'_>]) -> Result<Vec<Arrival>, AllocError> {
     let mut arrivals = Vec::new(alloc);
     for (port, bytes) in datagrams {
-        let bytes = Vec::from_slice(alloc, *bytes)?;
-        arrivals.push(Arrival::Datagram {
-            from: at(*port),
-            bytes,
-        })?;
+        arrivals.push(arrival(alloc, *port, *bytes)?)?;
     }
     Ok(arrivals)
 }
@@ -149,6 +153,14 @@ pub fn run(alloc: Global, start: &Start<'_>, arrivals: Vec<Arrival>) -> Result<R
     })
 }
 
+// The bytes of an act that sent a datagram to a port.
+fn sent_to(past: &Past, port: u16) -> Option<&[u8]> {
+    match &past.act {
+        PastAct::Sent(to, bytes) if *to == at(port) => Some(bytes.as_slice()),
+        _ => None,
+    }
+}
+
 impl Ran {
     /// Whether it answered this.
     pub fn answered(&self, wanted: &Answer<'_>) -> bool {
@@ -177,13 +189,8 @@ impl Ran {
     pub fn brings(&self, alloc: Global, from: u16, to: u16) -> Result<Vec<Arrival>, AllocError> {
         let mut brought = Vec::new(alloc);
         for past in self.device.past() {
-            if let PastAct::Sent(address, bytes) = &past.act {
-                if *address == at(to) {
-                    brought.push(Arrival::Datagram {
-                        from: at(from),
-                        bytes: Vec::from_slice(alloc, bytes)?,
-                    })?;
-                }
+            if let Some(bytes) = sent_to(past, to) {
+                brought.push(arrival(alloc, from, bytes)?)?;
             }
         }
         Ok(brought)

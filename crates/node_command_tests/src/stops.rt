@@ -116,12 +116,17 @@ fn ended_by_call(ran: &Ran, call: u64) -> bool {
 
 // The same where it stops after so many of its acts, of which there are 24.
 fn ended_by_stop(ran: &Ran, stop: u64) -> bool {
-    match stop {
-        ..=11 | 19..=22 => ran.answered(&STORE) && ran.sent(&[]),
-        12..=18 => ran.answered(&RECEIVE) && ran.sent(&[]),
-        23 => ran.answered(&THREE_TURNS) && ran.sent(&[]),
-        _ => ran.answered(&THREE_TURNS) && ran.sent(&[(7001, VOTE)]),
-    }
+    let answer = match stop {
+        ..=11 | 19..=22 => &STORE,
+        12..=18 => &RECEIVE,
+        _ => &THREE_TURNS,
+    };
+    let sent = if stop < 24 {
+        ran.sent(&[])
+    } else {
+        ran.sent(&[(7001, VOTE)])
+    };
+    ran.answered(answer) && sent
 }
 
 #[test]
