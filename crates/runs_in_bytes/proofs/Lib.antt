@@ -1,4 +1,3 @@
 pub mod Moving
 pub mod InBytes
 pub mod OnBytes
-pub mod Told

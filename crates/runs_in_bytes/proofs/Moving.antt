@@ -1,6 +1,6 @@
 -- One more step in bytes: it is refused alike, clients see the same of it, and it makes the world that is to be.
-use Rattle.std.specs.Prelude.{◌≡◌, ℕ, ◌<◌, List, [], ◌∷◌, ◌++◌, length, None, refl}
-use Rattle.std.proofs.Common.{ap, ◌∙◌, sym, subst, arith, length-append}
+use Rattle.std.specs.Prelude.{◌≡◌, ◌<◌, List, [], ◌∷◌, ◌++◌, length, refl}
+use Rattle.std.proofs.Common.{ap, ◌∙◌, sym, arith, length-append}
 use Rattle.std.proofs.lemmas.List.{append-nil, append_cancel_left}
 use Rattle.handler_trait.specs.Handling.{Meaning, Recovery}
 use Rattle.net_semantics.specs.RunLaws.{run_from-append, trace_from-append}
@@ -10,7 +10,7 @@ use Rattle.net_semantics.specs.Worlds.{World, first_world}
 use Rattle.vst_base.specs.declared.net.Net.{Net}
 use Rattle.vst_base.specs.declared.step.Step.{Step}
 use Rattle.vst_base.specs.declared.step.TheConstants.{MAX_STEPS}
-use Rattle.wired.specs.Same.{RunsAlike, RunsTheSame}
+use Rattle.wired.specs.Same.{RunsAlike}
 use Rattle.wired.specs.StackRuns.{AreInputSteps, IsInputStep, MayCome}
 use Rattle.runs_in_bytes.specs.Running.{RanInBytes}
 

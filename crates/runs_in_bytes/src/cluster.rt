@@ -1,97 +1,114 @@
-ghost use Rattle.std.specs.Prelude.{◌≡◌, [], IfOk, OnOk};
-ghost use Rattle.applied_order.specs.Orders.{FollowsShown};
+ghost use Rattle.std.specs.Prelude.{◌≡◌, [], IfOk};
+ghost use Rattle.applied_order.specs.Orders.{HasFollowed};
+ghost use Rattle.raft_safety.specs.Applied.{applied_by, executed_by};
 ghost use Rattle.raft_types.specs.Ranges.{IsClusterSize};
+ghost use Rattle.raft_xform.specs.Raft.{raft, raft_recovery};
 ghost use Rattle.wired.specs.RaftSaving.{IsAsked};
-ghost use Rattle.wired.specs.StackRuns.{IsInputStep};
-ghost use Rattle.xform_stack.specs.Clusters.{cluster_of};
-ghost use Rattle.runs_in_bytes.specs.Clusters.{HasFollowedOnBytes, IsSoundOnBytes, ShowsInBytes};
+ghost use Rattle.runs_in_bytes.specs.ClusterLaws.{cluster_tells};
+ghost use Rattle.runs_in_bytes.specs.Clusters.{IsOwnCluster, byte_world};
 
-use crate::ClusteredCommands;
 use crate::name::no_name;
+use crate::{AlwaysFits, ClusteredCommands, OnBytesAlone, RunningOnBytes};
 use applied_order::AppliedOrder;
 use handler_trait::Handlers;
-use net_semantics::{FailWorld, Trace};
+use net_semantics::FailWorld;
 use node_body::Commands;
-use raft_types::{Kept, RaftInput, RaftMsg, RaftOut};
+use raft_types::{Kept, RaftInput, RaftMsg};
 use raft_xform::{Raft, RaftState};
 use std::alloc::{AllocError, Global};
-use std::marker::Model;
 use trace_maps::Image;
-use vst_base::{Machine, Net, Node, Step};
+use vst_base::{Machine, Node};
 use wired::{Cluster, Saved, Wired};
-use xform_stack::{Explores, Ran, RunFault, Runs, fault_at};
+use xform_stack::Runs;
 
-/// A schedule of a machine on a cluster, on a network that fails, that is run one step at a time on bytes alone: each packet is bytes,
-/// and so is what a node keeps while it is stopped. It has the world so far, and the order of the requests that were executed so far.
-#[derive(Drop)]
-pub struct ClusterInBytes<M: Machine>
+/// A schedule of a machine on a cluster that is run on bytes alone: the image is the requests in the order in which they are executed.
+pub type ClusterInBytes<M> = RunningOnBytes<Wired<Saved<Raft<M>>>>;
+
+impl<M: Machine> OnBytesAlone for Wired<Saved<Raft<M>>>
 where
     M::Cmd: ClusteredCommands,
 {
-    alloc: Global,
-    world: FailWorld<Wired<Saved<Raft<M>>>>,
-    order: AppliedOrder<M::Cmd>,
-}
+    type InnerState = RaftState<M::State, M::Cmd, M::Out>;
 
-impl<M: Machine> Model for ClusterInBytes<M>
-where
-    M::Cmd: ClusteredCommands,
-{
-    ghost use Rattle.std.specs.Coded.{codes};
-    ghost use Rattle.applied_order.specs.Orders.{order_code};
-    ghost use Rattle.raft_xform.specs.Codes.{raft_code};
-    ghost use Rattle.runs_in_bytes.specs.Clusters.{ByteClusterView};
-    ghost use Rattle.wired.specs.Saving.{seated_code};
+    type InnerKept = Kept<M::Cmd>;
 
-    ghost Value = { ByteClusterView M M.State M.Cmd M.Out };
+    type InnerMsg = RaftMsg<M::Cmd>;
 
-    ghost coded = { Prim.hlevel (codes, seated_code (raft_code M.State.code M.Cmd.code M.Out.code), order_code M.Cmd.code) };
+    type Order = AppliedOrder<M::Cmd>;
 
-    ghost view = { λ c. record { world = c.world; order = c.order } };
-}
+    type Line = RaftInput<M::Cmd>;
 
-// A step's request has bytes.
-fn is_asked<C: ClusteredCommands>(step: &Step<RaftInput<C>>)
-    ensures { IsInputStep (IsAsked C.format) step.now }
-{
-    match step {
-        Step::In(_, input) => {
-            input.client.number();
-            input.request.number();
-            input.cmd.fits();
+    ghost within = { λ w. raft w.inner.inner.nodes (M.meaning w.inner.inner.machine) };
+
+    ghost within_recovery = { λ w. raft_recovery (M.meaning w.inner.inner.machine) };
+
+    ghost image_of = { λ w. executed_by (M.meaning w.inner.inner.machine) w.inner.inner.nodes };
+
+    ghost byte_world = { λ w. byte_world M.Cmd.format M.Cmd.stack w };
+
+    ghost has_bytes = { IsAsked M.Cmd.format };
+
+    ghost is_own = { IsOwnCluster M.Cmd.stack };
+
+    ghost has_followed = { λ o w ss. HasFollowed o (applied_by (M.meaning w.inner.inner.machine) w.inner.inner.nodes ss) };
+
+    fn has_bytes(input: &RaftInput<M::Cmd>) {
+        input.client.number();
+        input.request.number();
+        input.cmd.fits();
+    }
+
+    fn run_on_bytes_alone() {
+        M::Cmd::cluster_runs_on_bytes_alone::<M::State, M::Out>();
+    }
+
+    fn start(alloc: Global) -> AppliedOrder<M::Cmd> {
+        AppliedOrder::new(alloc)
+    }
+
+    fn follow(
+        order: &mut AppliedOrder<M::Cmd>,
+        alloc: Global,
+        world: &FailWorld<Wired<Saved<Raft<M>>>>,
+    ) -> Result<(), AllocError> {
+        let cluster = world.handlers().inner().inner();
+        let nodes = cluster.nodes();
+        for n in 0..nodes {
+            let node = Node::new(n, nodes).unwrap();
+            order.catch_up(alloc, cluster, world.state(node).inner())?;
         }
-        Step::Deliver(_)
-        | Step::Tick(_)
-        | Step::Dup(_)
-        | Step::Lose(_)
-        | Step::Crash(_)
-        | Step::Reboot(_) => {}
+        Ok(())
     }
+
+    fn lines(order: &AppliedOrder<M::Cmd>) -> &[RaftInput<M::Cmd>] {
+        order.requests()
+    }
+
+    fn into_image(order: AppliedOrder<M::Cmd>) -> Image<RaftInput<M::Cmd>> {
+        Image::from_lines(order.into_requests())
+    }
+
+    ghost tells = { λ w. cluster_tells M.Cmd.format M.Cmd.stack (M.meaning w.inner.inner.machine) w };
 }
 
-// Adds what each node of the cluster has applied, node after node.
-fn follow<M: Machine>(
-    order: &mut AppliedOrder<M::Cmd>,
-    alloc: Global,
-    world: &FailWorld<Wired<Saved<Raft<M>>>>,
-) -> Result<(), AllocError>
+// A cluster of this machine on so many nodes, carried on bytes alone.
+fn on_bytes<M: Machine>(machine: M, nodes: u8) -> Wired<Saved<Raft<M>>>
 where
     M::Cmd: ClusteredCommands,
-    requires { IsSoundOnBytes M.Cmd.format M.Cmd.stack M.meaning world.now }
-    ensures { OnOk result (FollowsShown (M.meaning world.now.handlers.inner.inner.machine) world.now.handlers.inner.inner.nodes
-        (ShowsInBytes M.Cmd.format M.Cmd.stack world.now.handlers.name (M.meaning world.now.handlers.inner.inner.machine) world.now.handlers.inner.inner.nodes
-        world.now) order.old order.new) }
+    requires { IsClusterSize nodes }
+    ensures within { result.inner.inner ≡ record { machine = machine; nodes = nodes } }
+    ensures own { IsOwnCluster M.Cmd.stack result }
 {
-    let cluster = world.handlers().inner().inner();
-    let nodes = cluster.nodes();
-    for n in 0..nodes {
-        let node = Node::new(n, nodes).unwrap();
-        order.catch_up(alloc, cluster, world.state(node).inner())?;
-    }
-    Ok(())
+    let name = no_name();
+    let cluster = Cluster {
+        stack: M::Cmd::stack(),
+        name,
+    };
+    let nodes = Saved::new(Raft::new(machine, nodes), name);
+    Wired::new(nodes, cluster)
 }
 
-impl<M: Machine> ClusterInBytes<M>
+impl<M: Machine> RunningOnBytes<Wired<Saved<Raft<M>>>>
 where
     M::Cmd: ClusteredCommands,
 {
@@ -99,118 +116,11 @@ where
     pub fn new(alloc: Global, machine: M, nodes: u8) -> Result<Self, AllocError>
         requires { IsClusterSize nodes }
         ensures handlers { IfOk result (λ running. running.world.handlers.inner.inner ≡ record { machine = machine; nodes = nodes }) }
-        ensures started { IfOk result (λ running.
-            HasFollowedOnBytes M.Cmd.format M.Cmd.stack (M.meaning running.world.handlers.inner.inner.machine) running.world.handlers running []) }
+        ensures started { IfOk result (λ running. ⟦<ClusterInBytes<M> as Runs>⟧.follows running []) }
         ensures trace { IfOk result (λ running. running.world.trace ≡ []) }
         ensures taken { IfOk result (λ running. running.world.taken ≡ 0) }
-        ensures sound { IfOk result (λ running. IsSoundOnBytes M.Cmd.format M.Cmd.stack M.meaning running.world) }
+        ensures sound { IfOk result ⟦<ClusterInBytes<M> as Runs>⟧.sound }
     {
-        M::Cmd::cluster_runs_on_bytes_alone::<M::State, M::Out>();
-        let name = no_name();
-        let cluster = Cluster {
-            stack: M::Cmd::stack(),
-            name,
-        };
-        let nodes = Saved::new(Raft::new(machine, nodes), name);
-        Ok(ClusterInBytes {
-            alloc,
-            world: FailWorld::new(alloc, Wired::new(nodes, cluster))?,
-            order: AppliedOrder::new(alloc),
-        })
-    }
-}
-
-impl<M: Machine> Runs for ClusterInBytes<M>
-where
-    M::Cmd: ClusteredCommands,
-{
-    type State = RaftState<M::State, M::Cmd, M::Out>;
-
-    type Kept = Kept<M::Cmd>;
-
-    type Input = RaftInput<M::Cmd>;
-
-    type Output = RaftOut<M::Out>;
-
-    type Msg = RaftMsg<M::Cmd>;
-
-    type Line = RaftInput<M::Cmd>;
-
-    ghost system = { λ c. cluster_of (M.meaning c.world.handlers.inner.inner.machine) c.world.handlers.inner.inner.nodes };
-
-    ghost progress = { λ c. record { trace = c.world.trace; taken = c.world.taken } };
-
-    ghost follows = { λ c ss. HasFollowedOnBytes M.Cmd.format M.Cmd.stack (M.meaning c.world.handlers.inner.inner.machine) c.world.handlers c ss };
-
-    ghost sound = { λ c. IsSoundOnBytes M.Cmd.format M.Cmd.stack M.meaning c.world };
-
-    fn step(&mut self, step: &Step<RaftInput<M::Cmd>>) -> Result<(), RunFault> {
-        M::Cmd::cluster_runs_on_bytes_alone::<M::State, M::Out>();
-        is_asked(step);
-        let place = self.world.taken();
-        match self.world.step(step) {
-            Ok(()) => {}
-            Err(why) => return Err(fault_at(why, place)),
-        }
-        let Ok(()) = follow(&mut self.order, self.alloc, &self.world) else {
-            return Err(RunFault::Memory);
-        };
-        Ok(())
-    }
-
-    fn trace(&self) -> &Trace<RaftInput<M::Cmd>, RaftOut<M::Out>> {
-        self.world.trace()
-    }
-
-    fn forget_trace(&mut self) {
-        self.world.forget_trace();
-    }
-
-    fn taken(&self) -> u32 {
-        self.world.taken()
-    }
-
-    fn image(&self) -> &[RaftInput<M::Cmd>] {
-        self.order.requests()
-    }
-
-    fn finish(self) -> Ran<RaftInput<M::Cmd>, RaftOut<M::Out>, RaftInput<M::Cmd>> {
-        Ran {
-            trace: self.world.into_trace(),
-            image: Image::from_lines(self.order.into_requests()),
-        }
-    }
-}
-
-impl<M: Machine> Explores for ClusterInBytes<M>
-where
-    M::Cmd: ClusteredCommands,
-{
-    fn net(&self) -> Net {
-        Net::Fail
-    }
-
-    fn nodes(&self) -> u8 {
-        self.world.handlers().nodes()
-    }
-
-    fn takes_input(&self, n: Node) -> bool {
-        self.world.handlers().takes_input(n)
-    }
-
-    fn is_up(&self, n: Node) -> bool {
-        self.world.is_up(n)
-    }
-
-    fn sent(&self) -> u32 {
-        self.world.sent()
-    }
-
-    fn copies(&self, k: u32) -> u32 {
-        self.world.copies(k)
-    }
-
-    fn ends(&self, k: u32) -> Option<(Node, Node)> {
-        self.world.ends(k)
+        RunningOnBytes::start(alloc, on_bytes(machine, nodes))
     }
 }

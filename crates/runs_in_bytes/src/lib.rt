@@ -3,15 +3,19 @@
 //! It knows nothing of texts.
 #![tactic(auto)]
 
+mod alone;
 mod always_fits;
 mod cluster;
 mod commands;
 mod name;
+mod on_bytes;
 mod on_wire;
 mod running;
 
+pub use alone::RunningOnBytes;
 pub use always_fits::AlwaysFits;
 pub use cluster::ClusterInBytes;
 pub use commands::{BackedCommands, BackedNumberedCommands, ClusteredCommands};
+pub use on_bytes::OnBytesAlone;
 pub use on_wire::{OnWire, OnWireNumbered};
 pub use running::RunningInBytes;

@@ -101,7 +101,8 @@ impl<H: OnWire, T: TraceMap<H>> Runs for RunningInBytes<H, T> {
 
     ghost progress = { λ r. record { trace = r.world.trace; taken = r.world.taken } };
 
-    ghost follows = { λ r ss. HasFollowedInBytes H.Msg.format H.has_bytes (H.meaning r.world.handlers.inner) T.has_followed r.world.net r.world.handlers r ss };
+    ghost follows = { λ r ss. HasFollowedInBytes H.Msg.format H.has_bytes (H.meaning r.world.handlers.inner) T.has_followed
+        r.world.net r.world.handlers r ss };
 
     ghost sound = { λ r. IsSoundInBytes H.Msg.format H.stack H.Handlers r.world };
 

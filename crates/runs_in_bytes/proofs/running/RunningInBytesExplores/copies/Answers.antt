@@ -1,7 +1,7 @@
 use Rattle.std.proofs.Common.{◌∙◌}
 use Rattle.net_semantics.specs.Runs.{no_recovery, run}
 use Rattle.wired.specs.WiredRuns.{world_in_bytes}
-use Rattle.runs_in_bytes.proofs.Told.{as_many_copies}
+use Rattle.runs_in_bytes.specs.ToldLaws.{as_many_copies}
 use Rattle.runs_in_bytes.proofs.running.RunningInBytesExplores.copies.Goals as goal
 
 pub returns : goal.returns

@@ -2,7 +2,8 @@ use Rattle.std.specs.Prelude.{◌<◌, IfSome, slice_get}
 use Rattle.std.proofs.Common.{subst, sym, ◌∙◌}
 use Rattle.net_semantics.specs.Runs.{no_recovery, run}
 use Rattle.wired.specs.WiredRuns.{world_in_bytes}
-use Rattle.runs_in_bytes.proofs.Told.{ends_alike, ends_below}
+use Rattle.xform_stack.proofs.Told.{ends_below}
+use Rattle.runs_in_bytes.specs.ToldLaws.{ends_alike}
 use Rattle.runs_in_bytes.proofs.running.RunningInBytesExplores.ends.Goals as goal
 
 pub returns-clause-ends : goal.returns-clause-ends

@@ -1,7 +1,7 @@
 use Rattle.std.proofs.Common.{◌∙◌}
 use Rattle.net_semantics.specs.Runs.{no_recovery, run}
 use Rattle.wired.specs.WiredRuns.{world_in_bytes}
-use Rattle.runs_in_bytes.proofs.Told.{as_many_sent}
+use Rattle.runs_in_bytes.specs.ToldLaws.{as_many_sent}
 use Rattle.runs_in_bytes.proofs.running.RunningInBytesExplores.sent.Goals as goal
 
 pub returns : goal.returns

@@ -1,4 +1,4 @@
-use Rattle.std.proofs.Common.{◌≡◌, ◌<◌, ap, arith, length, None, sym, subst, ◌++◌, ◌∷◌, [], ◌∙◌}
+use Rattle.std.proofs.Common.{◌<◌, ap, arith, length, sym, subst, ◌++◌, ◌∷◌, [], ◌∙◌}
 use Rattle.net_semantics.specs.Runs.{run, no_recovery}
 use Rattle.net_semantics.specs.Shown.{Shows}
 use Rattle.net_semantics.specs.Steps.{next}
