@@ -41,5 +41,5 @@ pub use seq::SeqMsg;
 pub use stack::{StackId, StackRow};
 pub use stack_laws::stacks_have_one_word;
 pub use step::{Item, MAX_STEPS, Step, StepKind, StepRefusal};
-pub use token::{Key, MAX_KEY, MAX_VALUE, Token, Value};
+pub use token::{Key, MAX_KEY, MAX_VALUE, SHORT_TOKEN, Token, Value};
 pub use what::What;

@@ -1,4 +1,4 @@
-ghost use Rattle.std.specs.Prelude.{◌≡◌, ℕ, List, false, IsTrue, IsOk, IfOk};
+ghost use Rattle.std.specs.Prelude.{◌≡◌, ◌≤◌, ℕ, List, length, false, IsTrue, IsOk, IfOk};
 ghost use Rattle.std.specs.Char.{is_ascii_graphic};
 ghost use Rattle.std.specs.Cmp.{partial_equiv_from_equiv};
 ghost use Rattle.std.specs.Cmp.Lexicographic.{nat_list_eq_equiv};
@@ -8,15 +8,20 @@ ghost use Rattle.std.specs.List.{list_all};
 ghost use Rattle.std.specs.Str.{bytes_eq};
 ghost use Rattle.std.proofs.Common.{rules};
 ghost use Rattle.vst_base.specs.Tokens.{is_token, token_of};
+ghost use Rattle.vst_base.specs.declared.token.TheConstants.{SHORT_TOKEN};
 
+use smallvec::SmallVec;
 use std::alloc::{AllocError, Global};
 use std::hash::{Hash, Hasher};
 use std::marker::Model;
 
-/// A word of visible ASCII, of 1 to `MOST` bytes. Contracts see the bytes.
+/// The greatest number of bytes of a token that stands in the value itself.
+pub const SHORT_TOKEN: usize = 16;
+
+/// A word of visible ASCII, of 1 to `MOST` bytes. A short one takes no memory. Contracts see the bytes.
 #[derive(Debug, Drop)]
 pub struct Token<const MOST: usize> {
-    bytes: Vec<u8>,
+    bytes: SmallVec<u8, SHORT_TOKEN>,
 }
 
 /// The greatest number of bytes of a key.
@@ -68,10 +73,11 @@ impl<const MOST: usize> Token<MOST> {
     /// The token of bytes that are one.
     pub fn from_token(alloc: Global, bytes: &[u8]) -> Result<Self, AllocError>
         requires { IsTrue (is_token MOST bytes.now) }
-        ensures { IfOk result (λ token. token ≡ bytes.now) }
+        ensures token { IfOk result (λ token. token ≡ bytes.now) }
+        ensures short { length bytes.now ≤ SHORT_TOKEN → IsOk result }
     {
         Ok(Token {
-            bytes: bytes.to_vec(alloc)?,
+            bytes: SmallVec::from_slice(alloc, bytes)?,
         })
     }
 
@@ -85,7 +91,8 @@ impl<const MOST: usize> Token<MOST> {
 
     /// An equal token.
     pub fn copy(&self, alloc: Global) -> Result<Self, AllocError>
-        ensures { IfOk result (λ copy. copy ≡ self.now) }
+        ensures equal { IfOk result (λ copy. copy ≡ self.now) }
+        ensures short { length self.now ≤ SHORT_TOKEN → IsOk result }
     {
         Self::from_token(alloc, self.as_bytes())
     }
