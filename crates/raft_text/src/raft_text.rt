@@ -68,7 +68,7 @@ impl<A: AppText> AppText for RaftText<A> {
         let request = input.request.number();
         let mut cmd = Vec::new(alloc);
         A::print_input(&input.cmd, &mut cmd)?;
-        let text = named_text(alloc, "", client, request, &cmd)?;
+        let text = named_text(alloc, b"", client, request, &cmd)?;
         out.extend_from_slice(&text)
     }
 
@@ -84,15 +84,15 @@ impl<A: AppText> AppText for RaftText<A> {
                 let request = request.number();
                 let mut told = Vec::new(alloc);
                 A::print_output(output, &mut told)?;
-                let text = named_text(alloc, "reply ", client, request, &told)?;
+                let text = named_text(alloc, b"reply ", client, request, &told)?;
                 out.extend_from_slice(&text)
             }
             RaftOut::NotLeader { client, request } => {
-                let text = names_text(alloc, "notleader ", client.number(), request.number())?;
+                let text = names_text(alloc, b"notleader ", client.number(), request.number())?;
                 out.extend_from_slice(&text)
             }
             RaftOut::Full { client, request } => {
-                let text = names_text(alloc, "full ", client.number(), request.number())?;
+                let text = names_text(alloc, b"full ", client.number(), request.number())?;
                 out.extend_from_slice(&text)
             }
         }
