@@ -100,6 +100,13 @@ impl Reader {
         self.number
     }
 
+    /// The bytes that were read ahead of the next line.
+    pub fn ahead(&self) -> &[u8]
+        ensures { result.now ≡ self.now.ahead }
+    {
+        self.ahead.bytes()
+    }
+
     /// How many events were counted.
     pub fn events(&self) -> u32
         ensures { result ≡ self.now.events }
@@ -127,6 +134,7 @@ impl Reader {
         ensures told { (rest : List ℕ) → HasRest self.old (S.left source.old) rest → HasRest self.new (S.left source.new) rest }
         ensures kept { self.new ≡ record self.old { ahead = self.new.ahead; ended = self.new.ended } }
         ensures stays { self.old.ended ≡ true → self.new.ended ≡ true }
+        ensures still { self.old.ahead ≢ [] → (result ≡ Ok true) × (self.new ≡ self.old) }
         ensures going { result ≡ Ok true → (0 < length self.new.ahead) × (self.new.ended ≡ self.old.ended) }
         ensures over { result ≡ Ok false → (self.new.ahead ≡ []) × (self.new.ended ≡ true) }
         ensures failed { IfErr result (CannotRead self.old self.new (S.faults source.old) (S.faults source.new)) }

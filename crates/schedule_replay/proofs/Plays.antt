@@ -1,5 +1,5 @@
 -- Playing the steps of a schedule one by one.
-use Rattle.std.specs.Prelude.{◌≡◌, ℕ, Bool, true, false, ◌+◌, List, [], ◌∷◌, ◌++◌, map, length, count_by, cond, Option, Some, None, Ok, refl}
+use Rattle.std.specs.Prelude.{◌≡◌, ◌⊎◌, ℕ, Bool, true, false, ◌+◌, List, [], ◌∷◌, ◌++◌, map, length, count_by, cond, Option, Some, None, Ok, refl}
 use Rattle.std.specs.List.{flat_map}
 use Rattle.std.proofs.Common.{inl, inr, ap, ◌∙◌, sym, subst, append_assoc, arith, length-append}
 use Rattle.std.proofs.lemmas.List.{append-nil, map-append}
@@ -30,7 +30,7 @@ use Rattle.schedule_replay.specs.declared.tally.Tally.{Tally}
 use Rattle.stacks.specs.Stack.{ImageTexts, Play, Texts, play_of}
 use Rattle.schedule_replay.specs.Tallying.{tallied}
 use Rattle.schedule_replay.specs.Replaying.{is_input, is_output, is_reply_by, why_of, stop, taken, trace_lines, image_lines, ended, replayed_script}
-use Rattle.schedule_replay.specs.Playing.{TraceWritten, TookStep, HaltsBy, Halted}
+use Rattle.schedule_replay.specs.Playing.{TraceWritten, TookStep, HaltsBy, Halted, Waits, Writes}
 use Rattle.schedule_replay.proofs.Scripts.{all-taken, refused-behind, taken-front}
 
 -- the lines that were used of a rest say these steps
@@ -98,17 +98,36 @@ module _ {R S K I O M G : Type 0} (sys : System S K I O M G) (follows : R → Li
   }
 
   pub played-written : (v u : R) (tally tally' : Tally) (old now : ReaderView) (left left' out mid out' : Option (List ℕ)) → Played sys follows progress t v tally old now left left' out mid
-      → Gained mid out' (trace_text t.input_text t.output_text (progress v).trace) → progress u ≡ record (progress v) { trace = [] } → ((ss : List (Step I)) → follows v ss → follows u ss) → tally' ≡ tallied t.is_reply tally (progress v).trace
-      → Played sys follows progress t u tally' old now left left' out out'
-  played-written v u tally tally' old now left left' out mid out' p more forgets follow is = record {
+      → Writes follows progress t v u tally tally' mid out' → Played sys follows progress t u tally' old now left left' out out'
+  played-written v u tally tally' old now left left' out mid out' p w = record {
     steps = p.steps;
     gone = p.gone ++ (progress v).trace;
-    ran = has_run-forget sys follows progress (map (λ p. p.1) p.steps) p.gone v u forgets (follow (map (λ p. p.1) p.steps) p.ran.followed) p.ran;
-    written = written-more t p.gone (progress v).trace out mid out' tally tally' p.written more is;
+    ran = has_run-forget sys follows progress (map (λ p. p.1) p.steps) p.gone v u w.forgets (w.stays (map (λ p. p.1) p.steps) p.ran.followed) p.ran;
+    written = written-more t p.gone (progress v).trace out mid out' tally tally' p.written w.written w.counted;
     events = p.events;
     most = p.most;
     reads = p.reads;
   }
+
+  -- of no trace there is nothing to write
+  pub writes-nothing : (v : R) (tally : Tally) (out : Option (List ℕ)) → (progress v).trace ≡ [] → Writes follows progress t v v tally tally out out
+  writes-nothing v tally out none =
+      let ins : tally.inputs + 0 ≡ tally.inputs = omega arith in
+      let outs : tally.outputs + 0 ≡ tally.outputs = omega arith in
+      let replies : tally.replies + 0 ≡ tally.replies = omega arith in
+      record {
+        written = rw none (gained-nothing out);
+        forgets = ap (λ (xs : List (Item I O)). record (progress v) { trace = xs }) none;
+        stays = λ ss had. had;
+        counted = rw (none, ins, outs, replies) refl;
+      }
+
+  -- whether it was written or not
+  pub played-before-reading : (v u : R) (tally tally' : Tally) (old now : ReaderView) (left left' out mid out' : Option (List ℕ)) → Played sys follows progress t v tally old now left left' out mid
+      → Waits now v u tally tally' mid out' ⊎ Writes follows progress t v u tally tally' mid out' → Played sys follows progress t u tally' old now left left' out out'
+  played-before-reading v u tally tally' old now left left' out mid out' p (inl w) =
+      rw (w.same, w.counts, w.nothing) p
+  played-before-reading v u tally tally' old now left left' out mid out' p (inr w) = played-written v u tally tally' old now left left' out mid out' p w
 
 -- what lines say after those that were used
 module _ {I : Type 0} (f : List ℕ → Option I) (old now : ReaderView) (left' : Option (List ℕ)) (rest : List ℕ) (steps : List (ℕ × Step I))
@@ -228,16 +247,21 @@ module _ {R S K I O M G : Type 0} (sys : System S K I O M G) (follows : R → Li
     ran-at halt.Read took = took.0
     ran-at (halt.Refused number w) took = took.0
 
-    pub played-halts : (x : Halt) → (progress u).trace ≡ [] → TookStep sys follows progress t.input_of u (map (λ p. p.1) p.steps) p.gone now new left' after (Some x) → Halted sys follows progress t i u tally old new left after out out' x
-    played-halts x empty took = record {
-      empty = empty;
-      steps = map (λ p. p.1) p.steps;
-      gone = p.gone;
-      ran = ran-at x took;
-      written = p.written;
-      halts = halts-by x took (ran-at x took);
-      front = front (ran-at x took);
-    }
+    -- and what clients saw last was written
+    pub played-halts : (x : Halt) → TookStep sys follows progress t.input_of u (map (λ p. p.1) p.steps) p.gone now new left' after (Some x)
+        → (z : R) (tally' : Tally) (out'' : Option (List ℕ)) → Writes follows progress t u z tally tally' out' out'' → Halted sys follows progress t i z tally' old new left after out out'' x
+    played-halts x took z tally' out'' w =
+        let steps = map (λ p. p.1) p.steps in
+        let ran = ran-at x took in
+        record {
+          empty = ap (λ (d : Progress I O). d.trace) w.forgets;
+          steps = steps;
+          gone = p.gone ++ (progress u).trace;
+          ran = has_run-forget sys follows progress steps p.gone u z w.forgets (w.stays steps ran.followed) ran;
+          written = written-more t p.gone (progress u).trace out out' out'' tally tally' p.written w.written w.counted;
+          halts = halts-by x took ran;
+          front = front ran;
+        }
 
   -- what was written is a front of what the whole rest makes
   module _ (v : R) (steps : List (Step I)) (gone : List (Item I O)) (ran : HasRun sys follows progress steps gone v) (whole : Bool) (sc : Script I)

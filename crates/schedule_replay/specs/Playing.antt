@@ -1,5 +1,5 @@
 -- What reading and taking the steps of a schedule comes to. What is said of the rest of a text holds where the source tells.
-use Rattle.std.specs.Prelude.{◌≡◌, ◌⊎◌, ℕ, false, ◌+◌, List, [], ◌∷◌, ◌++◌, Option, Some, None, Ok, Err}
+use Rattle.std.specs.Prelude.{◌≡◌, ◌⊎◌, ℕ, Bool, false, true, ◌+◌, List, [], ◌∷◌, ◌++◌, Option, Some, None, Ok, Err}
 use Rattle.vst_base.specs.declared.step.Step.{Step}
 use Rattle.vst_base.specs.declared.step.Item.{Item}
 use Rattle.vst_base.specs.declared.step.StepRefusal.{StepRefusal}
@@ -11,6 +11,7 @@ use Rattle.line_reader.specs.declared.fault.LineFault.TheVariants as fault
 use Rattle.line_reader.specs.Lines.{lines_of, whole_lines}
 use Rattle.line_reader.specs.Readers.{ReaderView, HasRest}
 use Rattle.line_reader.specs.Outcomes.{StandsAt, BreaksOff}
+use Rattle.schedule_text.specs.Lines.{tells_next}
 use Rattle.schedule_text.specs.Printing.{trace_text}
 use Rattle.schedule_text.specs.Schedules.{script}
 use Rattle.schedule_text.specs.Streams.{ReadsStep}
@@ -41,10 +42,30 @@ module _ {R S K I O M G : Type 0} (sys : System S K I O M G) (follows : R → Li
   TookStep r ss gone old new left left' (Some (halt.Refused number why)) =
       HasRun sys follows progress ss gone r × ((rest : List ℕ) → HasRest old left rest → IsRefusedStep ss old new left' rest number why)
 
+-- the steps ended since a read failed
+abbrev pub is_failed_read : Halt → Bool
+is_failed_read halt.End = false
+is_failed_read halt.Read = true
+is_failed_read (halt.Refused number why) = false
+
 -- the part of a trace that was cleared was written and counted
 pub record TraceWritten {I O : Type 0} (t : Texts I O) (gone : List (Item I O)) (out out' : Option (List ℕ)) (tally : Tally) : Type 0 where
   pub written : Gained out out' (trace_text t.input_text t.output_text gone)
   pub counted : tally ≡ tallied t.is_reply (record { inputs = 0; outputs = 0; replies = 0 }) gone
+
+-- what clients saw since it was last written was written, counted and cleared
+pub record Writes {R I O : Type 0} (follows : R → List (Step I) → Type 0) (progress : R → Progress I O) (t : Texts I O) (v u : R) (tally tally' : Tally) (out out' : Option (List ℕ)) : Type 0 where
+  pub written : Gained out out' (trace_text t.input_text t.output_text (progress v).trace)
+  pub forgets : progress u ≡ record (progress v) { trace = [] }
+  pub stays : (ss : List (Step I)) → follows v ss → follows u ss
+  pub counted : tally' ≡ tallied t.is_reply tally (progress v).trace
+
+-- a line was read ahead, and nothing was written
+pub record Waits {R : Type 0} (r : ReaderView) (v u : R) (tally tally' : Tally) (out out' : Option (List ℕ)) : Type 0 where
+  pub told : tells_next r.ahead ≡ true
+  pub same : u ≡ v
+  pub counts : tally' ≡ tally
+  pub nothing : out' ≡ out
 
 -- where the steps of a rest end, these were taken
 abbrev pub HaltsBy : {I O G : Type 0} → Play I O G → List (Step I) → ReaderView → ReaderView → Option (List ℕ) → List ℕ → Halt → Type 0

@@ -18,8 +18,9 @@ pub record HasRoom (tally : Tally) (more : ℕ) : Type 0 where
   pub outputs : tally.outputs + more < 2 ^ 64
   pub replies : tally.replies + more < 2 ^ 64
 
--- no count is greater than so many steps can make it: clients see at most an input and its outputs of each
-pub record IsOfSteps (steps : ℕ) (tally : Tally) : Type 0 where
-  pub inputs : tally.inputs ≤ steps * (MAX_OUTPUTS + 1)
-  pub outputs : tally.outputs ≤ steps * (MAX_OUTPUTS + 1)
-  pub replies : tally.replies ≤ steps * (MAX_OUTPUTS + 1)
+-- with so many items that are not counted yet, no count is greater than so many steps can make it: clients see at most an input and
+-- its outputs of each
+pub record IsOfSteps (steps more : ℕ) (tally : Tally) : Type 0 where
+  pub inputs : tally.inputs + more ≤ steps * (MAX_OUTPUTS + 1)
+  pub outputs : tally.outputs + more ≤ steps * (MAX_OUTPUTS + 1)
+  pub replies : tally.replies + more ≤ steps * (MAX_OUTPUTS + 1)

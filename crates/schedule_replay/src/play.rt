@@ -13,14 +13,15 @@ ghost use Rattle.stacks.specs.Stack.{ImageTexts, play_of, texts_of};
 use crate::halt::Halt;
 use crate::taking::take_step;
 use crate::tally::Tally;
-use crate::writing::write_trace;
+use crate::writing::{write_before_reading, write_trace};
 use app_text::AppText;
 use outside::{Sink, Source};
 use schedule_text::{LineFault, Reader};
 use std::alloc::Global;
 use xform_stack::Runs;
 
-// Plays the steps of a schedule after its header up to where they end. What clients saw of a step is written at once.
+// Plays the steps of a schedule after its header up to where they end. What clients saw is written before the source is read again,
+// and where the steps end.
 pub(crate) fn play<R: Runs, A: AppText<Input = R::Input, Output = R::Output>, S: Source, K: Sink>(
     alloc: Global,
     running: &mut R,
@@ -48,9 +49,13 @@ pub(crate) fn play<R: Runs, A: AppText<Input = R::Input, Output = R::Output>, S:
     ensures system { OnOk result (R.system running.new ≡ R.system running.old) }
 {
     loop {
+        write_before_reading::<R, A, K>(alloc, running, tally, reader, sink)?;
         if let Some(halt) = take_step::<R, A, S>(alloc, running, reader, source)? {
+            // Before a read that failed all was written.
+            if !halt.is_failed_read() {
+                write_trace::<R, A, K>(alloc, running, tally, sink)?;
+            }
             return Ok(halt);
         }
-        write_trace::<R, A, K>(alloc, running, tally, sink)?;
     }
 }

@@ -39,7 +39,7 @@ impl<S: Source, K: Sink> OnStack<Reader, S, K> for Replaying {
 }
 
 /// Replays the schedule that a source gives, in a stream: each step is taken as its line comes, and what clients saw
-/// of it is written at once. Where no line is refused, the image is written below the trace. Where a line
+/// is written before the source is read again. Where no line is refused, the image is written below the trace. Where a line
 /// is, at most 4,096 bytes were read past the byte that decided it. No fault is hidden: a read that fails is answered as
 /// `Read`, a write that fails as `Write`, and a write's want of memory as `Memory`.
 pub fn replay<S: Source, K: Sink>(

@@ -1,6 +1,7 @@
 ghost use Rattle.std.specs.Prelude.{◌≡◌, ◌≢◌, ◌+◌, ◌<◌, ◌≤◌, List, length, true, false, None, Some, Ok, IfOk, OnOk};
 ghost use Rattle.net_semantics.specs.Taking.{GrowsBy};
 ghost use Rattle.outside.specs.Counting.{Rose};
+ghost use Rattle.schedule_text.specs.Lines.{tells_next};
 ghost use Rattle.vst_base.specs.declared.step.TheConstants.{MAX_STEPS};
 ghost use Rattle.vst_base.specs.declared.step.Step.{Step};
 ghost use Rattle.vst_base.specs.declared.step.Item.{Item};
@@ -55,6 +56,7 @@ pub(crate) fn take_step<R: Runs, A: AppText<Input = R::Input, Output = R::Output
     ensures unchanged { (halt : Halt) → result ≡ Ok (Some halt) → running.new ≡ running.old }
     ensures read { result ≡ Ok (Some Halt.Read) → Rose (S.faults source.old) (S.faults source.new) }
     ensures going { result ≡ Ok (Some Halt.Read) → reader.old.ended ≡ false }
+    ensures ahead { tells_next reader.old.ahead ≡ true → result ≢ Ok (Some Halt.Read) }
     ensures stays { reader.old.ended ≡ true → reader.new.ended ≡ true }
     ensures quiet { result ≢ Ok (Some Halt.Read) → S.faults source.new ≡ S.faults source.old }
     ensures counts { S.faults source.old ≤ S.faults source.new }

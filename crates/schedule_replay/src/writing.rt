@@ -1,14 +1,15 @@
-ghost use Rattle.std.specs.Prelude.{◌≡◌, ◌≤◌, List, [], length, IfErr, IsErrOf, OnErr, OnOk};
-ghost use Rattle.outside.specs.Wholes.{Gained, GainedFront};
+ghost use Rattle.std.specs.Prelude.{◌≡◌, ◌≤◌, ◌⊎◌, length, IfErr, IsErrOf, OnErr, OnOk};
+ghost use Rattle.outside.specs.Wholes.{GainedFront};
 ghost use Rattle.schedule_text.specs.Printing.{trace_text};
 ghost use Rattle.schedule_text.specs.Sending.{HasWriteCause};
-ghost use Rattle.vst_base.specs.declared.step.Step.{Step};
-ghost use Rattle.schedule_replay.specs.Tallying.{HasRoom, tallied};
+ghost use Rattle.stacks.specs.Stack.{texts_of};
+ghost use Rattle.schedule_replay.specs.Playing.{Waits, Writes};
+ghost use Rattle.schedule_replay.specs.Tallying.{HasRoom};
 
 use crate::tally::Tally;
 use app_text::AppText;
 use outside::Sink;
-use schedule_text::{LineFault, print_trace};
+use schedule_text::{LineFault, Reader, is_line_ahead, print_trace};
 use std::alloc::Global;
 use xform_stack::Runs;
 
@@ -20,12 +21,10 @@ pub(crate) fn write_trace<R: Runs, A: AppText<Input = R::Input, Output = R::Outp
     sink: &mut K,
 ) -> Result<(), LineFault>
     requires { HasRoom tally.old (length (R.progress running.old).trace) }
-    ensures ok { OnOk result (Gained (K.written sink.old) (K.written sink.new) (trace_text A.input_text A.output_text (R.progress running.old).trace)) }
-    ensures forgets { OnOk result (R.progress running.new ≡ record (R.progress running.old) { trace = [] }) }
-    ensures follows { OnOk result ((ss : List (Step R.Input)) → R.follows running.old ss → R.follows running.new ss) }
+    ensures ok { OnOk result (Writes R.follows R.progress (texts_of A.input_of A.input_text A.output_of A.output_text A.replies)
+        running.old running.new tally.old tally.new (K.written sink.old) (K.written sink.new)) }
     ensures system { OnOk result (R.system running.new ≡ R.system running.old) }
     ensures sound { OnOk result (R.sound running.old → R.sound running.new) }
-    ensures tally { OnOk result (tally.new ≡ tallied A.replies tally.old (R.progress running.old).trace) }
     ensures err { OnErr result (GainedFront (K.written sink.old) (K.written sink.new) (trace_text A.input_text A.output_text (R.progress running.old).trace)) }
     ensures fault { IfErr result (HasWriteCause (K.faults sink.old) (K.faults sink.new)) }
     ensures unfailed { IsErrOf result LineFault.Memory → K.faults sink.new ≡ K.faults sink.old }
@@ -38,4 +37,35 @@ pub(crate) fn write_trace<R: Runs, A: AppText<Input = R::Input, Output = R::Outp
     print_trace::<A, K>(alloc, sink, items)?;
     running.forget_trace();
     Ok(())
+}
+
+// The same before the source is read again: unless a further line was read ahead.
+pub(crate) fn write_before_reading<
+    R: Runs,
+    A: AppText<Input = R::Input, Output = R::Output>,
+    K: Sink,
+>(
+    alloc: Global,
+    running: &mut R,
+    tally: &mut Tally,
+    reader: &Reader,
+    sink: &mut K,
+) -> Result<(), LineFault>
+    requires { HasRoom tally.old (length (R.progress running.old).trace) }
+    ensures ok { OnOk result (Waits reader.now running.old running.new tally.old tally.new (K.written sink.old) (K.written sink.new)
+        ⊎ Writes R.follows R.progress (texts_of A.input_of A.input_text A.output_of A.output_text A.replies)
+        running.old running.new tally.old tally.new (K.written sink.old) (K.written sink.new)) }
+    ensures system { OnOk result (R.system running.new ≡ R.system running.old) }
+    ensures sound { OnOk result (R.sound running.old → R.sound running.new) }
+    ensures err { OnErr result (GainedFront (K.written sink.old) (K.written sink.new) (trace_text A.input_text A.output_text (R.progress running.old).trace)) }
+    ensures fault { IfErr result (HasWriteCause (K.faults sink.old) (K.faults sink.new)) }
+    ensures unfailed { IsErrOf result LineFault.Memory → K.faults sink.new ≡ K.faults sink.old }
+    ensures unwanted { IsErrOf result LineFault.Write → K.wants sink.new ≡ K.wants sink.old }
+    ensures quiet { OnOk result ((K.faults sink.new ≡ K.faults sink.old) × (K.wants sink.new ≡ K.wants sink.old)) }
+    ensures counts { K.faults sink.old ≤ K.faults sink.new }
+{
+    if is_line_ahead(reader) {
+        return Ok(());
+    }
+    write_trace::<R, A, K>(alloc, running, tally, sink)
 }

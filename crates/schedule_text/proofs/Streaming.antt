@@ -1,6 +1,6 @@
 -- What a line that was read after skipped ones makes of the header, or of the next step.
 use Rattle.std.specs.Prelude.{◌≡◌, ℕ, Bool, true, false, ◌+◌, ◌<◌, ◌≤◌, nat_le, is_none, List, [], ◌∷◌, ◌++◌, length, Option, Some, None, Ok, Err, cond, refl}
-use Rattle.std.proofs.Common.{ap, ◌∙◌, sym, subst, arith}
+use Rattle.std.proofs.Common.{ap, ◌∙◌, sym, subst, arith, not}
 use Rattle.std.proofs.lemmas.Bool.Decides.{nat_tests}
 use Rattle.std.proofs.lemmas.List.{append-nil}
 use Rattle.vst_base.specs.Firsts.{first_of}
@@ -17,9 +17,9 @@ use Rattle.line_reader.proofs.Using.{uses-more, stands-behind, stands-at-end, br
 use Rattle.schedule_text.specs.declared.header.Header.{Header}
 use Rattle.schedule_text.specs.declared.line.Line.{Line}
 use Rattle.schedule_text.specs.declared.line.Line.TheVariants as line
-use Rattle.schedule_text.specs.Lines.{is_skipped}
+use Rattle.schedule_text.specs.Lines.{is_skipped, is_told}
 use Rattle.schedule_text.specs.Headers.{header_of}
-use Rattle.schedule_text.specs.Reading.{line_says, number_in, parts_of, step_or_refusal, step_of}
+use Rattle.schedule_text.specs.Reading.{line_says, number_in, parts_of, step_or_refusal, step_of, step_refusals}
 use Rattle.schedule_text.specs.Schedules.{Opened, opened, opening, opening_refusal, script, script_line, no_steps, with_step, refused_script}
 use Rattle.schedule_text.specs.Streams.{ReadsHeader, ReadsStep, header_fault}
 use Rattle.schedule_text.proofs.ScheduleLaws.{opening-skips, opening-reads, opening-refuses, line-refused, line-said, script-by}
@@ -141,6 +141,26 @@ says-step f e l s is =
     let both = step-by (is_skipped l) (is_none (parts_of l)) (is_none (number_in l)) (nat_le 1000000 e) (is_none (step_of f l)) (step_of f l) s (sym is) in
     let few = both.1 in
     (both.0, grind (arith, nat_tests))
+
+said-something : {I : Type 0} (w : Option Why) (o : Option (Step I)) → step_or_refusal w o ≡ line.Skipped → ⊥
+said-something (Some w) o e = cc
+said-something None (Some s) e = cc
+said-something None None e = cc
+
+-- a line that is not skipped says something
+pub not-skips : {I : Type 0} (f : List ℕ → Option I) (e : ℕ) (l : List ℕ) → is_skipped l ≡ false → line.Skipped ≡ line_says f e l → ⊥
+not-skips f e l tells is =
+    let said = step_or_refusal (first_of (step_refusals f e l)) (step_of f l) in
+    said-something (first_of (step_refusals f e l)) (step_of f l) (sym (is ∙ ap (λ t. cond t line.Skipped said) tells))
+
+not-true : (t : Bool) → not t ≡ true → t ≡ false
+not-true true e = cc
+not-true false e = refl
+
+-- what stands before the rest, where it is told
+pub told-cut : (o : Option (List ℕ × List ℕ)) → is_told o ≡ true → (cut : List ℕ × List ℕ) × (o ≡ Some cut) × (is_skipped cut.0 ≡ false)
+told-cut None e = cc
+told-cut (Some cut) e = (cut, refl, not-true (is_skipped cut.0) e)
 
 module _ {I : Type 0} (f : List ℕ → Option I) (old mid new : ReaderView) (left left' : Option (List ℕ)) (rest : List ℕ) (most : mid.most ≡ old.most) where
   module _ (s : Skipped (λ n ls. script old.most f n old.events ls) old mid left rest) where

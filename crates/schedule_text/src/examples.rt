@@ -1,7 +1,8 @@
-ghost use Rattle.std.specs.Prelude.{◌≡◌, List, [], ◌∷◌, None, Some, codes, replicate};
+ghost use Rattle.std.specs.Prelude.{◌≡◌, List, [], ◌∷◌, None, Some, false, true, codes, replicate};
 ghost use Rattle.app_text.specs.LockTexts.{input_of, input_text, output_text};
 ghost use Rattle.line_reader.specs.Whys.{why_text};
 ghost use Rattle.schedule_text.specs.Headers.{header_of, header_text};
+ghost use Rattle.schedule_text.specs.Lines.{tells_next};
 ghost use Rattle.schedule_text.specs.Printing.{item_text, refusal_line, step_text, steps_text, trace_text};
 ghost use Rattle.schedule_text.specs.Reading.{number_of, read_line, step_of};
 ghost use Rattle.schedule_text.specs.Schedules.{opening, script, Opened, RefusedAt, EndedAt};
@@ -24,6 +25,10 @@ pub fn worked_words()
     ensures no_word { kind_named (codes "inn") ≡ None }
     ensures longer_word { kind_named (codes "ticks") ≡ None }
     ensures word { kind_named (codes "in") ≡ Some StepKind.In }
+    ensures told_next { tells_next (codes "tick 0\n# more") ≡ true }
+    ensures not_to_its_end { tells_next (codes "tick 0") ≡ false }
+    ensures a_comment_is_next { tells_next (codes "# more\ntick 0\n") ≡ false }
+    ensures an_empty_line_is_next { tells_next (codes "\ntick 0\n") ≡ false }
 {}
 
 /// Headers, and how texts open, on examples.

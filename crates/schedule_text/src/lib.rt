@@ -2,6 +2,7 @@
 //! It knows nothing of worlds: whether a step is allowed is not its matter.
 #![tactic(auto)]
 
+mod ahead;
 mod examples;
 mod header;
 mod headers;
@@ -17,6 +18,7 @@ mod skips;
 mod streams;
 mod words;
 
+pub use ahead::is_line_ahead;
 pub use examples::{worked_headers, worked_limits, worked_printing, worked_steps, worked_words};
 pub use header::Header;
 pub use headers::header_of;

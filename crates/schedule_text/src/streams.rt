@@ -2,6 +2,7 @@ ghost use Rattle.std.specs.Prelude.{◌≡◌, ◌≢◌, ◌+◌, ◌<◌, ◌�
 ghost use Rattle.line_reader.specs.Outcomes.{HasReadCause};
 ghost use Rattle.line_reader.specs.Readers.{HasRest};
 ghost use Rattle.schedule_text.specs.Headers.{header_of};
+ghost use Rattle.schedule_text.specs.Lines.{tells_next};
 ghost use Rattle.schedule_text.specs.Reading.{step_of};
 ghost use Rattle.schedule_text.specs.Streams.{ReadsHeader, ReadsStep, header_fault};
 ghost use Rattle.vst_base.specs.declared.step.TheConstants.{MAX_STEPS};
@@ -61,6 +62,7 @@ pub fn read_step<A: AppText, S: Source>(
     source: &mut S,
 ) -> Result<Step<A::Input>, LineFault>
     ensures told { (rest : List ℕ) → HasRest reader.old (S.left source.old) rest → ReadsStep A.input_of reader.old reader.new (S.left source.new) rest result }
+    ensures ahead { tells_next reader.old.ahead ≡ true → result ≢ Err LineFault.Read }
     ensures step { IfOk result (λ s. step_of A.input_of reader.new.line ≡ Some s) }
     ensures number { OnOk result ((reader.old.number < reader.new.number) × (reader.new.number ≤ reader.new.most)) }
     ensures events { OnOk result ((reader.new.events ≡ reader.old.events + 1) × (reader.new.events ≤ MAX_STEPS)) × OnErr result (reader.new.events ≡ reader.old.events) }

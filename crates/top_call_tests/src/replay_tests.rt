@@ -600,6 +600,21 @@ fn a_trace_is_written_as_its_lines_come(rt: HostRuntime) -> Result<(), Fail> {
     Ok(())
 }
 
+// How many writes a replay makes, where each read gives at most so many bytes.
+fn writes_of(alloc: Global, most: usize) -> Result<u64, AllocError> {
+    let source = source(alloc, HANDED_OVER, most, Vec::new(alloc))?;
+    let ran = replay_over(alloc, source, sink(alloc, 100, Vec::new(alloc)))?;
+    Ok(ran.out.calls())
+}
+
+#[test]
+fn the_trace_of_lines_that_were_read_together_is_one_write(rt: HostRuntime) -> Result<(), Fail> {
+    for (most, writes) in [(100, 3), (10, 4)] {
+        assert!(rt; writes_of(rt.alloc(), most)? == writes);
+    }
+    Ok(())
+}
+
 // Replays a schedule whose output takes a byte a write, where this write fails.
 fn replay_failing_write(alloc: Global, call: u64) -> Result<Ran, AllocError> {
     let source = source(alloc, HANDED_OVER, 10, Vec::new(alloc))?;

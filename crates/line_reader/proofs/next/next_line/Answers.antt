@@ -1,9 +1,12 @@
-use Rattle.std.proofs.Common.{◌≡◌, ◌==◌, ◌<◌, ◌∷◌, ℕ, List, [], None, Ok, true, false, length, refl, ap, ◌∙◌, sym, arith}
+use Rattle.std.proofs.Common.{◌≡◌, ◌≢◌, ◌==◌, ◌<◌, ◌∷◌, ◌++◌, ℕ, List, [], None, Some, Result, Ok, Err, OnOk, true, false, length, refl, ap, ◌∙◌, sym, arith}
 use Rattle.std.proofs.lemmas.Result.{err_from_is_err_and}
 use Rattle.std.proofs.lemmas.Bool.Decides.{nat_tests}
 use Rattle.line_reader.specs.Cuts.{cut_at}
 use Rattle.line_reader.specs.Readers.{ReaderView}
-use Rattle.line_reader.proofs.Cutting.{none-append}
+use Rattle.line_reader.specs.Outcomes.{EndsLine}
+use Rattle.line_reader.specs.declared.fault.LineFault.{LineFault}
+use Rattle.line_reader.specs.declared.fault.LineFault.TheVariants as fault
+use Rattle.line_reader.proofs.Cutting.{cut-here, none-append}
 use Rattle.line_reader.proofs.Taking.{begins, fills, goes-on, by-newline, by-end, at-end, by-read, by-length}
 use Rattle.line_reader.proofs.next.next_line.Goals as goal
 
@@ -17,6 +20,27 @@ some-length (x ∷ xs) e = omega arith
 
 abbrev line_of : ReaderView → List ℕ
 line_of v = v.line
+
+abbrev ahead_of : ReaderView → List ℕ
+ahead_of v = v.ahead
+
+-- what has a newline is not empty
+some-ahead : (xs ys : List ℕ) (cut : List ℕ × List ℕ) → cut_at 10 ys ≡ Some cut → xs ≡ ys → xs ≢ []
+some-ahead xs ys cut is same none =
+    let empty : None ≡ Some cut = ap (cut_at 10) (sym none ∙ same) ∙ is in
+    cc
+
+-- the line up to the newline that was read ahead
+same-cut : (xs ahead part ys : List ℕ) (cut : List ℕ × List ℕ) → cut_at 10 xs ≡ Some cut → ahead ≡ xs → ahead ≡ part ++ 10 ∷ ys → cut_at 10 part ≡ None → part ≡ cut.0
+same-cut xs ahead part ys cut is same whole plain =
+    let both : Some (part, ys) ≡ Some cut = sym (cut-here 10 part ys plain refl) ∙ (ap (cut_at 10) (sym whole ∙ same) ∙ is) in
+    let pair : (part, ys) ≡ cut = cc in
+    ap (λ (p : List ℕ × List ℕ). p.0) pair
+
+ends-ahead : {A : Type 0} (r r' : ReaderView) (line : List ℕ) (result : Result A LineFault) → EndsLine r r' result → r.line ≡ line
+    → (result ≢ Err fault.Read) × OnOk result (r'.line ≡ line)
+ends-ahead r r' line (Ok x) ends is = ((λ e. cc), ap line_of ends.0 ∙ is)
+ends-ahead r r' line (Err found) ends is = ((λ e. let found_is = ends.0 in cc), tt)
 
 pub loop-reader-init : goal.loop-reader-init
 loop-reader-init g c =
@@ -33,6 +57,7 @@ loop-reader-init g c =
       events = ap (λ (v : ReaderView). v.events) same;
       ended = ap (λ (v : ReaderView). v.ended) same;
       quiet = refl;
+      first = λ cut is. (ap ahead_of same, empty);
     }
 
 pub returns-in_err-fill-clause-told : goal.returns-in_err-fill-clause-told
@@ -47,6 +72,29 @@ returns-in_err-fill-clause-told g c = λ rest has.
     let begun = fills r r' (s.left c.loop-reader.source) (s.left c.fill.new.source) rest (ap line_of kept) c.fill.ensures.told (inv.told rest has) in
     let plain : cut_at 10 r'.line ≡ None = ap (λ (v : ReaderView). cut_at 10 v.line) kept ∙ inv.plain in
     rw (p.1, p.2, failed.0) (by-read (Unit {0}) c.args.reader.now r' (s.left c.fill.new.source) rest begun plain (omega (arith, inv.short, ap (λ (v : ReaderView). length v.line) kept)) failed.3)
+
+pub returns-in_err-fill-clause-ahead : goal.returns-in_err-fill-clause-ahead
+returns-in_err-fill-clause-ahead g c = λ cut is.
+    let before = c.loop-reader.invariant.first cut is in
+    let still = c.fill.ensures.still (some-ahead c.loop-reader.reader.ahead c.args.reader.now.ahead cut is before.0) in
+    let both = sym c.in_err-fill.was ∙ still.0 in
+    cc
+
+pub returns-in-Newline-clause-ahead : goal.returns-in-Newline-clause-ahead
+returns-in-Newline-clause-ahead g c = λ cut is.
+    let before = c.loop-reader.invariant.first cut is in
+    let still = c.fill.ensures.still (some-ahead c.loop-reader.reader.ahead c.args.reader.now.ahead cut is before.0) in
+    let takes = rw c.in-Newline.is at c.in_ok-take_piece.ensures.takes in
+    let part = same-cut c.args.reader.now.ahead c.fill.new.self.ahead takes.0 c.take_piece.new.self.ahead cut is (ap ahead_of still.1 ∙ before.0) takes.1 takes.2 in
+    let line = takes.3 ∙ (ap (λ (v : ReaderView). v.line ++ takes.0) still.1 ∙ (ap (λ xs. xs ++ takes.0) before.1 ∙ part)) in
+    ends-ahead c.take_piece.new.self c.end_line.new.self cut.0 c.end_line.result c.end_line.ensures.ends line
+
+pub returns-clause-ahead : goal.returns-clause-ahead
+returns-clause-ahead g c = λ cut is.
+    let before = c.loop-reader.invariant.first cut is in
+    let still = c.fill.ensures.still (some-ahead c.loop-reader.reader.ahead c.args.reader.now.ahead cut is before.0) in
+    let both : Ok false ≡ Ok true = sym (c.in_ok-fill.was ∙ ap Ok c.if-branch.false) ∙ still.0 in
+    cc
 
 pub returns-in-Newline-clause-told : goal.returns-in-Newline-clause-told
 returns-in-Newline-clause-told g c = λ rest has.
@@ -88,6 +136,11 @@ loop-reader-preserved g c =
       events = ap (λ (v : ReaderView). v.events) kept' ∙ (ap (λ (v : ReaderView). v.events) kept ∙ inv.events);
       ended = ap (λ (v : ReaderView). v.ended) kept' ∙ ((c.in_ok-fill.ensures.going (ap Ok c.if-branch.true)).1 ∙ inv.ended);
       quiet = c.in_ok-fill.ensures.quiet (λ e. cc) ∙ inv.quiet;
+      first = λ cut is.
+          let before = inv.first cut is in
+          let still = c.fill.ensures.still (some-ahead r.ahead c.args.reader.now.ahead cut is before.0) in
+          let none : Some cut ≡ None = sym is ∙ (ap (cut_at 10) (sym before.0) ∙ (ap (λ (v : ReaderView). cut_at 10 v.ahead) (sym still.1) ∙ takes.1)) in
+          cc;
     }
 
 pub returns-in-TooLong-clause-told : goal.returns-in-TooLong-clause-told

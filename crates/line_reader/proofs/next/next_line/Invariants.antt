@@ -1,4 +1,4 @@
-use Rattle.std.proofs.Common.{◌≡◌, ◌-◌, ◌≤◌, ℕ, List, length, None}
+use Rattle.std.proofs.Common.{◌≡◌, ◌-◌, ◌≤◌, ℕ, List, [], length, None, Some}
 use Rattle.line_reader.specs.Cuts.{cut_at}
 use Rattle.line_reader.specs.Readers.{HasRest}
 use Rattle.line_reader.proofs.Taking.{Begun}
@@ -17,6 +17,7 @@ invariant-loop-reader g l =
       events : l.reader.events ≡ l.fn.reader.events;
       ended : l.reader.ended ≡ l.fn.reader.ended;
       quiet : s.faults l.source ≡ s.faults l.fn.source;
+      first : (cut : List ℕ × List ℕ) → cut_at 10 l.fn.reader.ahead ≡ Some cut → (l.reader.ahead ≡ l.fn.reader.ahead) × (l.reader.line ≡ []);
     }
 
 abbrev pub decreases-loop-reader : goal.decreases-loop-reader

@@ -1,12 +1,13 @@
-use Rattle.std.proofs.Common.{◌≡◌, ◌-◌, ◌≤◌, [], true}
+use Rattle.std.proofs.Common.{◌≡◌, ◌-◌, ◌≤◌, length, true}
+use Rattle.vst_base.specs.declared.step.TheConstants.{MAX_STEPS}
 use Rattle.stacks.specs.Stack.{texts_of}
 use Rattle.schedule_replay.specs.Tallying.{IsOfSteps}
 use Rattle.schedule_replay.proofs.Plays.{Played}
 use Rattle.schedule_replay.proofs.play.play.Given as goal
 
 -- some steps were taken, and what is left of the text goes on from them
-abbrev pub invariant-loop-halt : goal.invariant-loop-halt
-invariant-loop-halt g l =
+abbrev pub invariant-loop-running : goal.invariant-loop-running
+invariant-loop-running g l =
     let r = g.R.Runs in
     let a = g.A.AppText in
     record {
@@ -14,14 +15,14 @@ invariant-loop-halt g l =
       sound : r.sound l.running;
       most : l.reader.most ≡ l.fn.reader.most;
       counted : (r.progress l.running).taken ≤ l.reader.events;
-      empty : (r.progress l.running).trace ≡ [];
+      within : (r.progress l.running).taken ≤ MAX_STEPS;
       played : Played (r.system l.fn.running) r.follows r.progress (texts_of a.input_of a.input_text a.output_of a.output_text a.replies) l.running l.tally l.fn.reader l.reader (g.S.Source.left l.fn.source) (g.S.Source.left l.source) (g.K.Sink.written l.fn.sink) (g.K.Sink.written l.sink);
-      few : IsOfSteps (r.progress l.running).taken l.tally;
+      few : IsOfSteps (r.progress l.running).taken (length (r.progress l.running).trace) l.tally;
       stays : l.fn.reader.ended ≡ true → l.reader.ended ≡ true;
       reads : g.S.Source.faults l.source ≡ g.S.Source.faults l.fn.source;
       writes : g.K.Sink.faults l.sink ≡ g.K.Sink.faults l.fn.sink;
       wants : g.K.Sink.wants l.sink ≡ g.K.Sink.wants l.fn.sink;
     }
 
-abbrev pub decreases-loop-halt : goal.decreases-loop-halt
-decreases-loop-halt g l = l.reader.most - l.reader.number
+abbrev pub decreases-loop-running : goal.decreases-loop-running
+decreases-loop-running g l = l.reader.most - l.reader.number

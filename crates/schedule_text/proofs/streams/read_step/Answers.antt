@@ -1,10 +1,13 @@
-use Rattle.std.proofs.Common.{◌+◌, refl, ap, ◌∙◌, arith}
+use Rattle.std.proofs.Common.{◌≡◌, ◌+◌, Err, refl, ap, ◌∙◌, arith}
+use Rattle.line_reader.specs.Cuts.{cut_at}
+use Rattle.line_reader.specs.declared.fault.LineFault.TheVariants as fault
+use Rattle.schedule_text.specs.Lines.{is_skipped}
 use Rattle.std.proofs.lemmas.Result.{err_from_is_err_and}
 use Rattle.line_reader.specs.Readers.{ReaderView}
 use Rattle.schedule_text.specs.Schedules.{script}
 use Rattle.schedule_text.specs.Reading.{step_of}
 use Rattle.schedule_text.proofs.Skipping.{skipped-none}
-use Rattle.schedule_text.proofs.Streaming.{says-step, step-failed, step-skips, step-refused, step-read, read-counted}
+use Rattle.schedule_text.proofs.Streaming.{not-skips, told-cut, says-step, step-failed, step-skips, step-refused, step-read, read-counted}
 use Rattle.schedule_text.proofs.streams.read_step.Goals as goal
 
 pub loop-reader-init : goal.loop-reader-init
@@ -17,6 +20,7 @@ loop-reader-init g c =
       events = refl;
       stays = λ is. is;
       quiet = refl;
+      first = λ is. refl;
     }
 
 pub returns-in_err-next_line-clause-told : goal.returns-in_err-next_line-clause-told
@@ -27,6 +31,14 @@ returns-in_err-next_line-clause-told g c = λ rest has.
     let y = c.in_err-next_line.field-0.0 in
     rw (p.1, p.2) (step-failed g.A.AppText.input_of c.args.reader.now c.loop-reader.reader c.next_line.new.reader (g.S.Source.left c.loop-reader.source) (g.S.Source.left c.next_line.new.source) rest inv.most s
     (Unit {0}) y _ _ c.in_err-next_line.ensures.fault (c.in_err-next_line.ensures.told s.uses.rest' s.uses.left))
+
+pub returns-in_err-next_line-clause-ahead : goal.returns-in_err-next_line-clause-ahead
+returns-in_err-next_line-clause-ahead g c = λ is.
+    let told = told-cut (cut_at 10 c.args.reader.now.ahead) is in
+    let read = c.next_line.ensures.ahead told.0 (ap (λ (v : ReaderView). cut_at 10 v.ahead) (c.loop-reader.invariant.first is) ∙ told.1) in
+    let p = err_from_is_err_and c.from_residual.result c.from_residual.ensures.1 in
+    let y = c.in_err-next_line.field-0.0 in
+    rw (p.1, p.2) (λ e. let read_failed : y ≡ fault.Read = cc in read.0 (c.in_err-next_line.was ∙ ap Err read_failed))
 
 pub loop-reader-preserved : goal.loop-reader-preserved
 loop-reader-preserved g c =
@@ -45,6 +57,11 @@ loop-reader-preserved g c =
       events = c.next_line.ensures.kept.1 ∙ inv.events;
       stays = λ is. c.next_line.ensures.stays (inv.stays is);
       quiet = c.in_ok-next_line.ensures.quiet (λ e. cc) ∙ inv.quiet;
+      first = λ is.
+          let told = told-cut (cut_at 10 c.args.reader.now.ahead) is in
+          let read = c.next_line.ensures.ahead told.0 (ap (λ (v : ReaderView). cut_at 10 v.ahead) (inv.first is) ∙ told.1) in
+          let line = rw c.in_ok-next_line.was at read.1 in
+          absurd (not-skips f c.args.reader.now.events new.line (ap is_skipped line ∙ told.2) said);
     }
 
 pub count_event-requires : goal.count_event-requires

@@ -1,5 +1,6 @@
 use Rattle.std.proofs.Common.{◌≡◌, ◌-◌, ◌≤◌, ℕ, List, true}
 use Rattle.line_reader.specs.Readers.{HasRest}
+use Rattle.schedule_text.specs.Lines.{tells_next}
 use Rattle.schedule_text.specs.Schedules.{script}
 use Rattle.schedule_text.proofs.Skipping.{Skipped}
 use Rattle.schedule_text.proofs.streams.read_step.Given as goal
@@ -17,6 +18,7 @@ invariant-loop-reader g l =
       events : l.reader.events ≡ l.fn.reader.events;
       stays : l.fn.reader.ended ≡ true → l.reader.ended ≡ true;
       quiet : s.faults l.source ≡ s.faults l.fn.source;
+      first : tells_next l.fn.reader.ahead ≡ true → l.reader ≡ l.fn.reader;
     }
 
 abbrev pub decreases-loop-reader : goal.decreases-loop-reader
