@@ -14,7 +14,7 @@ use check_text::Claim;
 use handler_trait::Handlers;
 use std::alloc::{AllocError, Global};
 use vst_base::{Item, Net, Step};
-use xform_stack::{Itself, Ran, RunFault, run_mapped};
+use xform_stack::{NoImage, Ran, RunFault, run_mapped};
 
 // The verdict on a claim whose image is a schedule, by what the schedule ran to.
 fn verdict_by_run<A: AppText>(
@@ -54,6 +54,6 @@ pub fn schedule_verdict<H: Handlers, A: AppText<Input = H::Input, Output = H::Ou
     requires counted { length claim.now.image ≤ MAX_STEPS }
     ensures { IfOk result (λ verdict. verdict ≡ schedule_verdict A.input_text A.output_text net (H.meaning handlers) claim.now) }
 {
-    let ran = run_mapped::<H, Itself<H::Input>>(alloc, handlers, net, claim.image());
+    let ran = run_mapped::<H, NoImage<H::Input>>(alloc, handlers, net, claim.image());
     verdict_by_run::<A>(alloc, claim, ran)
 }

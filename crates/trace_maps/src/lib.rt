@@ -5,6 +5,7 @@
 mod copy;
 mod image;
 mod itself;
+mod no_image;
 mod repeats;
 mod replied_to;
 mod schedule;
@@ -12,6 +13,7 @@ mod trace_map;
 
 pub use image::Image;
 pub use itself::Itself;
+pub use no_image::NoImage;
 pub use repeats::WithoutRepeats;
 pub use replied_to::RepliedTo;
 pub use schedule::{below_primary_backup, once};

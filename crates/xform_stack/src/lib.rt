@@ -26,4 +26,4 @@ pub use run::{run_bag, run_dup, run_mapped};
 pub use running::{Running, follow_map};
 pub use runs::Runs;
 pub use seqnum_xform::SeqNum;
-pub use trace_maps::{Image, Itself, RepliedTo, TraceMap, WithoutRepeats};
+pub use trace_maps::{Image, Itself, NoImage, RepliedTo, TraceMap, WithoutRepeats};
