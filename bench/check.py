@@ -19,7 +19,7 @@ ORDERS = tuple(count // 10 for count in replay.SIZES)
 def write_replayed(program, room, stack, count, claim):
     """Writes what the program replays of a schedule of so many events."""
     schedule, image = (os.path.join(room, name) for name in ("schedule", "image"))
-    replay.write_schedule(schedule, image, stack, count)
+    replay.write_schedule(schedule, image, count, stack)
     with open(schedule, "rb") as given, open(claim, "wb") as out:
         subprocess.run([program, "replay"], stdin=given, stdout=out, check=True)
 
