@@ -34,7 +34,8 @@ impl<I: Drop, O: Drop, X: Drop> Model for Draft<I, O, X> {
       image = d.image.items;
     } };
 
-    ghost invariant = { λ d. (d.inputs ≤ vec_len d.trace) × (d.stage ≢ Image → length d.image.items ≡ 0) × (d.stage ≡ Trace → is_none d.header ≡ true) };
+    ghost invariant = { λ d. (d.inputs ≤ vec_len d.trace) × (d.stage ≢ Image → length d.image.items ≡ 0)
+        × (d.stage ≡ Trace → is_none d.header ≡ true) };
 }
 
 impl<I: Drop, O: Drop, X: Drop> Draft<I, O, X> {
@@ -75,7 +76,8 @@ impl<I: Drop, O: Drop, X: Drop> Draft<I, O, X> {
 
     /// Adds an item to the trace.
     pub fn add_item(&mut self, item: Item<I, O>) -> Result<(), AllocError>
-        ensures { OnOk result (self.new ≡ record self.old { trace = self.old.trace ++ item ∷ []; inputs = count_item self.old.inputs item }) }
+        ensures { OnOk result (self.new ≡ record self.old { trace = self.old.trace ++ item ∷ []; inputs = count_item self.old.inputs item
+            }) }
     {
         let more = usize::from(matches!(item, Item::Input(_, _)));
         self.trace.push(item)?;

@@ -25,7 +25,8 @@ pub fn read_claim<A: AppText, G: ImageText, S: Source>(
     below: Option<StackId>,
     source: &mut S,
 ) -> Result<Claim<A::Input, A::Output, G::Line>, LineFault>
-    ensures told { IfSome (S.left source.old) (λ bytes. ReadsClaim (form_of nodes A.input_of A.output_of below G.says) (S.left source.new) bytes result) }
+    ensures told { IfSome (S.left source.old) (λ bytes. ReadsClaim (form_of nodes A.input_of A.output_of below G.says) (S.left source.new)
+        bytes result) }
     ensures ahead { IfSome (S.left source.old) (λ bytes. IfErr result (LooksAhead (S.left source.new) bytes)) }
     ensures few { IfOk result (λ claim. length claim.trace + length claim.image ≤ MAX_LINES) }
     ensures headed { IfOk result (λ claim. IsHeaded below claim.header) }

@@ -36,7 +36,8 @@ fn take_trace_line<A: AppText, G: ImageText>(
     ensures takes { IfOk result (TakesLine (form_of nodes A.input_of A.output_of below G.says) draft.old draft.new line.now) }
     ensures grows { OnOk result (lines_of draft.new ≤ lines_of draft.old + 1) }
     ensures counted { length draft.old.image ≤ MAX_STEPS → OnOk result (length draft.new.image ≤ MAX_STEPS) }
-    ensures headed { (draft.old.stage ≡ Stage.Image → IsHeaded below draft.old.header) → OnOk result (draft.new.stage ≡ Stage.Image → IsHeaded below draft.new.header) }
+    ensures headed { (draft.old.stage ≡ Stage.Image → IsHeaded below draft.old.header)
+        → OnOk result (draft.new.stage ≡ Stage.Image → IsHeaded below draft.new.header) }
 {
     match counted_says::<A>(alloc, nodes, draft.inputs(), line)? {
         TraceLine::Below => {
@@ -63,7 +64,8 @@ fn take_header<A: AppText, G: ImageText>(
     ensures takes { TakesLine (form_of nodes A.input_of A.output_of below G.says) draft.old draft.new line.now result }
     ensures grows { lines_of draft.new ≤ lines_of draft.old + 1 }
     ensures counted { length draft.old.image ≤ MAX_STEPS → length draft.new.image ≤ MAX_STEPS }
-    ensures headed { (draft.old.stage ≡ Stage.Image → IsHeaded below draft.old.header) → draft.new.stage ≡ Stage.Image → IsHeaded below draft.new.header }
+    ensures headed { (draft.old.stage ≡ Stage.Image → IsHeaded below draft.old.header) → draft.new.stage ≡ Stage.Image
+        → IsHeaded below draft.new.header }
 {
     match image_header(below, line) {
         Some(header) => {
@@ -86,7 +88,8 @@ fn take_image_line<A: AppText, G: ImageText>(
     ensures takes { IfOk result (TakesLine (form_of nodes A.input_of A.output_of below G.says) draft.old draft.new line.now) }
     ensures grows { OnOk result (lines_of draft.new ≤ lines_of draft.old + 1) }
     ensures counted { length draft.old.image ≤ MAX_STEPS → OnOk result (length draft.new.image ≤ MAX_STEPS) }
-    ensures headed { (draft.old.stage ≡ Stage.Image → IsHeaded below draft.old.header) → OnOk result (draft.new.stage ≡ Stage.Image → IsHeaded below draft.new.header) }
+    ensures headed { (draft.old.stage ≡ Stage.Image → IsHeaded below draft.old.header)
+        → OnOk result (draft.new.stage ≡ Stage.Image → IsHeaded below draft.new.header) }
 {
     match counted_line::<G>(alloc, draft.image_lines(), line)? {
         ImageLine::Says(said) => {
@@ -108,7 +111,8 @@ pub(crate) fn take_line<A: AppText, G: ImageText>(
     ensures takes { IfOk result (TakesLine (form_of nodes A.input_of A.output_of below G.says) draft.old draft.new line.now) }
     ensures grows { OnOk result (lines_of draft.new ≤ lines_of draft.old + 1) }
     ensures counted { length draft.old.image ≤ MAX_STEPS → OnOk result (length draft.new.image ≤ MAX_STEPS) }
-    ensures headed { (draft.old.stage ≡ Stage.Image → IsHeaded below draft.old.header) → OnOk result (draft.new.stage ≡ Stage.Image → IsHeaded below draft.new.header) }
+    ensures headed { (draft.old.stage ≡ Stage.Image → IsHeaded below draft.old.header)
+        → OnOk result (draft.new.stage ≡ Stage.Image → IsHeaded below draft.new.header) }
 {
     match draft.stage() {
         Stage::Trace => take_trace_line::<A, G>(alloc, nodes, below, draft, line),
@@ -139,7 +143,8 @@ pub(crate) fn end_claim<A: AppText, G: ImageText>(
     reader: &Reader,
     fault: LineFault,
 ) -> Result<Claim<A::Input, A::Output, G::Line>, LineFault>
-    ensures ends { (nodes : ℕ) (below : Option SpecId) → EndsBy (form_of nodes A.input_of A.output_of below G.says) draft reader.now.number fault result }
+    ensures ends { (nodes : ℕ) (below : Option SpecId) → EndsBy (form_of nodes A.input_of A.output_of below G.says) draft
+        reader.now.number fault result }
     ensures lines { IfOk result (λ claim. length claim.trace + length claim.image ≡ lines_of draft) }
     ensures image { IfOk result (λ claim. claim.image ≡ draft.image) }
     ensures header { IfOk result (λ claim. (claim.header ≡ draft.header) × (draft.stage ≡ Stage.Image)) }

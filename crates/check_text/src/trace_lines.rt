@@ -108,7 +108,8 @@ fn item_line<A: AppText>(
     nodes: u8,
     line: &[u8],
 ) -> Result<TraceLine<A::Input, A::Output>, AllocError>
-    ensures { IfOk result (λ l. l ≡ item_or_refusal (first_of (item_refusals A.input_of A.output_of nodes line.now)) (item_of A.input_of A.output_of line.now)) }
+    ensures { IfOk result (λ l. l ≡ item_or_refusal (first_of (item_refusals A.input_of A.output_of nodes line.now))
+        (item_of A.input_of A.output_of line.now)) }
 {
     let Some(parts) = item_parts(line) else {
         return Ok(TraceLine::Refused(Why::UnknownWord));

@@ -14,7 +14,8 @@ use stacks::stacks_fit_their_rows;
 /// claim of its trace and its image, and that the image explains the trace is what a check's yes means. On a network that stops nodes
 /// this is said of at most 8,000,000 lines, since a check reads no more.
 pub fn replays_are_permitted()
-    ensures { (bytes : List ℕ) (s : StackId) → stack_in bytes ≡ Some s → (replayed bytes).refused ≡ None → IsWithinLimits s (replayed bytes).out → checked s (replayed bytes).out ≡ Ok Yes }
+    ensures { (bytes : List ℕ) (s : StackId) → stack_in bytes ≡ Some s → (replayed bytes).refused ≡ None
+        → IsWithinLimits s (replayed bytes).out → checked s (replayed bytes).out ≡ Ok Yes }
 {
     headers_follow_the_rows();
     stacks_fit_their_rows();

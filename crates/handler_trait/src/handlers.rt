@@ -112,9 +112,12 @@ pub trait Handlers: Drop {
 
     /// An event sends at most `MAX_SENDS` packets, each to a node that exists, makes at most `MAX_OUTPUTS` outputs, and spends
     /// at most `STEP_COST`.
-    ghost modest_input: { (h : Self) (n : ℕ) (s : Self.State) (i : Self.Input) → n < (meaning h).nodes → IsTrue ((meaning h).takes_input n) → sound h n s → IsModest (meaning h).nodes (sound h n) (spent h) s ((meaning h).input n s i) };
+    ghost modest_input: { (h : Self) (n : ℕ) (s : Self.State) (i : Self.Input) → n < (meaning h).nodes
+        → IsTrue ((meaning h).takes_input n) → sound h n s → IsModest (meaning h).nodes (sound h n) (spent h) s ((meaning h).input n s i) };
 
-    ghost modest_message: { (h : Self) (n : ℕ) (s : Self.State) (from : ℕ) (m : Self.Msg) → n < (meaning h).nodes → from < (meaning h).nodes → sound h n s → IsModest (meaning h).nodes (sound h n) (spent h) s ((meaning h).message n s from m) };
+    ghost modest_message: { (h : Self) (n : ℕ) (s : Self.State) (from : ℕ) (m : Self.Msg) → n < (meaning h).nodes
+        → from < (meaning h).nodes → sound h n s → IsModest (meaning h).nodes (sound h n) (spent h) s ((meaning h).message n s from m) };
 
-    ghost modest_timeout: { (h : Self) (n : ℕ) (s : Self.State) → n < (meaning h).nodes → sound h n s → IsModest (meaning h).nodes (sound h n) (spent h) s ((meaning h).timeout n s) };
+    ghost modest_timeout: { (h : Self) (n : ℕ) (s : Self.State) → n < (meaning h).nodes → sound h n s
+        → IsModest (meaning h).nodes (sound h n) (spent h) s ((meaning h).timeout n s) };
 }

@@ -30,5 +30,6 @@ pub trait Rebootable: Handlers {
         ensures sound { IfOk result (λ state. Self.sound self.now node state) };
 
     /// Nothing is spent after a reboot.
-    ghost rebooted_fresh: { (h : Self) (n : ℕ) (k : Self.Kept) → n < (Self.meaning h).nodes → fits h k → Self.spent h ((recovery h).reboot n k) ≡ 0 };
+    ghost rebooted_fresh: { (h : Self) (n : ℕ) (k : Self.Kept) → n < (Self.meaning h).nodes → fits h k
+        → Self.spent h ((recovery h).reboot n k) ≡ 0 };
 }

@@ -12,7 +12,8 @@ use outside::Source;
 /// greatest once it was read. A line that a failed read breaks off is given up. A read failed only where `Read` is
 /// answered, and never where the newline of the line was read ahead.
 pub fn next_line<S: Source>(reader: &mut Reader, source: &mut S) -> Result<(), LineFault>
-    ensures told { (rest : List ℕ) → HasRest reader.old (S.left source.old) rest → ReadsLine reader.old reader.new (S.left source.new) rest result }
+    ensures told { (rest : List ℕ) → HasRest reader.old (S.left source.old) rest
+        → ReadsLine reader.old reader.new (S.left source.new) rest result }
     ensures ahead { (cut : List ℕ × List ℕ) → cut_at 10 reader.old.ahead ≡ Some cut
         → (result ≢ Err LineFault.Read) × OnOk result (reader.new.line ≡ cut.0) }
     ensures number { OnOk result ((reader.new.number ≡ reader.old.number + 1) × (reader.new.number ≤ reader.new.most)) }

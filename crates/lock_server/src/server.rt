@@ -105,7 +105,8 @@ impl Handlers for LockServer {
         requires from { from < (lock_server self.now).nodes }
         requires sound { IsSound self.now node state.old }
         requires room { MAX_SENDS ≤ effects.old.send_places }
-        ensures does { OnOk result (Does ((lock_server self.now).message node state.old from message.now) state.new effects.old effects.new) }
+        ensures does { OnOk result (Does ((lock_server self.now).message node state.old from message.now) state.new effects.old
+            effects.new) }
         ensures sound { OnOk result (IsSound self.now node state.new) }
         // Where a place for an output is left, a client takes no memory.
         ensures client_succeeds { IsClient state.old → 0 < effects.old.output_places → IsOk result }

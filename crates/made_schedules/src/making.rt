@@ -63,7 +63,8 @@ fn write_schedule<K: Sink>(
 ) -> Result<(), LineFault>
     requires sends { (row_of stack).net ≢ net.One }
     requires few { steps ≤ MAX_STEPS }
-    ensures { WritesText (made_text stack seed steps) (K.written sink.old) (K.written sink.new) (K.faults sink.old) (K.faults sink.new) (K.wants sink.old) (K.wants sink.new) result }
+    ensures { WritesText (made_text stack seed steps) (K.written sink.old) (K.written sink.new) (K.faults sink.old) (K.faults sink.new)
+        (K.wants sink.old) (K.wants sink.new) result }
 {
     let header = made_header(stack);
     let line = header_line(alloc, header)?;

@@ -37,7 +37,8 @@ fn write_steps<
     requires sound { R.sound making.old.running }
     requires nodes { (R.system making.old.running).meaning.nodes ≤ MAX_NODES }
     requires few { steps ≤ MAX_STEPS }
-    requires allowed { first_refused (R.system making.old.running).net (R.system making.old.running).meaning (R.system making.old.running).recovery
+    requires allowed { first_refused (R.system making.old.running).net (R.system making.old.running).meaning
+        (R.system making.old.running).recovery
         (made_of (R.system making.old.running) T.inputs seed steps) ≡ None }
     ensures ok { OnOk result (Gained (K.written sink.old) (K.written sink.new)
         (steps_text A.input_text (made_of (R.system making.old.running) T.inputs seed steps))) }
@@ -69,7 +70,8 @@ impl<K: Sink> OnStack<K, (), ()> for Steps {
 
     ghost ready = { λ s a _ _ _. (s.steps ≤ MAX_STEPS) × (a.stack.play.refused (a.stack.made s.seed s.steps) ≡ None) };
 
-    ghost Does = { λ s a k _ _ k' _ _ result. WritesText (step_lines a.stack s.seed s.steps) (K.written k) (K.written k') (K.faults k) (K.faults k') (K.wants k) (K.wants k') result };
+    ghost Does = { λ s a k _ _ k' _ _ result. WritesText (step_lines a.stack s.seed s.steps) (K.written k) (K.written k') (K.faults k)
+        (K.faults k') (K.wants k) (K.wants k') result };
 
     fn on<S: StackCode>(
         self,

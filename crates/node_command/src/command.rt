@@ -55,19 +55,24 @@ pub fn run_node<S: Source, O: Sink, E: Sink, D: Device>(
         D.Device device.old device.new) }
     ensures done { result ≡ 0 → IsDone words.now (node_ran (ran S.Source O.Sink E.Sink input.old input.new out.old out.new err.old err.new)
         D.Device device.old device.new) }
-    ensures refused { result ≡ 3 → IsConfigRefused words.now (node_ran (ran S.Source O.Sink E.Sink input.old input.new out.old out.new err.old err.new)
+    ensures refused { result ≡ 3 → IsConfigRefused words.now (node_ran
+        (ran S.Source O.Sink E.Sink input.old input.new out.old out.new err.old err.new)
         D.Device device.old device.new) }
     ensures read { result ≡ 4 → EndsBy words.now (node_ran (ran S.Source O.Sink E.Sink input.old input.new out.old out.new err.old err.new)
         D.Device device.old device.new) trouble.Read }
-    ensures write { result ≡ 5 → HasWriteFailed words.now (node_ran (ran S.Source O.Sink E.Sink input.old input.new out.old out.new err.old err.new)
+    ensures write { result ≡ 5 → HasWriteFailed words.now (node_ran
+        (ran S.Source O.Sink E.Sink input.old input.new out.old out.new err.old err.new)
         D.Device device.old device.new) }
-    ensures listening { result ≡ 6 → HasListeningFailed words.now (node_ran (ran S.Source O.Sink E.Sink input.old input.new out.old out.new err.old err.new)
+    ensures listening { result ≡ 6 → HasListeningFailed words.now
+        (node_ran (ran S.Source O.Sink E.Sink input.old input.new out.old out.new err.old err.new)
         D.Device device.old device.new) }
     ensures store { result ≡ 7 → EndsBy words.now (node_ran (ran S.Source O.Sink E.Sink input.old input.new out.old out.new err.old err.new)
         D.Device device.old device.new) (trouble.Ended fault.Store) }
-    ensures memory { result ≡ 8 → IsOutOfMemory words.now (node_ran (ran S.Source O.Sink E.Sink input.old input.new out.old out.new err.old err.new)
+    ensures memory { result ≡ 8 → IsOutOfMemory words.now (node_ran
+        (ran S.Source O.Sink E.Sink input.old input.new out.old out.new err.old err.new)
         D.Device device.old device.new) }
-    ensures areas { result ≡ 9 → AreAreasRefused words.now (node_ran (ran S.Source O.Sink E.Sink input.old input.new out.old out.new err.old err.new)
+    ensures areas { result ≡ 9 → AreAreasRefused words.now (node_ran
+        (ran S.Source O.Sink E.Sink input.old input.new out.old out.new err.old err.new)
         D.Device device.old device.new) }
     ensures counts { KeepsCounts (ran S.Source O.Sink E.Sink input.old input.new out.old out.new err.old err.new) }
 {

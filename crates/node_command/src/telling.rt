@@ -30,7 +30,8 @@ fn say_made<E: Sink>(err: &mut E, line: Result<Vec<u8>, AllocError>, status: u8)
 
 // Says on the error stream by what a node ended.
 fn tell_fault<E: Sink>(alloc: Global, err: &mut E, fault: NodeFault) -> u8
-    ensures told { Tells (status_of (trouble.Ended fault)) (line_of (trouble.Ended fault)) (sink_seen E.Sink err.old) (sink_seen E.Sink err.new) result }
+    ensures told { Tells (status_of (trouble.Ended fault)) (line_of (trouble.Ended fault)) (sink_seen E.Sink err.old)
+        (sink_seen E.Sink err.new) result }
     ensures counts { E.faults err.old ≤ E.faults err.new }
 {
     match fault {
@@ -62,7 +63,8 @@ pub(crate) fn tell_turns<O: Sink, E: Sink>(
     out: &mut O,
     err: &mut E,
 ) -> u8
-    ensures told { TellsTurns turns (sink_seen O.Sink out.old) (sink_seen O.Sink out.new) (sink_seen E.Sink err.old) (sink_seen E.Sink err.new) result }
+    ensures told { TellsTurns turns (sink_seen O.Sink out.old) (sink_seen O.Sink out.new) (sink_seen E.Sink err.old)
+        (sink_seen E.Sink err.new) result }
     ensures writes { O.faults out.old ≤ O.faults out.new }
     ensures counts { E.faults err.old ≤ E.faults err.new }
 {

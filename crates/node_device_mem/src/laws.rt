@@ -8,7 +8,8 @@ ghost use Rattle.node_device_mem.specs.Devices.{AreasFollow};
 /// What comes of calls that do to the areas just what they stand for in the record.
 pub fn areas_follow_the_acts()
     // The areas stay as the acts left them.
-    ensures stay { (first : Disk) (old new : Option Told) (acts : List Act) → AreasFollow first old → Did old new acts → AreasFollow first new }
+    ensures stay { (first : Disk) (old new : Option Told) (acts : List Act) → AreasFollow first old → Did old new acts
+        → AreasFollow first new }
 
     // Then the image of all acts by the word 1 is what a read gives.
     ensures read { (first : Disk) (told : Told) → AreasFollow first (Some told) → image_by_word first told.acts 1 ≡ contents told.disk }

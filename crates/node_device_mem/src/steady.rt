@@ -287,7 +287,8 @@ impl Device for SteadyDevice {
     fn write_at(&mut self, area: u8, at: u64, bytes: &[u8]) -> Stored
         requires begun { self.old.begun ≡ true }
         requires area { area < 3 }
-        ensures outcome { Stores (WriteAt area at bytes.now) (Wrote area at bytes.now) (steady_told self.old) (steady_told self.new) result }
+        ensures outcome { Stores (WriteAt area at bytes.now) (Wrote area at bytes.now) (steady_told self.old) (steady_told self.new)
+            result }
         ensures others { OthersStay area (steady_told self.old) (steady_told self.new) }
         ensures begun { self.new.begun ≡ true }
         ensures causes { StoreCounts no_faults no_faults result }

@@ -18,8 +18,10 @@ pub enum WriteFault {
 pub fn write_all<K: Sink>(sink: &mut K, bytes: &[u8]) -> Result<(), WriteFault>
     ensures ok { OnOk result (Gained (K.written sink.old) (K.written sink.new) bytes.now) }
     ensures err { OnErr result (GainedFront (K.written sink.old) (K.written sink.new) bytes.now) }
-    ensures failed { IsErrOf result WriteFault.Failed → Rose (K.faults sink.old) (K.faults sink.new) × (K.wants sink.new ≡ K.wants sink.old) }
-    ensures memory { IsErrOf result WriteFault.Memory → (K.faults sink.new ≡ K.faults sink.old) × Rose (K.wants sink.old) (K.wants sink.new) }
+    ensures failed { IsErrOf result WriteFault.Failed → Rose (K.faults sink.old) (K.faults sink.new)
+        × (K.wants sink.new ≡ K.wants sink.old) }
+    ensures memory { IsErrOf result WriteFault.Memory → (K.faults sink.new ≡ K.faults sink.old)
+        × Rose (K.wants sink.old) (K.wants sink.new) }
     ensures quiet { OnOk result ((K.faults sink.new ≡ K.faults sink.old) × (K.wants sink.new ≡ K.wants sink.old)) }
     ensures counts { K.faults sink.old ≤ K.faults sink.new }
     ensures wants { K.wants sink.old ≤ K.wants sink.new }

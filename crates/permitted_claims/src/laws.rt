@@ -24,7 +24,8 @@ pub fn stacks_are_spelled()
 /// explain. Nothing is asked of the text.
 pub fn permitted_claims_are_explained()
     ensures explained { (stack : StackId) → (bytes : List ℕ) → (checked stack bytes ≡ Ok Yes) ↔ IsPermitted stack bytes }
-    ensures refuted { (stack : StackId) → (bytes : List ℕ) (condition line : ℕ) → checked stack bytes ≡ Ok (No condition line) → IsNotPermitted stack bytes }
+    ensures refuted { (stack : StackId) → (bytes : List ℕ) (condition line : ℕ) → checked stack bytes ≡ Ok (No condition line)
+        → IsNotPermitted stack bytes }
 {
     stacks_have_one_word();
     headers_follow_the_rows();

@@ -18,5 +18,6 @@ pub fn one_machine_explains<M: Machine>()
         → IsExplainedBy m (trace (primary_backup m) (no_recovery {S = Backed M.State M.Cmd}) ss) }
     ensures following { (m : MachineMeaning M.State M.Cmd M.Out) (ss : List (Step M.Cmd))
         → IsAllowed Net.Bag (primary_backup m) (no_recovery {S = Backed M.State M.Cmd}) ss
-        → AreFollowing m (trace (primary_backup m) (no_recovery {S = Backed M.State M.Cmd}) ss) (run (primary_backup m) (no_recovery {S = Backed M.State M.Cmd}) ss).state }
+        → AreFollowing m (trace (primary_backup m) (no_recovery {S = Backed M.State M.Cmd}) ss)
+        (run (primary_backup m) (no_recovery {S = Backed M.State M.Cmd}) ss).state }
 {}

@@ -17,7 +17,8 @@ use vst_base::Machine;
 pub fn the_log_decides<C>()
     ensures at_the_places { (es : List (Entry C)) → map (slice_get es) (executed_places es) ≡ map Some (executed_entries es) }
     ensures by_their_entries { (es : List (Entry C)) → requests (executed_entries es) ≡ executed (requests es) }
-    ensures a_beginning_stays { (earlier later : List (RaftInput C)) → executed (earlier ++ later) ≡ executed earlier ++ executed_after Some earlier later }
+    ensures a_beginning_stays { (earlier later : List (RaftInput C))
+        → executed (earlier ++ later) ≡ executed earlier ++ executed_after Some earlier later }
     ensures its_entries_stay { (earlier later : List (Entry C))
         → executed_entries (earlier ++ later) ≡ executed_entries earlier ++ executed_after request_of (requests earlier) later }
     ensures numbers_rise { (rs : List (RaftInput C)) → AllPairs (λ a b. a.client ≡ b.client → a.request < b.request) (executed rs) }

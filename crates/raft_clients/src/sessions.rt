@@ -68,7 +68,8 @@ impl Sessions<()> {
     /// one from now on. It takes no memory where it is not new, and an `Err` changes nothing.
     pub fn note(&mut self, client: ClientId, request: ReqId) -> Result<bool, AllocError>
         ensures answer { IfOk result (λ new. new ≡ is_new (map.get self.old client) request) }
-        ensures noted { IfOk result (λ new. self.new ≡ (if new then map.insert self.old client (record { request = request; output = tt }) else self.old)) }
+        ensures noted { IfOk result (λ new. self.new ≡ (if new then map.insert self.old client (record { request = request; output = tt })
+            else self.old)) }
         ensures known { is_new (map.get self.old client) request ≡ false → IsOk result }
         ensures err { OnErr result (self.new ≡ self.old) }
     {

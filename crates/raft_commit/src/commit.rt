@@ -24,7 +24,8 @@ fn held(peers: &[Peer], me: Node, len: u32) -> u32
     requires { me < length peers.now }
     ensures most { IsTrue (is_majority (length peers.now) (committing.holders me (matched_of peers.now) result)) }
     ensures in_the_log { result ≤ len }
-    ensures greatest { (k : ℕ) → result < k → k ≤ len → IsFalse (is_majority (length peers.now) (committing.holders me (matched_of peers.now) k)) }
+    ensures greatest { (k : ℕ) → result < k → k ≤ len → IsFalse
+        (is_majority (length peers.now) (committing.holders me (matched_of peers.now) k)) }
 {
     if is_held(peers, me, len) {
         return len;
@@ -52,8 +53,10 @@ pub fn advance<C>(entries: &[Entry<C>], peers: &[Peer], me: Node, term: u64, com
     ensures commit { result ≡ committing.advance (length peers.now) me (matched_of peers.now) entries.now term commit (length entries.now) }
     ensures not_back { commit ≤ result }
     ensures in_the_log { result ≤ length entries.now }
-    ensures allowed { commit < result → IsTrue (committing.may_commit (length peers.now) me (matched_of peers.now) entries.now term commit result) }
-    ensures greatest { (k : ℕ) → result < k → k ≤ length entries.now → IsFalse (committing.may_commit (length peers.now) me (matched_of peers.now) entries.now term commit k) }
+    ensures allowed { commit < result → IsTrue (committing.may_commit (length peers.now) me (matched_of peers.now) entries.now term commit
+        result) }
+    ensures greatest { (k : ℕ) → result < k → k ≤ length entries.now
+        → IsFalse (committing.may_commit (length peers.now) me (matched_of peers.now) entries.now term commit k) }
 {
     let mut index = held(peers, me, entries.len() as u32);
     while index > commit && entries[index as usize - 1].term() != term {

@@ -101,7 +101,8 @@ pub(crate) fn settle<M: Machine>(
     requires me { me < length state.old.peers }
     requires applied { state.old.applied ≤ state.old.commit }
     requires committed { state.old.commit ≤ length state.old.log }
-    ensures does { OnOk result (Does (settled (M.meaning machine.now) (length state.old.peers) me state.old) state.new effects.old effects.new) }
+    ensures does { OnOk result (Does (settled (M.meaning machine.now) (length state.old.peers) me state.old) state.new effects.old
+        effects.new) }
     ensures room { OnOk result (effects.new.send_places ≡ effects.old.send_places) }
 {
     let term = state.ballot.term();

@@ -100,7 +100,8 @@ pub(crate) fn on_vote<M: Machine>(
     requires sound { IsSoundNode seat.nodes seat.me state.old }
     requires from { from < seat.nodes }
     requires room { seat.nodes ≤ effects.old.send_places + 1 }
-    ensures { OnOk result (Does (rules.on_vote (M.meaning machine.now) seat.nodes seat.me state.old from vote.now) state.new effects.old effects.new) }
+    ensures { OnOk result (Does (rules.on_vote (M.meaning machine.now) seat.nodes seat.me state.old from vote.now) state.new effects.old
+        effects.new) }
 {
     if !(state.role.is_candidate() && vote.term() == state.ballot.term() && vote.granted()) {
         return Ok(());

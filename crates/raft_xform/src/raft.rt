@@ -209,7 +209,8 @@ impl<M: Machine> Handlers for Raft<M> {
 
     ghost modest_input = { λ r n s i below takes sound. laws.modest_input r.nodes (M.meaning r.machine) n s i sound };
 
-    ghost modest_message = { λ r n s from m below from_below sound. laws.modest_message r.nodes (M.meaning r.machine) n s from m from_below sound };
+    ghost modest_message = { λ r n s from m below from_below sound. laws.modest_message r.nodes (M.meaning r.machine) n s from m
+        from_below sound };
 
     ghost modest_timeout = { λ r n s below sound. laws.modest_timeout r.nodes (M.meaning r.machine) n s sound };
 }

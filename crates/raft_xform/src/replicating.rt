@@ -53,7 +53,8 @@ pub(crate) fn on_input<M: Machine>(
 ) -> Result<(), AllocError>
     requires sound { IsSoundNode seat.nodes seat.me state.old }
     requires room { seat.nodes ≤ effects.old.send_places + 1 }
-    ensures { OnOk result (Does (rules.on_input (M.meaning machine.now) seat.nodes seat.me state.old input.now) state.new effects.old effects.new) }
+    ensures { OnOk result (Does (rules.on_input (M.meaning machine.now) seat.nodes seat.me state.old input.now) state.new effects.old
+        effects.new) }
 {
     let client = input.client;
     let request = input.request;
@@ -99,7 +100,8 @@ pub(crate) fn on_append<M: Machine>(
     requires committed { state.old.commit ≤ length state.old.log }
     requires term { IsElectionTerm state.old.ballot.term }
     requires room { 0 < effects.old.send_places }
-    ensures does { OnOk result (Does (rules.on_append (M.meaning machine.now) me state.old from append.now) state.new effects.old effects.new) }
+    ensures does { OnOk result (Does (rules.on_append (M.meaning machine.now) me state.old from append.now) state.new effects.old
+        effects.new) }
     // It is so of every message, by its type.
     ensures in_range { IsIndex (rules.last_new append.now) }
 {
@@ -200,7 +202,8 @@ pub(crate) fn on_appended<M: Machine>(
     requires sound { IsSoundNode seat.nodes seat.me state.old }
     requires from { from < seat.nodes }
     requires room { 0 < effects.old.send_places }
-    ensures { OnOk result (Does (rules.on_appended (M.meaning machine.now) seat.nodes seat.me state.old from appended.now) state.new effects.old effects.new) }
+    ensures { OnOk result (Does (rules.on_appended (M.meaning machine.now) seat.nodes seat.me state.old from appended.now) state.new
+        effects.old effects.new) }
 {
     if !(state.role.is_leader() && appended.term() == state.ballot.term()) {
         return Ok(());

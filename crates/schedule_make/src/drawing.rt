@@ -46,7 +46,8 @@ fn nodes_that<R: Explores>(
     kind: StepKind,
 ) -> Result<Vec<u32>, AllocError>
     ensures { IfOk result (λ found. (ss : List (SpecStep R.Input)) → R.follows running.now ss
-        → found.items ≡ nodes_that (R.system running.now).meaning (may_act (R.system running.now).meaning (world_of (R.system running.now) ss) kind)) }
+        → found.items ≡ nodes_that (R.system running.now).meaning
+        (may_act (R.system running.now).meaning (world_of (R.system running.now) ss) kind)) }
 {
     let nodes = running.nodes();
     let mut found = Vec::new(alloc);
@@ -98,7 +99,8 @@ fn candidate<R: Explores>(
     kind: StepKind,
     number: u32,
 ) -> Result<Option<u32>, AllocError>
-    ensures { IfOk result (λ found. (ss : List (SpecStep R.Input)) → R.follows running.now ss → KnowsFlights flights.now (world_of (R.system running.now) ss)
+    ensures { IfOk result (λ found. (ss : List (SpecStep R.Input)) → R.follows running.now ss
+        → KnowsFlights flights.now (world_of (R.system running.now) ss)
         → found ≡ picked (candidates (R.system running.now).meaning (world_of (R.system running.now) ss) kind) number) }
 {
     match kind {
@@ -119,7 +121,8 @@ fn offered<R: Explores>(
     kind: StepKind,
     number: u32,
 ) -> Result<Option<u32>, AllocError>
-    ensures { IfOk result (λ found. (ss : List (SpecStep R.Input)) → R.follows running.now ss → KnowsFlights flights.now (world_of (R.system running.now) ss)
+    ensures { IfOk result (λ found. (ss : List (SpecStep R.Input)) → R.follows running.now ss
+        → KnowsFlights flights.now (world_of (R.system running.now) ss)
         → found ≡ offered (R.system running.now).net (R.system running.now).meaning (world_of (R.system running.now) ss) kind number) }
 {
     if !running.net().has(kind) {
@@ -137,9 +140,11 @@ pub(crate) fn settled<R: Explores>(
     drawn: StepKind,
     number: u32,
 ) -> Result<(StepKind, u32), AllocError>
-    ensures kind { IfOk result (λ step. (ss : List (SpecStep R.Input)) → R.follows running.now ss → KnowsFlights flights.now (world_of (R.system running.now) ss)
+    ensures kind { IfOk result (λ step. (ss : List (SpecStep R.Input)) → R.follows running.now ss
+        → KnowsFlights flights.now (world_of (R.system running.now) ss)
         → step.0 ≡ made_kind (R.system running.now).net (R.system running.now).meaning (world_of (R.system running.now) ss) drawn) }
-    ensures chosen { IfOk result (λ step. (ss : List (SpecStep R.Input)) → R.follows running.now ss → KnowsFlights flights.now (world_of (R.system running.now) ss)
+    ensures chosen { IfOk result (λ step. (ss : List (SpecStep R.Input)) → R.follows running.now ss
+        → KnowsFlights flights.now (world_of (R.system running.now) ss)
         → step.1 ≡ chosen (candidates (R.system running.now).meaning (world_of (R.system running.now) ss) step.0) number) }
 {
     if let Some(at) = offered(alloc, running, flights, drawn, number)? {

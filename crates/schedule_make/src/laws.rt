@@ -12,6 +12,7 @@ use vst_base::Net;
 pub fn made_schedules_are_allowed<S: Drop, K: Drop, I: Drop, O: Drop, M: Drop>()
     ensures steps { (net : Net) (m : Meaning S I O M) (r : Recovery S K) (inputs : Inputs I) (seed steps : ℕ)
         → length (made net m r inputs seed steps) ≡ steps }
-    ensures allowed { (net : Net) (m : Meaning S I O M) (r : Recovery S K) (inputs : Inputs I) (seed steps : ℕ) → net ≢ Net.One → 0 < m.nodes
+    ensures allowed { (net : Net) (m : Meaning S I O M) (r : Recovery S K) (inputs : Inputs I) (seed steps : ℕ) → net ≢ Net.One
+        → 0 < m.nodes
         → IsAllowed net m r (made net m r inputs seed steps) }
 {}

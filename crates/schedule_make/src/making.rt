@@ -75,9 +75,11 @@ impl<R: Explores> Making<R> {
         requires few { (R.progress self.old.running).taken < MAX_STEPS }
         requires nodes { (R.system self.old.running).meaning.nodes ≤ MAX_NODES }
         requires allowed { CanStep (R.system self.old.running) R.follows R.progress T.inputs self.old }
-        ensures made { IfOk result (λ step. (ss : List (SpecStep R.Input)) → HasMade (R.system self.old.running) R.follows R.progress ss self.old
+        ensures made { IfOk result (λ step. (ss : List (SpecStep R.Input))
+            → HasMade (R.system self.old.running) R.follows R.progress ss self.old
             → step ≡ step_after (R.system self.old.running) T.inputs ss self.old.random) }
-        ensures next { IfOk result (λ step. (ss : List (SpecStep R.Input)) → HasMade (R.system self.old.running) R.follows R.progress ss self.old
+        ensures next { IfOk result (λ step. (ss : List (SpecStep R.Input))
+            → HasMade (R.system self.old.running) R.follows R.progress ss self.old
             → HasMade (R.system self.old.running) R.follows R.progress (ss ++ step ∷ []) self.new) }
         ensures random { OnOk result (self.new.random ≡ after_words self.old.random) }
         ensures system { OnOk result (R.system self.new.running ≡ R.system self.old.running) }
@@ -98,7 +100,8 @@ impl<R: Explores> Making<R> {
 
     // The next step.
     fn next_step<T: MakesInputs<Input = R::Input>>(&mut self) -> Result<Step<R::Input>, AllocError>
-        ensures made { IfOk result (λ step. (ss : List (SpecStep R.Input)) → HasMade (R.system self.old.running) R.follows R.progress ss self.old
+        ensures made { IfOk result (λ step. (ss : List (SpecStep R.Input))
+            → HasMade (R.system self.old.running) R.follows R.progress ss self.old
             → step ≡ step_after (R.system self.old.running) T.inputs ss self.old.random) }
         ensures rest { self.new ≡ record self.old { random = after_words self.old.random } }
     {
@@ -158,7 +161,8 @@ impl<R: Explores> Making<R> {
             → AreInFlightFrom before (world_of (R.system self.old.running) ss).packets
             → self.old.flights.packets ≡ take before (flights_of (world_of (R.system self.old.running) ss).packets)
             → self.new.flights.packets ≡ flights_of (world_of (R.system self.old.running) ss).packets) }
-        ensures within { OnOk result (list_all is_within self.old.flights.packets ≡ true → list_all is_within self.new.flights.packets ≡ true) }
+        ensures within { OnOk result (list_all is_within self.old.flights.packets ≡ true
+            → list_all is_within self.new.flights.packets ≡ true) }
         ensures up { self.new.flights.up ≡ self.old.flights.up }
         ensures running { self.new.running ≡ self.old.running }
         ensures random { self.new.random ≡ self.old.random }

@@ -33,10 +33,14 @@ pub(crate) fn play<R: Runs, A: AppText<Input = R::Input, Output = R::Output>, S:
     requires sound { R.sound running.old }
     requires started { HasRun (R.system running.old) R.follows R.progress [] [] running.old }
     requires tally { tally.old ≡ record { inputs = 0; outputs = 0; replies = 0 } }
-    ensures halted { IfOk result (λ halt. (i : ImageTexts R.Line) → Halted (R.system running.old) R.follows R.progress (texts_of A.input_of A.input_text A.output_of A.output_text A.replies) i
-        running.new tally.new reader.old reader.new (S.left source.old) (S.left source.new) (K.written sink.old) (K.written sink.new) halt) }
-    ensures front { IfErr result (λ _. (i : ImageTexts R.Line) (rest : List ℕ) → HasRest reader.old (S.left source.old) rest → GainedFront (K.written sink.old) (K.written sink.new)
-        (replayed_script (play_of (R.system running.old) (texts_of A.input_of A.input_text A.output_of A.output_text A.replies) i) true (script reader.old.most A.input_of (reader.old.number + 1) reader.old.events (lines_of rest))).out) }
+    ensures halted { IfOk result (λ halt. (i : ImageTexts R.Line)
+        → Halted (R.system running.old) R.follows R.progress (texts_of A.input_of A.input_text A.output_of A.output_text A.replies) i
+        running.new tally.new reader.old reader.new (S.left source.old) (S.left source.new) (K.written sink.old) (K.written sink.new)
+        halt) }
+    ensures front { IfErr result (λ _. (i : ImageTexts R.Line) (rest : List ℕ) → HasRest reader.old (S.left source.old) rest
+        → GainedFront (K.written sink.old) (K.written sink.new)
+        (replayed_script (play_of (R.system running.old) (texts_of A.input_of A.input_text A.output_of A.output_text A.replies) i) true
+        (script reader.old.most A.input_of (reader.old.number + 1) reader.old.events (lines_of rest))).out) }
     ensures fault { IfErr result (HasWriteCause (K.faults sink.old) (K.faults sink.new)) }
     ensures read { result ≡ Ok Halt.Read → Rose (S.faults source.old) (S.faults source.new) }
     ensures going { result ≡ Ok Halt.Read → reader.old.ended ≡ false }

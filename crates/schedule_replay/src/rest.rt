@@ -37,10 +37,13 @@ pub(crate) fn replay_rest<
     requires started { HasRun (R.system running) R.follows R.progress [] [] running }
     requires sound { R.sound running }
     ensures told { (says : List ℕ → ImageLine L) (rest : List ℕ) → HasRest reader.old (S.left source.old) rest
-        → ComesTo (stack_whole (play_of (R.system running) (texts_of A.input_of A.input_text A.output_of A.output_text A.replies) (image_of below L.text says)) reader.old)
-        (stack_so_far (play_of (R.system running) (texts_of A.input_of A.input_text A.output_of A.output_text A.replies) (image_of below L.text says)) reader.old)
+        → ComesTo (stack_whole (play_of (R.system running) (texts_of A.input_of A.input_text A.output_of A.output_text A.replies)
+        (image_of below L.text says)) reader.old)
+        (stack_so_far (play_of (R.system running) (texts_of A.input_of A.input_text A.output_of A.output_text A.replies)
+        (image_of below L.text says)) reader.old)
         reader.old.number rest (S.left source.new) (K.written sink.old) (K.written sink.new) result }
-    ensures fault { IfErr result (HasCause reader.old.ended (S.faults source.old) (S.faults source.new) (K.faults sink.old) (K.faults sink.new)) }
+    ensures fault { IfErr result (HasCause reader.old.ended (S.faults source.old) (S.faults source.new) (K.faults sink.old)
+        (K.faults sink.new)) }
     ensures reads_quiet { result ≢ Err ReplayFault.Read → S.faults source.new ≡ S.faults source.old }
     ensures quiet { KeepsSink (K.faults sink.old) (K.faults sink.new) (K.wants sink.old) (K.wants sink.new) result }
     ensures reads { S.faults source.old ≤ S.faults source.new }

@@ -21,7 +21,8 @@ impl<S: Source, K: Sink> OnStack<Reader, S, K> for Replaying {
 
     ghost ready = { λ _ _ _ _ _. Unit {0} };
 
-    ghost Does = { λ _ a r s k r' s' k' result. ReplaysRest a.stack.play r (S.left s) (S.left s') (S.faults s) (S.faults s') (K.written k) (K.written k') (K.faults k) (K.faults k') (K.wants k) (K.wants k') result };
+    ghost Does = { λ _ a r s k r' s' k' result. ReplaysRest a.stack.play r (S.left s) (S.left s') (S.faults s) (S.faults s') (K.written k)
+        (K.written k') (K.faults k) (K.faults k') (K.wants k) (K.wants k') result };
 
     fn on<C: StackCode>(
         self,
@@ -47,7 +48,8 @@ pub fn replay<S: Source, K: Sink>(
     source: &mut S,
     sink: &mut K,
 ) -> Result<Done, ReplayFault>
-    ensures told { IfSome (S.left source.old) (λ bytes. ComesTo replayed replayed_so_far 0 bytes (S.left source.new) (K.written sink.old) (K.written sink.new) result) }
+    ensures told { IfSome (S.left source.old) (λ bytes. ComesTo replayed replayed_so_far 0 bytes (S.left source.new) (K.written sink.old)
+        (K.written sink.new) result) }
     ensures fault { IfErr result (HasFault (S.faults source.old) (S.faults source.new) (K.faults sink.old) (K.faults sink.new)) }
     ensures reads_quiet { result ≢ Err ReplayFault.Read → S.faults source.new ≡ S.faults source.old }
     ensures quiet { KeepsSink (K.faults sink.old) (K.faults sink.new) (K.wants sink.old) (K.wants sink.new) result }

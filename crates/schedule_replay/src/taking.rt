@@ -43,8 +43,10 @@ pub(crate) fn take_step<R: Runs, A: AppText<Input = R::Input, Output = R::Output
 ) -> Result<Option<Halt>, AllocError>
     requires sound { R.sound running.old }
     requires counted { (R.progress running.old).taken ≤ reader.old.events }
-    ensures took { IfOk result (λ answer. (ss : List (Step R.Input)) (gone : List (Item R.Input R.Output)) → HasRun (R.system running.old) R.follows R.progress ss gone running.old
-        → TookStep (R.system running.old) R.follows R.progress A.input_of running.new ss gone reader.old reader.new (S.left source.old) (S.left source.new) answer) }
+    ensures took { IfOk result (λ answer. (ss : List (Step R.Input)) (gone : List (Item R.Input R.Output))
+        → HasRun (R.system running.old) R.follows R.progress ss gone running.old
+        → TookStep (R.system running.old) R.follows R.progress A.input_of running.new ss gone reader.old reader.new (S.left source.old)
+        (S.left source.new) answer) }
     ensures system { R.system running.new ≡ R.system running.old }
     ensures taken { result ≡ Ok None → (R.progress running.new).taken ≡ (R.progress running.old).taken + 1 }
     ensures few { result ≡ Ok None → (R.progress running.new).taken ≤ MAX_STEPS }

@@ -25,7 +25,8 @@ pub(crate) fn write_trace<R: Runs, A: AppText<Input = R::Input, Output = R::Outp
         running.old running.new tally.old tally.new (K.written sink.old) (K.written sink.new)) }
     ensures system { OnOk result (R.system running.new ≡ R.system running.old) }
     ensures sound { OnOk result (R.sound running.old → R.sound running.new) }
-    ensures err { OnErr result (GainedFront (K.written sink.old) (K.written sink.new) (trace_text A.input_text A.output_text (R.progress running.old).trace)) }
+    ensures err { OnErr result (GainedFront (K.written sink.old) (K.written sink.new)
+        (trace_text A.input_text A.output_text (R.progress running.old).trace)) }
     ensures fault { IfErr result (HasWriteCause (K.faults sink.old) (K.faults sink.new)) }
     ensures unfailed { IsErrOf result LineFault.Memory → K.faults sink.new ≡ K.faults sink.old }
     ensures unwanted { IsErrOf result LineFault.Write → K.wants sink.new ≡ K.wants sink.old }
@@ -57,7 +58,8 @@ pub(crate) fn write_before_reading<
         running.old running.new tally.old tally.new (K.written sink.old) (K.written sink.new)) }
     ensures system { OnOk result (R.system running.new ≡ R.system running.old) }
     ensures sound { OnOk result (R.sound running.old → R.sound running.new) }
-    ensures err { OnErr result (GainedFront (K.written sink.old) (K.written sink.new) (trace_text A.input_text A.output_text (R.progress running.old).trace)) }
+    ensures err { OnErr result (GainedFront (K.written sink.old) (K.written sink.new)
+        (trace_text A.input_text A.output_text (R.progress running.old).trace)) }
     ensures fault { IfErr result (HasWriteCause (K.faults sink.old) (K.faults sink.new)) }
     ensures unfailed { IsErrOf result LineFault.Memory → K.faults sink.new ≡ K.faults sink.old }
     ensures unwanted { IsErrOf result LineFault.Write → K.wants sink.new ≡ K.wants sink.old }

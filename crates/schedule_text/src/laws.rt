@@ -25,8 +25,10 @@ pub fn numbers_have_one_spelling()
 /// printed has. The text of steps is a line for each, and within the limits these lines are read as the steps.
 pub fn steps_read_back<A: AppText>()
     ensures step { (s : Step A.Input) → IsSpellable A.is_input s → step_of A.input_of (step_text A.input_text s) ≡ Some s }
-    ensures lines { (ss : List (Step A.Input)) → AreSpellable A.is_input A.input_text ss → lines_of (steps_text A.input_text ss) ≡ map (λ s. step_text A.input_text s) ss }
-    ensures script { (most n e : ℕ) (ss : List (Step A.Input)) → AreSpellable A.is_input A.input_text ss → n + length ss ≤ most + 1 → e + length ss ≤ MAX_STEPS
+    ensures lines { (ss : List (Step A.Input)) → AreSpellable A.is_input A.input_text ss
+        → lines_of (steps_text A.input_text ss) ≡ map (λ s. step_text A.input_text s) ss }
+    ensures script { (most n e : ℕ) (ss : List (Step A.Input)) → AreSpellable A.is_input A.input_text ss → n + length ss ≤ most + 1
+        → e + length ss ≤ MAX_STEPS
         → script most A.input_of n e (lines_of (steps_text A.input_text ss)) ≡ record { steps = numbered_steps n ss; fault = None } }
 {}
 

@@ -30,7 +30,8 @@ fn header_fault(reader: &Reader, fault: LineFault) -> LineFault
 /// Reads the header: the first line that is not skipped. A text without one is refused at the line after its last, so
 /// `End` never comes.
 pub fn read_header<S: Source>(reader: &mut Reader, source: &mut S) -> Result<Header, LineFault>
-    ensures told { (rest : List ℕ) → HasRest reader.old (S.left source.old) rest → ReadsHeader reader.old reader.new (S.left source.new) rest result }
+    ensures told { (rest : List ℕ) → HasRest reader.old (S.left source.old) rest
+        → ReadsHeader reader.old reader.new (S.left source.new) rest result }
     ensures header { IfOk result (λ h. header_of reader.new.line ≡ Some h) }
     ensures number { OnOk result ((reader.old.number < reader.new.number) × (reader.new.number ≤ reader.new.most)) }
     ensures headed { result ≢ Err LineFault.End }
@@ -61,11 +62,13 @@ pub fn read_step<A: AppText, S: Source>(
     reader: &mut Reader,
     source: &mut S,
 ) -> Result<Step<A::Input>, LineFault>
-    ensures told { (rest : List ℕ) → HasRest reader.old (S.left source.old) rest → ReadsStep A.input_of reader.old reader.new (S.left source.new) rest result }
+    ensures told { (rest : List ℕ) → HasRest reader.old (S.left source.old) rest
+        → ReadsStep A.input_of reader.old reader.new (S.left source.new) rest result }
     ensures ahead { tells_next reader.old.ahead ≡ true → result ≢ Err LineFault.Read }
     ensures step { IfOk result (λ s. step_of A.input_of reader.new.line ≡ Some s) }
     ensures number { OnOk result ((reader.old.number < reader.new.number) × (reader.new.number ≤ reader.new.most)) }
-    ensures events { OnOk result ((reader.new.events ≡ reader.old.events + 1) × (reader.new.events ≤ MAX_STEPS)) × OnErr result (reader.new.events ≡ reader.old.events) }
+    ensures events { OnOk result ((reader.new.events ≡ reader.old.events + 1) × (reader.new.events ≤ MAX_STEPS))
+        × OnErr result (reader.new.events ≡ reader.old.events) }
     ensures kept { reader.new.most ≡ reader.old.most }
     ensures stays { reader.old.ended ≡ true → reader.new.ended ≡ true }
     ensures fault { IfErr result (HasReadCause reader.old (S.faults source.old) (S.faults source.new)) }

@@ -14,7 +14,8 @@ use vst_base::Net;
 /// of `H` alone.
 pub fn repeats_do_nothing<H: Handlers>()
     ensures allowed { (m : Meaning H.State H.Input H.Output H.Msg) (ss : List (Step H.Input))
-        → IsAllowed Net.Dup (sequence_numbered m) (no_recovery {S = Numbered H.State}) ss → IsAllowed Net.Bag m (no_recovery {S = H.State}) (once ss) }
+        → IsAllowed Net.Dup (sequence_numbered m) (no_recovery {S = Numbered H.State}) ss
+        → IsAllowed Net.Bag m (no_recovery {S = H.State}) (once ss) }
     ensures same_trace { (m : Meaning H.State H.Input H.Output H.Msg) (ss : List (Step H.Input))
         → IsAllowed Net.Dup (sequence_numbered m) (no_recovery {S = Numbered H.State}) ss
         → trace (sequence_numbered m) (no_recovery {S = Numbered H.State}) ss ≡ trace m (no_recovery {S = H.State}) (once ss) }

@@ -97,7 +97,8 @@ impl<H: Handlers> Handlers for SeqNum<H> {
         requires sound { numbered_sound H.sound self.now node state.old }
         requires budget { numbered_spent H.spent self.now state.old + STEP_COST ≤ SPENT_MAX }
         requires room { MAX_SENDS ≤ effects.old.send_places }
-        ensures does { OnOk result (Does ((sequence_numbered (H.meaning self.now)).message node state.old from message.now) state.new effects.old effects.new) }
+        ensures does { OnOk result (Does ((sequence_numbered (H.meaning self.now)).message node state.old from message.now) state.new
+            effects.old effects.new) }
         ensures sound { OnOk result (numbered_sound H.sound self.now node state.new) }
         // A message with a number that was seen takes no memory.
         ensures repeat_succeeds { IsTrue (has_seen state.old.seen from message.now.number) → IsOk result }

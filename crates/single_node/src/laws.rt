@@ -12,9 +12,11 @@ use vst_base::{Machine, Net};
 /// its output, and these outputs are the machine's over the commands. Such a network takes any commands. It holds of every machine over the types of `M`, and not of the meaning of `M`
 /// alone.
 pub fn is_the_machine<M: Machine>()
-    ensures trace { (m : MachineMeaning M.State M.Cmd M.Out) (ss : List (Step M.Cmd)) → IsAllowed Net.One (single_node m) (no_recovery {S = M.State}) ss
+    ensures trace { (m : MachineMeaning M.State M.Cmd M.Out) (ss : List (Step M.Cmd))
+        → IsAllowed Net.One (single_node m) (no_recovery {S = M.State}) ss
         → trace (single_node m) (no_recovery {S = M.State}) ss ≡ machine_trace m (commands ss) }
     ensures outputs { (m : MachineMeaning M.State M.Cmd M.Out) (cs : List M.Cmd) → outputs_in (machine_trace m cs) ≡ fold m cs }
-    ensures allowed { (m : MachineMeaning M.State M.Cmd M.Out) (cs : List M.Cmd) → IsAllowed Net.One (single_node m) (no_recovery {S = M.State}) (alone cs) }
+    ensures allowed { (m : MachineMeaning M.State M.Cmd M.Out) (cs : List M.Cmd)
+        → IsAllowed Net.One (single_node m) (no_recovery {S = M.State}) (alone cs) }
     ensures all_of_them { (cs : List M.Cmd) → commands (alone cs) ≡ cs }
 {}

@@ -89,7 +89,8 @@ impl<M: Application> StackCode for Alone<M> {
 
     type Running = Running<SingleNode<M>, Itself<M::Cmd>>;
 
-    ghost stack = { λ _. (by_itself M.own (M.meaning M.machine) (texts_of M.Text.input_of M.Text.input_text M.Text.output_of M.Text.output_text M.Text.replies) M.Inputs.inputs).stack };
+    ghost stack = { λ _. (by_itself M.own (M.meaning M.machine)
+        (texts_of M.Text.input_of M.Text.input_text M.Text.output_of M.Text.output_text M.Text.replies) M.Inputs.inputs).stack };
 
     ghost Explains = { IsMachineAlone (M.meaning M.machine) };
 
@@ -131,7 +132,8 @@ where
 
     type Running = RunningInBytes<PrimaryBackup<M>, RepliedTo<M::Cmd>>;
 
-    ghost stack = { λ _. (backed M.own (M.meaning M.machine) (texts_of M.Text.input_of M.Text.input_text M.Text.output_of M.Text.output_text M.Text.replies) M.Inputs.inputs).stack };
+    ghost stack = { λ _. (backed M.own (M.meaning M.machine) (texts_of M.Text.input_of M.Text.input_text M.Text.output_of
+        M.Text.output_text M.Text.replies) M.Inputs.inputs).stack };
 
     ghost Explains = { IsOneMachine (M.meaning M.machine) };
 
@@ -172,7 +174,8 @@ where
 
     type Running = RunningInBytes<SeqNum<PrimaryBackup<M>>, RepliedTo<M::Cmd>>;
 
-    ghost stack = { λ _. (backed_numbered M.own (M.meaning M.machine) (texts_of M.Text.input_of M.Text.input_text M.Text.output_of M.Text.output_text M.Text.replies) M.Inputs.inputs).stack };
+    ghost stack = { λ _. (backed_numbered M.own (M.meaning M.machine)
+        (texts_of M.Text.input_of M.Text.input_text M.Text.output_of M.Text.output_text M.Text.replies) M.Inputs.inputs).stack };
 
     ghost Explains = { IsOneMachine (M.meaning M.machine) };
 
@@ -214,7 +217,8 @@ where
 
     type Running = ClusterInBytes<M>;
 
-    ghost stack = { λ n. (clustered (M.meaning M.machine) (texts_of M.Text.input_of M.Text.input_text M.Text.output_of M.Text.output_text M.Text.replies) M.Inputs.inputs n).stack };
+    ghost stack = { λ n. (clustered (M.meaning M.machine) (texts_of M.Text.input_of M.Text.input_text M.Text.output_of M.Text.output_text
+        M.Text.replies) M.Inputs.inputs n).stack };
 
     ghost Explains = { λ c. IsLinearizable (M.meaning M.machine) c.image c.trace };
 

@@ -108,9 +108,11 @@ impl<H: OwnStack + OnWire> StackCode for Plain<H> {
 
     type Running = RunningInBytes<H, Itself<H::Input>>;
 
-    ghost stack = { λ n. (plain H.own (λ k. H.meaning (H.of_nodes k)) (texts_of H.Text.input_of H.Text.input_text H.Text.output_of H.Text.output_text H.Text.replies) H.Inputs.inputs n).stack };
+    ghost stack = { λ n. (plain H.own (λ k. H.meaning (H.of_nodes k))
+        (texts_of H.Text.input_of H.Text.input_text H.Text.output_of H.Text.output_text H.Text.replies) H.Inputs.inputs n).stack };
 
-    ghost Explains = { IsItsRun H.own (λ k. H.meaning (H.of_nodes k)) (texts_of H.Text.input_of H.Text.input_text H.Text.output_of H.Text.output_text H.Text.replies) };
+    ghost Explains = { IsItsRun H.own (λ k. H.meaning (H.of_nodes k))
+        (texts_of H.Text.input_of H.Text.input_text H.Text.output_of H.Text.output_text H.Text.replies) };
 
     ghost ready = { λ n. ((row_of H.own).least ≤ n) × (n ≤ (row_of H.own).most) };
 
@@ -146,9 +148,11 @@ impl<H: OwnStack + OnWireNumbered> StackCode for Numbered<H> {
 
     type Running = RunningInBytes<SeqNum<H>, WithoutRepeats<H::Input>>;
 
-    ghost stack = { λ n. (numbered H.own (λ k. H.meaning (H.of_nodes k)) (texts_of H.Text.input_of H.Text.input_text H.Text.output_of H.Text.output_text H.Text.replies) H.Inputs.inputs n).stack };
+    ghost stack = { λ n. (numbered H.own (λ k. H.meaning (H.of_nodes k))
+        (texts_of H.Text.input_of H.Text.input_text H.Text.output_of H.Text.output_text H.Text.replies) H.Inputs.inputs n).stack };
 
-    ghost Explains = { IsItsRun H.own (λ k. H.meaning (H.of_nodes k)) (texts_of H.Text.input_of H.Text.input_text H.Text.output_of H.Text.output_text H.Text.replies) };
+    ghost Explains = { IsItsRun H.own (λ k. H.meaning (H.of_nodes k))
+        (texts_of H.Text.input_of H.Text.input_text H.Text.output_of H.Text.output_text H.Text.replies) };
 
     ghost ready = { λ n. ((row_of H.own).least ≤ n) × (n ≤ (row_of H.own).most) };
 

@@ -28,10 +28,14 @@ pub fn run_command<S: Source, O: Sink, E: Sink>(
     ensures done { result ≡ 0 → IsDone (Some command) (ran S.Source O.Sink E.Sink input.old input.new out.old out.new err.old err.new) }
     ensures denied { result ≡ 1 → IsDenied (Some command) (ran S.Source O.Sink E.Sink input.old input.new out.old out.new err.old err.new) }
     ensures words { result ≢ 2 }
-    ensures refused { result ≡ 3 → IsLineRefused (Some command) (ran S.Source O.Sink E.Sink input.old input.new out.old out.new err.old err.new) }
-    ensures read { result ≡ 4 → HasReadFailed (Some command) (ran S.Source O.Sink E.Sink input.old input.new out.old out.new err.old err.new) }
-    ensures write { result ≡ 5 → HasWriteFailed (Some command) (ran S.Source O.Sink E.Sink input.old input.new out.old out.new err.old err.new) }
-    ensures memory { result ≡ 8 → IsOutOfMemory (Some command) (ran S.Source O.Sink E.Sink input.old input.new out.old out.new err.old err.new) }
+    ensures refused { result ≡ 3 → IsLineRefused (Some command)
+        (ran S.Source O.Sink E.Sink input.old input.new out.old out.new err.old err.new) }
+    ensures read { result ≡ 4 → HasReadFailed (Some command) (ran S.Source O.Sink E.Sink input.old input.new out.old out.new err.old
+        err.new) }
+    ensures write { result ≡ 5 → HasWriteFailed (Some command)
+        (ran S.Source O.Sink E.Sink input.old input.new out.old out.new err.old err.new) }
+    ensures memory { result ≡ 8 → IsOutOfMemory (Some command)
+        (ran S.Source O.Sink E.Sink input.old input.new out.old out.new err.old err.new) }
     ensures unread { OnFalse (reads (Some command)) (input.new ≡ input.old) }
     ensures counts { KeepsCounts (ran S.Source O.Sink E.Sink input.old input.new out.old out.new err.old err.new) }
 {

@@ -28,29 +28,39 @@ pub fn run<S: Source, O: Sink, E: Sink, D: Device>(
     device: &mut D,
 ) -> u8
     ensures status { IsStatus result }
-    ensures complete { IsComplete (asked words.now) (node_ran (ran S.Source O.Sink E.Sink input.old input.new out.old out.new err.old err.new)
+    ensures complete { IsComplete (asked words.now) (node_ran
+        (ran S.Source O.Sink E.Sink input.old input.new out.old out.new err.old err.new)
         D.Device device.old device.new) result }
     ensures ran { HasRun (asked words.now) (node_ran (ran S.Source O.Sink E.Sink input.old input.new out.old out.new err.old err.new)
         D.Device device.old device.new) }
-    ensures done { result ≡ 0 → IsDone (asked words.now) (node_ran (ran S.Source O.Sink E.Sink input.old input.new out.old out.new err.old err.new)
+    ensures done { result ≡ 0 → IsDone (asked words.now) (node_ran
+        (ran S.Source O.Sink E.Sink input.old input.new out.old out.new err.old err.new)
         D.Device device.old device.new) }
-    ensures denied { result ≡ 1 → IsDenied (asked words.now) (node_ran (ran S.Source O.Sink E.Sink input.old input.new out.old out.new err.old err.new)
+    ensures denied { result ≡ 1 → IsDenied (asked words.now) (node_ran
+        (ran S.Source O.Sink E.Sink input.old input.new out.old out.new err.old err.new)
         D.Device device.old device.new) }
     ensures words { result ≡ 2 → AreWordsRefused (map string_bytes words.now)
         (ran S.Source O.Sink E.Sink input.old input.new out.old out.new err.old err.new) }
-    ensures refused { result ≡ 3 → IsInputRefused (asked words.now) (node_ran (ran S.Source O.Sink E.Sink input.old input.new out.old out.new err.old err.new)
+    ensures refused { result ≡ 3 → IsInputRefused (asked words.now)
+        (node_ran (ran S.Source O.Sink E.Sink input.old input.new out.old out.new err.old err.new)
         D.Device device.old device.new) }
-    ensures read { result ≡ 4 → HasReadFailed (asked words.now) (node_ran (ran S.Source O.Sink E.Sink input.old input.new out.old out.new err.old err.new)
+    ensures read { result ≡ 4 → HasReadFailed (asked words.now)
+        (node_ran (ran S.Source O.Sink E.Sink input.old input.new out.old out.new err.old err.new)
         D.Device device.old device.new) }
-    ensures write { result ≡ 5 → HasWriteFailed (asked words.now) (node_ran (ran S.Source O.Sink E.Sink input.old input.new out.old out.new err.old err.new)
+    ensures write { result ≡ 5 → HasWriteFailed (asked words.now)
+        (node_ran (ran S.Source O.Sink E.Sink input.old input.new out.old out.new err.old err.new)
         D.Device device.old device.new) }
-    ensures listening { result ≡ 6 → HasListeningFailed (asked words.now) (node_ran (ran S.Source O.Sink E.Sink input.old input.new out.old out.new err.old err.new)
+    ensures listening { result ≡ 6 → HasListeningFailed (asked words.now)
+        (node_ran (ran S.Source O.Sink E.Sink input.old input.new out.old out.new err.old err.new)
         D.Device device.old device.new) }
-    ensures store { result ≡ 7 → HasStoreFailed (asked words.now) (node_ran (ran S.Source O.Sink E.Sink input.old input.new out.old out.new err.old err.new)
+    ensures store { result ≡ 7 → HasStoreFailed (asked words.now)
+        (node_ran (ran S.Source O.Sink E.Sink input.old input.new out.old out.new err.old err.new)
         D.Device device.old device.new) }
-    ensures memory { result ≡ 8 → IsOutOfMemory (asked words.now) (node_ran (ran S.Source O.Sink E.Sink input.old input.new out.old out.new err.old err.new)
+    ensures memory { result ≡ 8 → IsOutOfMemory (asked words.now)
+        (node_ran (ran S.Source O.Sink E.Sink input.old input.new out.old out.new err.old err.new)
         D.Device device.old device.new) }
-    ensures areas { result ≡ 9 → AreAreasRefused (asked words.now) (node_ran (ran S.Source O.Sink E.Sink input.old input.new out.old out.new err.old err.new)
+    ensures areas { result ≡ 9 → AreAreasRefused (asked words.now)
+        (node_ran (ran S.Source O.Sink E.Sink input.old input.new out.old out.new err.old err.new)
         D.Device device.old device.new) }
     ensures unread { By (asked words.now) (λ command. OnFalse (reads command) (input.new ≡ input.old)) (λ w. Unit {0}) }
     ensures unwritten { asked words.now ≡ None → out.new ≡ out.old }

@@ -35,7 +35,8 @@ impl<I> Model for WithoutRepeats<I> {
 // Whether a step is a repeat where these packets were delivered. A packet that it delivers is noted.
 fn is_repeat<I>(delivered: &mut NumberSet, step: &Step<I>) -> Result<bool, AllocError>
     ensures repeat { IfOk result (λ answer. answer ≡ is_repeat (λ k. set.contains delivered.old k) step.now) }
-    ensures delivered { OnOk result ((k : ℕ) → set.contains delivered.new k ≡ delivered_after (λ j. set.contains delivered.old j) step.now k) }
+    ensures delivered { OnOk result ((k : ℕ) → set.contains delivered.new k ≡ delivered_after (λ j. set.contains delivered.old j) step.now
+        k) }
 {
     match step {
         Step::Dup(_) => Ok(true),

@@ -35,9 +35,11 @@ pub trait TraceMap<H: Handlers>: Drop {
 
     /// The image so far.
     fn steps(&self) -> &[Step<H::Input>]
-        ensures { (m : Meaning H.State H.Input H.Output H.Msg) (ss : List (Step H.Input)) → has_followed self.now m ss → result.now ≡ image_of m ss };
+        ensures { (m : Meaning H.State H.Input H.Output H.Msg) (ss : List (Step H.Input)) → has_followed self.now m ss
+            → result.now ≡ image_of m ss };
 
     /// Gives up the map for the image.
     fn into_image(self) -> Image<Step<H::Input>>
-        ensures { (m : Meaning H.State H.Input H.Output H.Msg) (ss : List (Step H.Input)) → has_followed self m ss → result ≡ image_of m ss };
+        ensures { (m : Meaning H.State H.Input H.Output H.Msg) (ss : List (Step H.Input)) → has_followed self m ss
+            → result ≡ image_of m ss };
 }

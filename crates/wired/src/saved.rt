@@ -144,5 +144,6 @@ impl<H: Saves> Rebootable for Saved<H> {
         Ok(SeatState { me: node, inner })
     }
 
-    ghost rebooted_fresh = { λ w n bytes below fits. rebooted_fresh H.meaning H.sound H.spent H.recovery H.fits H.saving H.fresh H.rebooted_fresh H.found_fits w n bytes below };
+    ghost rebooted_fresh = { λ w n bytes below fits. rebooted_fresh H.meaning H.sound H.spent H.recovery H.fits H.saving H.fresh
+        H.rebooted_fresh H.found_fits w n bytes below };
 }

@@ -23,7 +23,8 @@ pub fn run_one<M: Machine>(
     ensures allowed { OnOk result (first_refused Net.One (single_node (M.meaning machine)) no_recovery steps.now ≡ None) }
     ensures trace { IfOk result (λ ran. ran.trace ≡ machine_trace (M.meaning machine) (commands steps.now)) }
     ensures image { IfOk result (λ ran. ran.image ≡ steps.now) }
-    ensures refused { IfErr result (λ why. IsRunRefusal why (first_refused Net.One (single_node (M.meaning machine)) no_recovery steps.now)) }
+    ensures refused { IfErr result (λ why. IsRunRefusal why (first_refused Net.One (single_node (M.meaning machine)) no_recovery
+        steps.now)) }
 {
     is_the_machine::<M>();
     run_mapped::<SingleNode<M>, Itself<M::Cmd>>(alloc, SingleNode::new(machine), Net::One, steps)

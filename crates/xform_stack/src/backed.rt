@@ -28,7 +28,8 @@ pub fn run_backed<M: Machine>(
     ensures trace { IfOk result (λ ran. ran.trace ≡ trace (primary_backup (M.meaning machine)) no_recovery steps.now) }
     ensures image { IfOk result (λ ran. ran.image ≡ alone (below_pb ran.trace)) }
     ensures explained { IfOk result (λ ran. IsExplainedBy (M.meaning machine) ran.trace) }
-    ensures refused { IfErr result (λ why. IsRunRefusal why (first_refused Net.Bag (primary_backup (M.meaning machine)) no_recovery steps.now)) }
+    ensures refused { IfErr result (λ why. IsRunRefusal why (first_refused Net.Bag (primary_backup (M.meaning machine)) no_recovery
+        steps.now)) }
 {
     one_machine_explains::<M>();
     run_mapped::<PrimaryBackup<M>, RepliedTo<M::Cmd>>(
@@ -47,11 +48,13 @@ pub fn run_backed_dup<M: Machine>(
     steps: &[Step<M::Cmd>],
 ) -> Result<Ran<M::Cmd, PbOut<M::Out>, Step<M::Cmd>>, RunFault>
     requires { length steps.now ≤ MAX_STEPS }
-    ensures allowed { OnOk result (first_refused Net.Dup (sequence_numbered (primary_backup (M.meaning machine))) no_recovery steps.now ≡ None) }
+    ensures allowed { OnOk result (first_refused Net.Dup (sequence_numbered (primary_backup (M.meaning machine))) no_recovery steps.now ≡
+        None) }
     ensures trace { IfOk result (λ ran. ran.trace ≡ trace (sequence_numbered (primary_backup (M.meaning machine))) no_recovery steps.now) }
     ensures image { IfOk result (λ ran. ran.image ≡ alone (below_pb ran.trace)) }
     ensures explained { IfOk result (λ ran. IsExplainedBy (M.meaning machine) ran.trace) }
-    ensures refused { IfErr result (λ why. IsRunRefusal why (first_refused Net.Dup (sequence_numbered (primary_backup (M.meaning machine))) no_recovery steps.now)) }
+    ensures refused { IfErr result (λ why. IsRunRefusal why (first_refused Net.Dup
+        (sequence_numbered (primary_backup (M.meaning machine))) no_recovery steps.now)) }
 {
     one_machine_explains::<M>();
     repeats_do_nothing::<PrimaryBackup<M>>();

@@ -30,7 +30,8 @@ pub fn run_fail<M: Machine>(
     ensures trace { IfOk result (λ ran. ran.trace ≡ seen (M.meaning machine) nodes steps.now) }
     ensures image { IfOk result (λ ran. ran.image ≡ executed_by (M.meaning machine) nodes steps.now) }
     ensures linearizable { IfOk result (λ ran. IsLinearizable (M.meaning machine) ran.image ran.trace) }
-    ensures refused { IfErr result (λ why. IsRunRefusal why (first_refused Net.Fail (raft nodes (M.meaning machine)) (raft_recovery (M.meaning machine)) steps.now)) }
+    ensures refused { IfErr result (λ why. IsRunRefusal why (first_refused Net.Fail (raft nodes (M.meaning machine))
+        (raft_recovery (M.meaning machine)) steps.now)) }
 {
     raft_safety::laws::<M>();
     let Ok(running) = RunningCluster::new(alloc, machine, nodes) else {

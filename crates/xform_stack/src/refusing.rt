@@ -8,7 +8,8 @@ use vst_base::StepRefusal;
 
 /// A world's refusal of the step at this place as a fault of the run.
 pub fn fault_at(why: StepRefusal, place: u32) -> RunFault
-    ensures told { (first : Option StepRefusal) → IsAnswer {A = Unit {0}} (Err why) first → IsRunAnswer {A = Unit {0}} (Err result) first place }
+    ensures told { (first : Option StepRefusal) → IsAnswer {A = Unit {0}} (Err why) first
+        → IsRunAnswer {A = Unit {0}} (Err result) first place }
     ensures refusal { IsRefusal result }
     ensures memory { why ≡ StepRefusal.Memory → result ≡ RunFault.Memory }
 {

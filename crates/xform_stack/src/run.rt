@@ -20,10 +20,12 @@ pub(crate) fn run_on<R: Runs>(
     requires started { HasRun (R.system running) R.follows R.progress [] [] running }
     requires sound { R.sound running }
     requires few { length steps.now ≤ MAX_STEPS }
-    ensures allowed { OnOk result (first_refused (R.system running).net (R.system running).meaning (R.system running).recovery steps.now ≡ None) }
+    ensures allowed { OnOk result (first_refused (R.system running).net (R.system running).meaning (R.system running).recovery steps.now ≡
+        None) }
     ensures trace { IfOk result (λ ran. ran.trace ≡ trace (R.system running).meaning (R.system running).recovery steps.now) }
     ensures image { IfOk result (λ ran. ran.image ≡ (R.system running).image steps.now) }
-    ensures refused { IfErr result (λ why. IsRunRefusal why (first_refused (R.system running).net (R.system running).meaning (R.system running).recovery steps.now)) }
+    ensures refused { IfErr result (λ why. IsRunRefusal why (first_refused (R.system running).net (R.system running).meaning
+        (R.system running).recovery steps.now)) }
 {
     for step in steps {
         running.step(step)?;
@@ -83,7 +85,8 @@ pub fn run_dup<H: Handlers>(
     ensures image { IfOk result (λ ran. ran.image ≡ once steps.now) }
     ensures image_allowed { IfOk result (λ ran. IsAllowed Net.Bag (H.meaning handlers) (no_recovery {S = H.State}) ran.image) }
     ensures same_under_image { IfOk result (λ ran. ran.trace ≡ trace (H.meaning handlers) (no_recovery {S = H.State}) ran.image) }
-    ensures refused { IfErr result (λ why. IsRunRefusal why (first_refused Net.Dup (sequence_numbered (H.meaning handlers)) no_recovery steps.now)) }
+    ensures refused { IfErr result (λ why. IsRunRefusal why (first_refused Net.Dup (sequence_numbered (H.meaning handlers)) no_recovery
+        steps.now)) }
 {
     repeats_do_nothing::<H>();
     run_mapped::<SeqNum<H>, WithoutRepeats<H::Input>>(alloc, SeqNum::new(handlers), Net::Dup, steps)

@@ -43,11 +43,14 @@ pub trait Runs: Drop {
     fn step(&mut self, step: &Step<Self::Input>) -> Result<(), RunFault>
         requires sound { sound self.old }
         requires steps { (progress self.old).taken < MAX_STEPS }
-        ensures refused { (ss : List (Step Self.Input)) (gone : List (Item Self.Input Self.Output)) → HasRun (system self.old) follows progress ss gone self.old
-            → IsRunAnswer result (refusal_of (system self.old).net (system self.old).meaning (run (system self.old).meaning (system self.old).recovery ss) step.now) (length ss) }
+        ensures refused { (ss : List (Step Self.Input)) (gone : List (Item Self.Input Self.Output))
+            → HasRun (system self.old) follows progress ss gone self.old
+            → IsRunAnswer result (refusal_of (system self.old).net (system self.old).meaning
+            (run (system self.old).meaning (system self.old).recovery ss) step.now) (length ss) }
         ensures refusal { IfErr result IsRefusal }
         ensures unchanged { IfErr result (λ why. why ≢ RunFault.Memory → self.new ≡ self.old) }
-        ensures next { OnOk result ((ss : List (Step Self.Input)) (gone : List (Item Self.Input Self.Output)) → HasRun (system self.old) follows progress ss gone self.old
+        ensures next { OnOk result ((ss : List (Step Self.Input)) (gone : List (Item Self.Input Self.Output))
+            → HasRun (system self.old) follows progress ss gone self.old
             → HasRun (system self.old) follows progress (ss ++ step.now ∷ []) gone self.new) }
         ensures system { system self.new ≡ system self.old }
         ensures grows { OnOk result (GrowsBy (length (progress self.old).trace) (length (progress self.new).trace)) }
