@@ -1,6 +1,9 @@
 ghost use Rattle.std.specs.Prelude.{◌≡◌, ◌≢◌, ◌≤◌, [], length, drop};
+ghost use Rattle.line_reader.specs.Cuts.{LastEnds, has_cut};
 ghost use Rattle.line_reader.specs.Filling.{Fills};
 
+use crate::cuts::NEWLINE;
+use memchr::memrchr;
 use outside::{ReadOutcome, Source};
 use std::marker::Model;
 
@@ -10,16 +13,29 @@ pub(crate) struct Ahead {
     buf: [u8; 4_096],
     start: usize,
     end: usize,
+    // where the last newline before `end` ends, used or not; 0 where there is none
+    lines_end: usize,
 }
 
 impl Model for Ahead {
     ghost use Rattle.std.specs.Prelude.{◌≤◌, ℕ, List, take, drop};
+    ghost use Rattle.line_reader.specs.Cuts.{LastEnds};
 
     ghost Value = { List ℕ };
 
     ghost view = { λ a. drop a.start (take a.end a.buf) };
 
-    ghost invariant = { λ a. (a.start ≤ a.end) × (a.end ≤ 4096) };
+    ghost invariant = { λ a. (a.start ≤ a.end) × (a.end ≤ 4096) × LastEnds 10 (take a.end a.buf) a.lines_end };
+}
+
+// Where the last newline of these bytes ends; 0 where there is none.
+fn end_of_lines(bytes: &[u8]) -> usize
+    ensures { LastEnds 10 bytes.now result }
+{
+    match memrchr(NEWLINE, bytes) {
+        Some(place) => place + 1,
+        None => 0,
+    }
 }
 
 impl Ahead {
@@ -31,6 +47,7 @@ impl Ahead {
             buf: [0; 4_096],
             start: 0,
             end: 0,
+            lines_end: 0,
         }
     }
 
@@ -40,6 +57,13 @@ impl Ahead {
         ensures few { length self.now ≤ 4096 }
     {
         &self.buf[self.start..self.end]
+    }
+
+    /// Whether a newline is among them.
+    pub fn has_newline(&self) -> bool
+        ensures { result ≡ has_cut 10 self.now }
+    {
+        self.start < self.lines_end
     }
 
     /// Uses so many of them.
@@ -56,6 +80,7 @@ impl Ahead {
     {
         self.start = 0;
         self.end = 0;
+        self.lines_end = 0;
     }
 
     /// Reads further bytes in place of those that there are.
@@ -67,9 +92,11 @@ impl Ahead {
     {
         self.start = 0;
         self.end = 0;
+        self.lines_end = 0;
         let outcome = source.read(&mut self.buf);
         if let ReadOutcome::Got(count) = outcome {
             self.end = count;
+            self.lines_end = end_of_lines(&self.buf[..count]);
         }
         outcome
     }

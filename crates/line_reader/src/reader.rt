@@ -1,4 +1,5 @@
 ghost use Rattle.std.specs.Prelude.{◌≡◌, ◌≢◌, ◌+◌, ◌-◌, ◌≤◌, ◌<◌, ◌^◌, ℕ, List, [], ◌++◌, false, true, length, drop, IfOk, IfErr, OnOk, Ok, Err};
+ghost use Rattle.line_reader.specs.Cuts.{has_cut};
 ghost use Rattle.line_reader.specs.Outcomes.{CannotRead, EndsLine, TakesPiece};
 ghost use Rattle.line_reader.specs.Readers.{HasRest, fresh};
 
@@ -105,6 +106,13 @@ impl Reader {
         ensures { result.now ≡ self.now.ahead }
     {
         self.ahead.bytes()
+    }
+
+    /// Whether the newline of the next line was read ahead.
+    pub fn is_line_ahead(&self) -> bool
+        ensures { result ≡ has_cut 10 self.now.ahead }
+    {
+        self.ahead.has_newline()
     }
 
     /// How many events were counted.

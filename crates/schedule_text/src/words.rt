@@ -35,14 +35,15 @@ fn is_numeral(bytes: &[u8]) -> bool
 fn value_of(digits: &[u8], most: u64) -> Option<u64>
     ensures { SomeIff result (value_from 0 digits.now ≤ most) (value_from 0 digits.now) }
 {
-    let mut value = 0u128;
+    let mut value = 0u64;
     for digit in digits {
-        value = 10 * value + u128::from(digit.saturating_sub(b'0'));
-        if value > u128::from(most) {
+        let digit = u64::from(digit.saturating_sub(b'0'));
+        value = value.checked_mul(10)?.checked_add(digit)?;
+        if value > most {
             return None;
         }
     }
-    Some(value as u64)
+    Some(value)
 }
 
 /// The number that bytes spell: digits without a sign or a leading zero, at most this one.
@@ -86,21 +87,14 @@ pub fn word_of(kind: StepKind) -> &'static [u8]
 pub(crate) fn kind_named(word: &[u8]) -> Option<StepKind>
     ensures { result ≡ kind_named word.now }
 {
-    if word == word_of(StepKind::In) {
-        Some(StepKind::In)
-    } else if word == word_of(StepKind::Deliver) {
-        Some(StepKind::Deliver)
-    } else if word == word_of(StepKind::Tick) {
-        Some(StepKind::Tick)
-    } else if word == word_of(StepKind::Dup) {
-        Some(StepKind::Dup)
-    } else if word == word_of(StepKind::Lose) {
-        Some(StepKind::Lose)
-    } else if word == word_of(StepKind::Crash) {
-        Some(StepKind::Crash)
-    } else if word == word_of(StepKind::Reboot) {
-        Some(StepKind::Reboot)
-    } else {
-        None
+    match word {
+        b"in" => Some(StepKind::In),
+        b"deliver" => Some(StepKind::Deliver),
+        b"tick" => Some(StepKind::Tick),
+        b"dup" => Some(StepKind::Dup),
+        b"lose" => Some(StepKind::Lose),
+        b"crash" => Some(StepKind::Crash),
+        b"reboot" => Some(StepKind::Reboot),
+        _ => None,
     }
 }
