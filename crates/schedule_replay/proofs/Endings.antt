@@ -75,7 +75,7 @@ module _ {R S K I O M G : Type 0} (sys : System S K I O M G) (follows : R → Li
           short = by.1.short;
           taken = ap (λ (r : Replayed). r.refused) same;
           written = subst (λ (r : Replayed). Gained out mid r.out) (sym same) before.written;
-          front = written-front sys follows progress t i v a.steps a.gone a.ran true (script old.most t.input_of (old.number + 1) old.events (lines_of rest)) (a.front rest has) out mid tally a.written;
+          front = written-front a.ran t i (script old.most t.input_of (old.number + 1) old.events (lines_of rest)) (a.front rest has) a.written;
         }
 
     pub rest-refused : (line : ℕ) (why : Why) → Halted sys follows progress t i v tally old new left left' out mid (halt.Refused line why)

@@ -10,13 +10,18 @@ abbrev pub invariant-loop-running : goal.invariant-loop-running
 invariant-loop-running g l =
     let r = g.R.Runs in
     let a = g.A.AppText in
+    let left = g.S.Source.left in
+    let written = g.K.Sink.written in
+    let fn = l.fn in
     record {
       system : r.system l.running ≡ r.system l.fn.running;
       sound : r.sound l.running;
       most : l.reader.most ≡ l.fn.reader.most;
       counted : (r.progress l.running).taken ≤ l.reader.events;
       within : (r.progress l.running).taken ≤ MAX_STEPS;
-      played : Played (r.system l.fn.running) r.follows r.progress (texts_of a.input_of a.input_text a.output_of a.output_text a.replies) l.running l.tally l.fn.reader l.reader (g.S.Source.left l.fn.source) (g.S.Source.left l.source) (g.K.Sink.written l.fn.sink) (g.K.Sink.written l.sink);
+      played : Played (r.system l.fn.running) r.follows r.progress (texts_of a.input_of a.input_text a.output_of a.output_text a.replies)
+          (record { running = fn.running; tally = fn.tally; reader = fn.reader; left = left fn.source; written = written fn.sink })
+          (record { running = l.running; tally = l.tally; reader = l.reader; left = left l.source; written = written l.sink });
       few : IsOfSteps (r.progress l.running).taken (length (r.progress l.running).trace) l.tally;
       stays : l.fn.reader.ended ≡ true → l.reader.ended ≡ true;
       reads : g.S.Source.faults l.source ≡ g.S.Source.faults l.fn.source;
