@@ -6,3 +6,4 @@ pub mod Playing
 pub mod Finishing
 pub mod Faults
 pub mod Outcomes
+pub mod Examples

@@ -1,7 +1,11 @@
-ghost use Rattle.std.specs.Prelude.{◌≡◌, ℕ, List, [], Some, None, codes};
+ghost use Rattle.std.specs.Prelude.{◌≡◌, ℕ, true, false, List, [], Option, Some, None, codes};
 ghost use Rattle.schedule_replay.specs.Explained.{IsReplay};
 ghost use Rattle.line_reader.specs.declared.why.Why.TheVariants.{Header, NoCopy, NodeDown, NodeUp, NoInputHere, NoSuchNode, Number, Text, UnknownWord, NotThisNet};
+ghost use Rattle.schedule_replay.specs.Examples.{WritesLocks, asked, cleared, inputs, read_ahead};
+ghost use Rattle.schedule_replay.specs.Playing.{Waits, is_failed_read};
 ghost use Rattle.schedule_replay.specs.Replays.{replayed, replayed_so_far};
+ghost use Rattle.schedule_replay.specs.declared.halt.Halt.TheVariants.{Read, Refused};
+ghost use Rattle.schedule_replay.specs.declared.tally.Tally.{Tally};
 
 use crate::replays_are_explained;
 
@@ -112,3 +116,20 @@ pub fn worked_replays()
 {
     replays_are_explained();
 }
+
+/// What is done with what clients saw: it waits while a whole line is at hand that is not skipped, or it is written, counted and cleared.
+pub fn worked_playing()
+    ensures failed_read { is_failed_read Read ≡ true }
+    ensures refused_line_is_no_failed_read { is_failed_read (Refused 3 NoCopy) ≡ false }
+    ensures waits { (v : ℕ) (n : Tally) (out : Option (List ℕ)) → Waits (read_ahead (codes "tick 0\n")) v v n n out out }
+    ensures not_without_a_newline { (v u : ℕ) (n m : Tally) (out after : Option (List ℕ))
+        → ¬ Waits (read_ahead (codes "tick 0")) v u n m out after }
+    ensures not_with_a_skipped_line { (v u : ℕ) (n m : Tally) (out after : Option (List ℕ))
+        → ¬ Waits (read_ahead (codes "# no step\n")) v u n m out after }
+    ensures nothing_is_written_while_it_waits { (v : ℕ) (n : Tally)
+        → ¬ Waits (read_ahead (codes "tick 0\n")) v v n n (Some []) (Some (codes "in 1 lock\n")) }
+    ensures writes { WritesLocks asked cleared (inputs 4) (inputs 5) (Some (codes "in 2 lock\n")) (Some (codes "in 2 lock\nin 1 lock\n")) }
+    ensures not_without_its_text { ¬ WritesLocks asked cleared (inputs 4) (inputs 5) (Some []) (Some []) }
+    ensures not_uncleared { ¬ WritesLocks asked asked (inputs 4) (inputs 5) (Some []) (Some (codes "in 1 lock\n")) }
+    ensures not_uncounted { ¬ WritesLocks asked cleared (inputs 4) (inputs 4) (Some []) (Some (codes "in 1 lock\n")) }
+{}

@@ -18,7 +18,7 @@ mod tallying;
 mod writing;
 
 pub use done::Done;
-pub use examples::{worked, worked_replays};
+pub use examples::{worked, worked_playing, worked_replays};
 pub use fault::ReplayFault;
 pub use laws::replays_are_explained;
 pub use stream::replay;

@@ -1,0 +1,31 @@
+-- What the worked rows of playing are about: locks, of which nothing runs but what clients saw.
+use Rattle.std.specs.Prelude.{ℕ, List, [], ◌∷◌, Option}
+use Rattle.vst_base.specs.declared.lock.LockInput.{LockInput}
+use Rattle.vst_base.specs.declared.lock.LockInput.TheVariants as ask
+use Rattle.vst_base.specs.declared.lock.LockOutput.{LockOutput}
+use Rattle.vst_base.specs.declared.step.Item.TheVariants as item
+use Rattle.line_reader.specs.Readers.{ReaderView, fresh}
+use Rattle.xform_stack.specs.Running.{Progress}
+use Rattle.stacks.specs.Table.{lock_texts}
+use Rattle.schedule_replay.specs.declared.tally.Tally.{Tally}
+use Rattle.schedule_replay.specs.Playing.{Writes}
+
+-- a reader that has read these bytes ahead
+abbrev pub read_ahead : List ℕ → ReaderView
+read_ahead bytes = record (fresh 100) { ahead = bytes }
+
+-- client 1 asked for the lock, which was not written yet, and which was
+abbrev pub asked : Progress LockInput LockOutput
+asked = record { trace = item.Input 1 ask.Lock ∷ []; taken = 1 }
+
+abbrev pub cleared : Progress LockInput LockOutput
+cleared = record { trace = []; taken = 1 }
+
+-- so many inputs were counted, and nothing else
+abbrev pub inputs : ℕ → Tally
+inputs n = record { inputs = n; outputs = 0; replies = 0 }
+
+-- what clients saw of the lock was written, counted and cleared
+abbrev pub WritesLocks : Progress LockInput LockOutput → Progress LockInput LockOutput → Tally → Tally → Option (List ℕ)
+    → Option (List ℕ) → Type 0
+WritesLocks v u n m out after = Writes (λ r ss. Unit {0}) (λ r. r) lock_texts v u n m out after
