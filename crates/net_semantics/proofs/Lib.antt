@@ -2,6 +2,7 @@ pub mod Places
 pub mod Eventful
 pub mod Showing
 pub mod Counts
+pub mod Keeping
 pub mod Taken
 pub mod Stops
 pub mod FailShowing

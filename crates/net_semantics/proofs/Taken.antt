@@ -2,7 +2,7 @@
 use Rattle.std.proofs.Common.{◌≡◌, ◌≢◌, ℕ, zero, suc, ◌+◌, ◌-◌, ◌<◌, ◌≤◌, List, [], ◌∷◌, ◌++◌, length, map, Option, Some, None, refl, ap, sym, ◌∙◌, subst, arith, eqb, true, false, length-append, append_assoc, inl, inr}
 use Rattle.std.proofs.lemmas.List.{length-map, append-nil}
 use Rattle.std.specs.Prelude.{◌==◌, nat_lt, slice_get, IfSome, IsSome, if◌then◌else◌}
-use Rattle.std.proofs.lemmas.Bool.{ne_eqb, eq-eqb, cases_eq, cases_lt, lt-ltb, false≢true}
+use Rattle.std.proofs.lemmas.Bool.{ne_eqb, eq-eqb, cases_eq, cases_lt, lt-ltb}
 use Rattle.std.proofs.lemmas.Option.{IfSome_then, MatchOption-from_none, slice_get_past}
 use Rattle.handler_trait.specs.Facts.{Promises}
 use Rattle.handler_trait.specs.Handling.{Meaning, Effect, IsModest, AreSentBelow}
@@ -269,10 +269,6 @@ ready_there x v was few n =
 pub trace_in : {I O : Type 0} (n : ℕ) (i j : I) (t t0 t1 t2 outs : List (Item I O)) → t2 ≡ t1 ++ outs → t1 ≡ t0 ++ item.Input n j ∷ [] → j ≡ i → t0 ≡ t → t2 ≡ t ++ (input_item n (Some i) ++ outs)
 trace_in n i j t t0 t1 t2 outs e1 e2 e3 e4 =
     e1 ∙ (ap (λ x. x ++ outs) (e2 ∙ (ap (λ x. x ++ item.Input n j ∷ []) e4 ∙ ap (λ x. t ++ item.Input n x ∷ []) e3)) ∙ append_assoc t (item.Input n i ∷ []) outs)
-
-pub some_there : {X : Type 0} (o : Option X) → IsSome o → (x : X) × (o ≡ Some x)
-some_there None h = absurd (false≢true h)
-some_there (Some x) h = (x, refl)
 
 pub first_sound : {S I O M : Type 0} (x : Promises S I O M) (states : List S) → length states ≡ x.meaning.nodes → ((n : ℕ) → n < x.meaning.nodes → slice_get states n ≡ Some (x.meaning.init n)) → ((n : ℕ) → n < x.meaning.nodes → x.sound n (x.meaning.init n)) → ((n : ℕ) → n < x.meaning.nodes → x.spent (x.meaning.init n) ≡ 0) → (n : ℕ) → IfSome (slice_get states n) (IsSoundState (x.sound n) x.spent 0)
 first_sound x states len first ok fresh n = elim (cases_lt n x.meaning.nodes) [

@@ -3,6 +3,7 @@ pub mod Steps
 pub mod Runs
 pub mod Shown
 pub mod Held
+pub mod Kept
 pub mod Taking
 pub mod ShownFail
 pub mod TakingFail

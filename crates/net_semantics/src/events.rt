@@ -1,9 +1,9 @@
-ghost use Rattle.std.specs.Prelude.{◌≡◌, ℕ, ◌+◌, ◌*◌, ◌<◌, ◌≤◌, ◌++◌, length, map, IsTrue, IsSome, IfSome, IfOk, OnOk, Some, [], slice_get};
+ghost use Rattle.std.specs.Prelude.{◌≡◌, ℕ, ◌+◌, ◌*◌, ◌<◌, ◌≤◌, ◌++◌, length, map, IsTrue, IfSome, IfOk, OnOk, Some, [], slice_get};
 ghost use Rattle.net_semantics.specs.Held.{held_sent};
 ghost use Rattle.net_semantics.specs.Taking.{Happens, IsReady};
 
 use crate::Trace;
-use crate::packets::{Packet, Packets};
+use crate::packets::{Packets, Parcel};
 use handler_trait::{Effects, Handlers, MAX_SENDS};
 use std::alloc::{AllocError, Global};
 use std::mem;
@@ -63,25 +63,23 @@ pub fn timeout_event<H: Handlers>(
 pub fn message_event<H: Handlers>(
     handlers: &H,
     alloc: Global,
-    packet: &Packet<H::Msg>,
+    packet: &Parcel<'_, H::Msg>,
     states: &mut Vec<H::State>,
     effects: &mut Effects<H::Output, H::Msg>,
 ) -> Result<(), AllocError>
     requires source { packet.now.source < (H.meaning handlers.now).nodes }
     requires destination { packet.now.destination < (H.meaning handlers.now).nodes }
-    requires content { IsSome packet.now.content }
     requires held { packet.now.destination < length states.old.items }
     requires ready { IfSome (slice_get states.old.items packet.now.destination) (IsReady (H.sound handlers.now packet.now.destination) (H.spent handlers.now)) }
-    ensures happens { OnOk result (IfSome packet.now.content (λ content. Happens (λ s. (H.meaning handlers.now).message packet.now.destination s packet.now.source content) packet.now.destination states.old.items states.new.items effects.new)) }
+    ensures happens { OnOk result (Happens
+        (λ s. (H.meaning handlers.now).message packet.now.destination s packet.now.source packet.now.content.now)
+        packet.now.destination states.old.items states.new.items effects.new) }
     ensures sound { OnOk result (IfSome (slice_get states.new.items packet.now.destination) (H.sound handlers.now packet.now.destination)) }
 {
-    let Some(message) = &packet.content else {
-        unreachable!()
-    };
     make_room(effects)?;
     let node = packet.destination;
     let state = &mut states[usize::from(node.index())];
-    handlers.message(alloc, node, state, packet.source, message, effects)
+    handlers.message(alloc, node, state, packet.source, packet.content, effects)
 }
 
 // Clients see the node's outputs, in order. Where memory ran out the rest is dropped.

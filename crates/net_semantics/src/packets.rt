@@ -2,66 +2,48 @@ ghost use Rattle.std.specs.Prelude.{◌≡◌, ℕ, ◌+◌, ◌<◌, ◌^◌, [
 ghost use Rattle.net_semantics.specs.Worlds.{change_at};
 ghost use Rattle.net_semantics.specs.Held.{held_sent, held_more, held_less, held_copies, held_ends, held_count};
 
+use slab::Slab;
 use std::alloc::{AllocError, Global};
 use std::marker::Model;
 use vst_base::{Node, StepRefusal};
 
-/// A packet that was sent. Its content goes with its last copy.
+/// A packet that was sent. While a copy of it is in flight, its content stands at `place` among the contents.
 #[derive(Drop)]
-pub struct Packet<M> {
+struct Sent {
+    source: Node,
+    destination: Node,
+    copies: u32,
+    place: usize,
+}
+
+/// A packet in flight: its ends, and its content.
+#[derive(Drop)]
+pub struct Parcel<'a, M> {
     pub source: Node,
     pub destination: Node,
-    copies: u32,
-    pub content: Option<M>,
+    pub content: &'a M,
 }
 
-impl<M> Model for Packet<M> {
-    ghost use Rattle.net_semantics.specs.Shown.{Shown};
-
-    ghost Value = { Shown M };
-
-    ghost view = { λ p. record { source = p.source; destination = p.destination; copies = p.copies; content = p.content } };
-}
-
-impl<M: Drop> Packet<M> {
-    // One more copy is in flight.
-    fn add_copy(&mut self)
-        requires { self.old.copies + 1 < 2 ^ 32 }
-        ensures { self.new ≡ held_more self.old }
-    {
-        self.copies += 1;
-    }
-
-    // One copy less is in flight.
-    fn take_copy(&mut self)
-        requires { 0 < self.old.copies }
-        ensures { self.new ≡ held_less self.old }
-    {
-        self.copies -= 1;
-        if self.copies == 0 {
-            self.content = None;
-        }
-    }
-}
-
-/// Every packet that was sent, in the order of sending.
+/// Every packet that was sent, in the order of sending. Only those in flight have a content, and the contents
+/// stand apart.
 #[derive(Drop)]
 pub struct Packets<M> {
-    items: Vec<Packet<M>>,
+    items: Vec<Sent>,
+    contents: Slab<M>,
     held: usize,
 }
 
 impl<M> Model for Packets<M> {
     ghost use Rattle.std.specs.Prelude.{List};
-    ghost use Rattle.std.specs.Prelude.{◌≡◌};
     ghost use Rattle.net_semantics.specs.Shown.{Shown};
-    ghost use Rattle.net_semantics.specs.Held.{held_count};
 
     ghost Value = { List (Shown M) };
 
-    ghost view = { λ p. p.items.items };
+    ghost use Rattle.net_semantics.specs.Kept.{shown_all, IsKept};
 
-    ghost invariant = { λ p. p.held ≡ held_count p.items.items };
+    ghost view = { λ p. shown_all p.contents p.items.items };
+
+    ghost invariant = { λ p. IsKept p.items.items p.contents p.held };
 }
 
 impl<M: Drop> Packets<M> {
@@ -71,6 +53,7 @@ impl<M: Drop> Packets<M> {
     {
         Packets {
             items: Vec::new(alloc),
+            contents: Slab::new(alloc),
             held: 0,
         }
     }
@@ -94,7 +77,7 @@ impl<M: Drop> Packets<M> {
         ensures { result ≡ held_copies (slice_get self.now k) }
     {
         match self.items.get(k as usize) {
-            Some(packet) => packet.copies,
+            Some(sent) => sent.copies,
             None => 0,
         }
     }
@@ -104,7 +87,7 @@ impl<M: Drop> Packets<M> {
         ensures { result ≡ held_ends (slice_get self.now k) }
     {
         match self.items.get(k as usize) {
-            Some(packet) => Some((packet.source, packet.destination)),
+            Some(sent) => Some((sent.source, sent.destination)),
             None => None,
         }
     }
@@ -120,12 +103,22 @@ impl<M: Drop> Packets<M> {
         Ok(k as usize)
     }
 
-    /// Packet `k`.
-    pub fn at(&self, k: usize) -> &Packet<M>
-        requires { k < length self.now }
-        ensures { slice_get self.now k ≡ Some result.now }
+    /// Packet `k`, of which a copy is in flight.
+    pub fn at(&self, k: usize) -> Parcel<'_, M>
+        requires { 0 < held_copies (slice_get self.now k) }
+        ensures { slice_get self.now k ≡ Some (record {
+          source = result.source;
+          destination = result.destination;
+          copies = held_copies (slice_get self.now k);
+          content = Some result.content.now;
+        }) }
     {
-        &self.items[k]
+        let sent = &self.items[k];
+        Parcel {
+            source: sent.source,
+            destination: sent.destination,
+            content: &self.contents[sent.place],
+        }
     }
 
     /// One more copy of packet `k` is in flight. It takes no memory.
@@ -134,8 +127,8 @@ impl<M: Drop> Packets<M> {
         requires fits { held_copies (slice_get self.old k) + 1 < 2 ^ 32 }
         ensures { self.new ≡ change_at held_more k self.old }
     {
-        let packet = &mut self.items[k];
-        packet.add_copy();
+        let sent = &mut self.items[k];
+        sent.copies += 1;
     }
 
     /// One copy less of packet `k` is in flight.
@@ -143,9 +136,11 @@ impl<M: Drop> Packets<M> {
         requires { 0 < held_copies (slice_get self.old k) }
         ensures { self.new ≡ change_at held_less k self.old }
     {
-        let packet = &mut self.items[k];
-        packet.take_copy();
-        if packet.copies == 0 {
+        let sent = &mut self.items[k];
+        sent.copies -= 1;
+        if sent.copies == 0 {
+            let place = sent.place;
+            self.contents.remove(place);
             self.held -= 1;
         }
     }
@@ -154,12 +149,15 @@ impl<M: Drop> Packets<M> {
     pub fn send(&mut self, source: Node, destination: Node, content: M) -> Result<(), AllocError>
         ensures sent { OnOk result (self.new ≡ self.old ++ held_sent source (destination, content) ∷ []) }
     {
-        self.items.push(Packet {
+        self.contents.reserve(1)?;
+        let place = self.contents.vacant_key();
+        self.items.push(Sent {
             source,
             destination,
             copies: 1,
-            content: Some(content),
+            place,
         })?;
+        self.contents.insert_reserved(content);
         self.held += 1;
         Ok(())
     }

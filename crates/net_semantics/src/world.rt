@@ -335,7 +335,7 @@ impl<H: Handlers> World<H> {
         message_event(
             &self.handlers,
             self.alloc,
-            packet,
+            &packet,
             &mut self.states,
             &mut self.effects,
         )?;

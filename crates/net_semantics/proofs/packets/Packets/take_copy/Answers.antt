@@ -1,57 +1,78 @@
-use Rattle.std.proofs.Common.{◌≡◌, ◌∙◌, ◌≢◌, ◌<◌, ap, arith, get_or, length, rules}
-use Rattle.std.specs.Prelude.{slice_get}
+use Rattle.std.proofs.Common.{◌≡◌, ◌∙◌, ◌-◌, ◌≢◌, ap, arith, refl}
 use Rattle.net_semantics.specs.Worlds.{change_at}
-use Rattle.net_semantics.specs.Held.{held_copies, held_less}
-use Rattle.net_semantics.proofs.Counts.{copies_there, count_none, count_some, counted, set_less}
-use Rattle.net_semantics.proofs.Showing.{kept_within}
+use Rattle.net_semantics.specs.Held.{held_less}
+use Rattle.net_semantics.specs.Kept.{shown_all}
+use Rattle.net_semantics.proofs.Counts.{counted}
+use Rattle.net_semantics.proofs.Keeping.{Changes, sent_there, kept_some, kept_none, shown_less}
 use Rattle.net_semantics.proofs.packets.Packets.take_copy.Goals as goal
 
-pub index_mut-packet-requires : goal.index_mut-packet-requires
-index_mut-packet-requires g c =
-    let ps = c.self.inside.items.items in
-    let lt : c.args.k < length ps = kept_within ps c.args.k (rw c.self.view_is c.requires) in
-    search rules
+pub overflow_sub-sent : goal.overflow_sub-sent
+overflow_sub-sent g c =
+    let i = c.self.inside in
+    let s = c.index_mut-sent.result.now in
+    let found = sent_there i.contents i.items.items c.args.k s (rw c.self.view_is c.requires) c.index_mut-sent.ensures.value in
+    omega (arith, found.1)
 
-pub take_copy-requires : goal.take_copy-requires
-take_copy-requires g c =
-    let ps = c.self.inside.items.items in
-    let d = c.index_mut-packet.result.now in
-    let copy : 0 < held_copies (slice_get ps c.args.k) = rw c.self.view_is c.requires in
-    let same : d.copies ≡ (get_or ps c.args.k d).copies = ap (λ p. p.copies) c.index_mut-packet.ensures.value in
-    omega (arith, copy, same, copies_there ps c.args.k d copy)
+pub remove-requires : goal.remove-requires
+remove-requires g c =
+    let i = c.self.inside in
+    let s = c.index_mut-sent.result.now in
+    let found = sent_there i.contents i.items.items c.args.k s (rw c.self.view_is c.requires) c.index_mut-sent.ensures.value in
+    c.self.invariant.there c.args.k s found.0 found.1
 
 pub overflow_sub-self : goal.overflow_sub-self
 overflow_sub-self g c =
-    let ps = c.self.inside.items.items in
-    let copy : 0 < held_copies (slice_get ps c.args.k) = rw c.self.view_is c.requires in
-    omega (arith, c.self.invariant, counted ps c.args.k copy)
+    let i = c.self.inside in
+    let some = counted (shown_all i.contents i.items.items) c.args.k (rw c.self.view_is c.requires) in
+    omega (arith, c.self.invariant.counted, some)
 
 pub invariant_of-self : goal.invariant_of-self
 invariant_of-self g c =
-    let ps = c.self.inside.items.items in
-    let p = c.take_copy.new.self in
-    let copy : 0 < held_copies (slice_get ps c.args.k) = rw c.self.view_is c.requires in
-    let same : c.packet.inside.copies ≡ p.copies = ap (λ q. q.copies) c.packet.view_is in
-    let none : p.copies ≡ 0 = omega (arith, same, c.if-packet-eq0.true) in
-    omega (arith, c.self.invariant, count_none ps c.args.k c.index_mut-packet.result.now p copy none)
+    let i = c.self.inside in
+    let s = c.index_mut-sent.result.now in
+    let found = sent_there i.contents i.items.items c.args.k s (rw c.self.view_is c.requires) c.index_mut-sent.ensures.value in
+    let none : s.copies - 1 ≡ 0 = omega (arith, c.if-sent-eq0.true) in
+    let less : Changes i.items.items i.contents c.remove.new.self i.held c.args.k s (s.copies - 1) =
+    record {
+      was = c.self.invariant;
+      there = found.0;
+      copy = found.1;
+      others = c.remove.ensures.updates.others;
+      still = λ l. absurd (omega (arith, none, l));
+    } in
+    kept_none i.items.items i.contents c.remove.new.self i.held c.args.k s (s.copies - 1) less none
 
-pub invariant_of-self-else-packet-eq0 : goal.invariant_of-self-else-packet-eq0
-invariant_of-self-else-packet-eq0 g c =
-    let ps = c.self.inside.items.items in
-    let p = c.take_copy.new.self in
-    let copy : 0 < held_copies (slice_get ps c.args.k) = rw c.self.view_is c.requires in
-    let same : c.packet.inside.copies ≡ p.copies = ap (λ q. q.copies) c.packet.view_is in
-    let some : p.copies ≢ 0 = λ e. c.if-packet-eq0.false (same ∙ e) in
-    c.self.invariant ∙ count_some ps c.args.k c.index_mut-packet.result.now p copy (omega (arith, some))
+pub invariant_of-self-else-sent-eq0 : goal.invariant_of-self-else-sent-eq0
+invariant_of-self-else-sent-eq0 g c =
+    let i = c.self.inside in
+    let s = c.index_mut-sent.result.now in
+    let found = sent_there i.contents i.items.items c.args.k s (rw c.self.view_is c.requires) c.index_mut-sent.ensures.value in
+    let some : s.copies - 1 ≢ 0 = c.if-sent-eq0.false in
+    let less : Changes i.items.items i.contents i.contents i.held c.args.k s (s.copies - 1) =
+    record { was = c.self.invariant; there = found.0; copy = found.1; others = λ p ne. refl; still = λ l. refl } in
+    kept_some i.items.items i.contents i.contents i.held c.args.k s (s.copies - 1) less (omega (arith, some))
 
-pub returns-then-packet-eq0 : goal.returns-then-packet-eq0
-returns-then-packet-eq0 g c =
-    let ps = c.self.inside.items.items in
-    let copy : 0 < held_copies (slice_get ps c.args.k) = rw c.self.view_is c.requires in
-    set_less ps c.args.k c.index_mut-packet.result.now c.take_copy.new.self copy (c.take_copy.ensures ∙ ap held_less c.index_mut-packet.ensures.value) ∙ ap (change_at held_less c.args.k) c.self.view_is
+pub returns-then-sent-eq0 : goal.returns-then-sent-eq0
+returns-then-sent-eq0 g c =
+    let i = c.self.inside in
+    let s = c.index_mut-sent.result.now in
+    let found = sent_there i.contents i.items.items c.args.k s (rw c.self.view_is c.requires) c.index_mut-sent.ensures.value in
+    let none : s.copies - 1 ≡ 0 = omega (arith, c.if-sent-eq0.true) in
+    let less : Changes i.items.items i.contents c.remove.new.self i.held c.args.k s (s.copies - 1) =
+    record {
+      was = c.self.invariant;
+      there = found.0;
+      copy = found.1;
+      others = c.remove.ensures.updates.others;
+      still = λ l. absurd (omega (arith, none, l));
+    } in
+    shown_less i.items.items i.contents c.remove.new.self i.held c.args.k s less ∙ ap (change_at held_less c.args.k) c.self.view_is
 
-pub returns-else-packet-eq0 : goal.returns-else-packet-eq0
-returns-else-packet-eq0 g c =
-    let ps = c.self.inside.items.items in
-    let copy : 0 < held_copies (slice_get ps c.args.k) = rw c.self.view_is c.requires in
-    set_less ps c.args.k c.index_mut-packet.result.now c.take_copy.new.self copy (c.take_copy.ensures ∙ ap held_less c.index_mut-packet.ensures.value) ∙ ap (change_at held_less c.args.k) c.self.view_is
+pub returns-else-sent-eq0 : goal.returns-else-sent-eq0
+returns-else-sent-eq0 g c =
+    let i = c.self.inside in
+    let s = c.index_mut-sent.result.now in
+    let found = sent_there i.contents i.items.items c.args.k s (rw c.self.view_is c.requires) c.index_mut-sent.ensures.value in
+    let less : Changes i.items.items i.contents i.contents i.held c.args.k s (s.copies - 1) =
+    record { was = c.self.invariant; there = found.0; copy = found.1; others = λ p ne. refl; still = λ l. refl } in
+    shown_less i.items.items i.contents i.contents i.held c.args.k s less ∙ ap (change_at held_less c.args.k) c.self.view_is
