@@ -1,7 +1,6 @@
 -- Where two texts differ.
-use Rattle.std.specs.Prelude.{◌≡◌, ℕ, ◌+◌, ◌-◌, ◌<◌, ◌≤◌, false, List, [], ◌∷◌, length, map, drop, Option, Some, None, cond, codes, refl}
-use Rattle.std.proofs.Common.{ap, ◌∙◌, sym, arith, length-drop}
-use Rattle.std.proofs.lemmas.List.{drop_all, length-map}
+use Rattle.std.specs.Prelude.{◌≡◌, ℕ, ◌+◌, false, List, [], ◌∷◌, map, Option, Some, None, cond, codes, refl}
+use Rattle.std.proofs.Common.{ap, sym}
 use Rattle.vst_base.specs.declared.step.Item.{Item}
 use Rattle.vst_base.specs.declared.step.Item.TheVariants as item
 use Rattle.vst_base.specs.declared.step.StepRefusal.{StepRefusal}
@@ -12,18 +11,6 @@ use Rattle.claim_verdicts.specs.Explaining.{explained_by}
 use Rattle.claim_verdicts.specs.Places.{first_difference}
 use Rattle.claim_verdicts.specs.Schedules.{ScheduleClaim, shown_lines}
 use Rattle.claim_verdicts.specs.declared.verdict.Verdict.TheVariants.{Yes, No}
-
-longer : (n : ℕ) (ms : List (List ℕ)) → 0 < length ms → first_difference n [] ms ≡ Some n
-longer n [] some = absurd (omega arith)
-longer n (m ∷ ms) some = refl
-
--- where one text goes on after the other's end
-pub difference-longer : {A : Type 0} (text : A → List ℕ) (left right : List A) (n : ℕ) → length left ≤ n → n ≤ length left → length left < length right
-    → first_difference n (map text (drop n left)) (map text (drop n right)) ≡ Some (length left)
-difference-longer text left right n over within more =
-    let rest : length (map text (drop n right)) ≡ length right - n = length-map (drop n right) text ∙ length-drop n right in
-    ap (λ xs. first_difference n (map text xs) (map text (drop n right))) (drop_all n left over)
-    ∙ (longer n (map text (drop n right)) (omega (arith, rest, within, more)) ∙ ap Some (omega (arith, over, within)))
 
 module _ {I O : Type 0} (f : I → List ℕ) (g : O → List ℕ) where
   below-first : (x : Item I O) → is_text (codes "below") (item_text f g x) ≡ false

@@ -4,7 +4,7 @@ pub mod FirstInputs
 pub mod WrongPlaces
 pub mod Differences
 pub mod Neighbours
-pub mod ScheduleRuns
+pub mod Comparing
 pub mod NoneWrongs
 pub mod SameLines
 pub mod Linear

@@ -5,3 +5,4 @@ pub mod Schedules
 pub mod Backups
 pub mod Explaining
 pub mod Laws
+pub mod Comparing

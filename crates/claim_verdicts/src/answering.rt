@@ -5,7 +5,7 @@ ghost use Rattle.vst_base.specs.Machines.{fold};
 ghost use Rattle.claim_verdicts.specs.Backups.{answers, asks, is_wrong_answer, is_wrong_behind, replies_so};
 ghost use Rattle.claim_verdicts.specs.Places.{first_wrong};
 
-use crate::compare::is_same_output;
+use crate::text_pair::TextPair;
 use app_text::AppText;
 use std::alloc::{AllocError, Global};
 use vst_base::{Item, Machine, PbOut};
@@ -34,14 +34,14 @@ pub(crate) fn answers_of<M: Machine>(
 
 // Whether an output is this reply.
 fn replies_so<A: AppText>(
-    alloc: Global,
+    texts: &mut TextPair,
     wanted: Option<&A::Output>,
     output: &PbOut<A::Output>,
 ) -> Result<bool, AllocError>
     ensures { IfOk result (λ so. so ≡ replies_so A.output_text (option_copied wanted.entry) output.now) }
 {
     match (wanted, output) {
-        (Some(wanted), PbOut::Reply(output)) => is_same_output::<A>(alloc, wanted, output),
+        (Some(wanted), PbOut::Reply(output)) => texts.is_same_output::<A>(wanted, output),
         _ => Ok(false),
     }
 }
@@ -69,7 +69,7 @@ fn answers<C, O>(item: &Item<C, PbOut<O>>) -> bool
 // Whether an output of the primary is not the one at its place, or not after the input that it is to answer, where so many
 // inputs and outputs there stand before it.
 fn is_wrong_behind<A: AppText>(
-    alloc: Global,
+    texts: &mut TextPair,
     outputs: &[A::Output],
     asked: usize,
     answered: usize,
@@ -79,7 +79,7 @@ fn is_wrong_behind<A: AppText>(
 {
     match item {
         Item::Output(node, output) if node.index() == 0 => {
-            Ok(asked <= answered || !replies_so::<A>(alloc, outputs.get(answered), output)?)
+            Ok(asked <= answered || !replies_so::<A>(texts, outputs.get(answered), output)?)
         }
         _ => Ok(false),
     }
@@ -95,10 +95,11 @@ pub(crate) fn wrong_answer<A: AppText>(
     ensures first { IfOk result (λ place. place ≡ first_wrong (is_wrong_answer A.output_text outputs.now) [] trace.now) }
     ensures within { IfOk result (λ place. IfSome place (λ p. p < length trace.now)) }
 {
+    let mut texts = TextPair::new(alloc)?;
     let mut asked = 0;
     let mut answered = 0;
     for (place, item) in trace.iter().enumerate() {
-        if is_wrong_behind::<A>(alloc, outputs, asked, answered, item)? {
+        if is_wrong_behind::<A>(&mut texts, outputs, asked, answered, item)? {
             return Ok(Some(place));
         }
         asked += usize::from(asks(item));

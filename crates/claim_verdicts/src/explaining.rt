@@ -3,8 +3,8 @@ ghost use Rattle.std.specs.Option.{option_copied};
 ghost use Rattle.claim_verdicts.specs.Marks.{is_untold, told_at};
 ghost use Rattle.claim_verdicts.specs.Places.{first_wrong};
 
-use crate::compare::is_same_output;
 use crate::names::Names;
+use crate::text_pair::TextPair;
 use app_text::AppText;
 use raft_types::{RaftInput, RaftOut};
 use std::alloc::{AllocError, Global};
@@ -25,7 +25,7 @@ fn told_at<'a, O>(
 
 // Whether a client is told another output than the one at the place of its request, or there is none.
 fn is_untold<A: AppText, C>(
-    alloc: Global,
+    texts: &mut TextPair,
     names: &Names,
     outputs: &[A::Output],
     item: &Item<RaftInput<C>, RaftOut<A::Output>>,
@@ -44,7 +44,7 @@ fn is_untold<A: AppText, C>(
         return Ok(false);
     };
     match told_at::<A::Output>(names, outputs, *client, *request) {
-        Some(wanted) => Ok(!is_same_output::<A>(alloc, wanted, output)?),
+        Some(wanted) => Ok(!texts.is_same_output::<A>(wanted, output)?),
         None => Ok(true),
     }
 }
@@ -57,11 +57,13 @@ pub(crate) fn unexplained<A: AppText, C>(
     outputs: &[A::Output],
     trace: &[Item<RaftInput<C>, RaftOut<A::Output>>],
 ) -> Result<Option<usize>, AllocError>
-    ensures first { IfOk result (λ place. place ≡ first_wrong (λ before x after. is_untold A.output_text names.now outputs.now x) [] trace.now) }
+    ensures first { IfOk result (λ place. place ≡ first_wrong (λ before x after. is_untold A.output_text names.now outputs.now x) []
+        trace.now) }
     ensures within { IfOk result (λ place. IfSome place (λ p. p < length trace.now)) }
 {
+    let mut texts = TextPair::new(alloc)?;
     for (place, item) in trace.iter().enumerate() {
-        if is_untold::<A, C>(alloc, names, outputs, item)? {
+        if is_untold::<A, C>(&mut texts, names, outputs, item)? {
             return Ok(Some(place));
         }
     }

@@ -4,7 +4,7 @@
 mod answering;
 mod backup;
 mod cluster;
-mod compare;
+mod comparison;
 mod difference;
 mod explaining;
 mod laws;
@@ -17,6 +17,7 @@ mod numbering;
 mod outputs;
 mod redirecting;
 mod schedule;
+mod text_pair;
 mod verdict;
 
 pub use backup::backup_verdict;

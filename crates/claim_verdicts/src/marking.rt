@@ -3,9 +3,9 @@ ghost use Rattle.linearizability.specs.Linearizable.{AreDistinct};
 ghost use Rattle.claim_verdicts.specs.Marks.{MarksInput, first_unrequested, is_mark, is_name, marks_of, names_of, next_mark, reach_of};
 ghost use Rattle.claim_verdicts.specs.Places.{place_of};
 
-use crate::compare::is_same_input;
 use crate::mark::Mark;
 use crate::names::Names;
+use crate::text_pair::TextPair;
 use app_text::AppText;
 use raft_types::{RaftInput, RaftOut};
 use std::alloc::{AllocError, Global};
@@ -25,7 +25,7 @@ fn next_mark(puts: bool, late: bool, mark: Mark) -> Mark
 // Marks the request of an order that an input is, unless it was put in before. So many of the first requests may have been
 // answered by now.
 fn mark_input<A: AppText>(
-    alloc: Global,
+    texts: &mut TextPair,
     names: &Names,
     order: &[RaftInput<A::Input>],
     input: &RaftInput<A::Input>,
@@ -34,12 +34,13 @@ fn mark_input<A: AppText>(
 ) -> Result<(), AllocError>
     requires names { length names.now ≡ length order.now }
     requires marks { length marks.old.items ≡ length order.now }
-    ensures { OnOk result (MarksInput A.input_text (place_of (is_name input.now.client input.now.request) names.now) order.now most input.now marks.old.items marks.new.items) }
+    ensures { OnOk result (MarksInput A.input_text (place_of (is_name input.now.client input.now.request) names.now) order.now most
+        input.now marks.old.items marks.new.items) }
 {
     let Some(place) = names.place(input.client, input.request) else {
         return Ok(());
     };
-    let puts = is_same_input::<A>(alloc, &order[place].cmd, &input.cmd)?;
+    let puts = texts.is_same_input::<A>(&order[place].cmd, &input.cmd)?;
     marks[place] = next_mark(puts, place < most, marks[place]);
     Ok(())
 }
@@ -75,12 +76,13 @@ pub(crate) fn mark_order<A: AppText, O>(
     requires distinct { AreDistinct order.now }
     ensures { IfOk result (λ marks. marks.items ≡ marks_of A.input_text trace.now order.now) }
 {
+    let mut texts = TextPair::new(alloc)?;
     let mut marks = vec![in alloc; Mark::Unseen; order.len()]?;
     let mut most = 0;
     for item in trace {
         match item {
             Item::Input(_, input) => {
-                mark_input::<A>(alloc, names, order, input, most, &mut marks)?;
+                mark_input::<A>(&mut texts, names, order, input, most, &mut marks)?;
             }
             Item::Output(_, output) => most = most.max(reach_of(names, output)),
         }

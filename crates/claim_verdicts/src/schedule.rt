@@ -1,47 +1,58 @@
-ghost use Rattle.std.specs.Prelude.{◌≡◌, ◌≢◌, ◌≤◌, ◌+◌, ℕ, List, Option, IfErr, IfOk, length};
-ghost use Rattle.vst_base.specs.declared.step.Item.{Item as SpecItem};
-ghost use Rattle.vst_base.specs.declared.step.StepRefusal.{StepRefusal as SpecRefusal};
-ghost use Rattle.claim_verdicts.specs.Explaining.{RunsTo, RunsWithin, explained_by};
+ghost use Rattle.std.specs.Prelude.{◌≡◌, ◌≢◌, ◌≤◌, ◌+◌, [], IfOk, length};
+ghost use Rattle.net_semantics.specs.Runs.{first_refused, trace};
+ghost use Rattle.claim_verdicts.specs.Explaining.{explained_by};
 ghost use Rattle.claim_verdicts.specs.Schedules.{schedule_verdict};
 ghost use Rattle.vst_base.specs.declared.step.TheConstants.{MAX_STEPS};
 ghost use Rattle.check_text.specs.declared.reading.TheConstants.{MAX_LINES};
+ghost use Rattle.xform_stack.specs.Running.{HasRun};
 
 use crate::Verdict;
-use crate::difference::first_difference;
+use crate::comparison::Comparison;
 use crate::lines::{image_line, item_line};
+use crate::text_pair::TextPair;
 use app_text::AppText;
 use check_text::Claim;
 use handler_trait::Handlers;
 use std::alloc::{AllocError, Global};
 use vst_base::{Item, Net, Step};
-use xform_stack::{NoImage, Ran, RunFault, run_mapped};
+use xform_stack::{NoImage, RunFault, Running, Runs};
 
-// The verdict on a claim whose image is a schedule, by what the schedule ran to.
-fn verdict_by_run<A: AppText>(
+// The verdict on a claim whose image is a schedule, where no step of it was taken yet. What clients see is compared with the claimed
+// trace after each step, and then cleared.
+fn verdict_by_run<R: Runs, A: AppText<Input = R::Input, Output = R::Output>>(
     alloc: Global,
-    claim: &Claim<A::Input, A::Output, Step<A::Input>>,
-    ran: Result<Ran<A::Input, A::Output, Step<A::Input>>, RunFault>,
+    mut running: R,
+    claim: &Claim<R::Input, R::Output, Step<R::Input>>,
 ) -> Result<Verdict, AllocError>
+    requires started { HasRun (R.system running) R.follows R.progress [] [] running }
+    requires sound { R.sound running }
     requires few { length claim.now.trace + length claim.now.image ≤ MAX_LINES }
-    requires within { IfErr ran (RunsWithin (length claim.now.image)) }
-    ensures { (first : Option (ℕ × SpecRefusal)) (shown : List (SpecItem A.Input A.Output)) → RunsTo ran first shown → IfOk result (λ verdict. verdict ≡ explained_by A.input_text A.output_text claim.now first shown) }
+    requires counted { length claim.now.image ≤ MAX_STEPS }
+    ensures { IfOk result (λ verdict. verdict ≡ explained_by A.input_text A.output_text claim.now
+        (first_refused (R.system running).net (R.system running).meaning (R.system running).recovery claim.now.image)
+        (trace (R.system running).meaning (R.system running).recovery claim.now.image)) }
 {
-    let ran = match ran {
-        Ok(ran) => ran,
-        Err(RunFault::Step(_, place)) => {
-            return Ok(Verdict::No(4, image_line(claim, place as usize)));
+    let mut texts = TextPair::new(alloc)?;
+    let mut comparison = Comparison::SameSoFar(0);
+    for (place, step) in claim.image().iter().enumerate() {
+        match running.step(step) {
+            Ok(()) => {}
+            Err(RunFault::Step(_, _)) => return Ok(Verdict::No(4, image_line(claim, place))),
+            Err(RunFault::Memory) => return Err(AllocError),
         }
-        Err(RunFault::Memory) => return Err(AllocError),
-    };
-    let shown = ran.trace.items();
-    match first_difference::<A, Item<A::Input, A::Output>>(alloc, claim.trace(), shown)? {
+        let came = running.trace().items();
+        comparison = comparison.after::<A, Item<A::Input, A::Output>>(&mut texts, claim.trace(), came)?;
+        running.forget_trace();
+    }
+    match comparison.difference(claim.trace().len()) {
         Some(place) => Ok(Verdict::No(5, item_line(place))),
         None => Ok(Verdict::Yes),
     }
 }
 
 /// The verdict on a claim whose image is a schedule of these handlers on a network that stops no node: whether the network
-/// allows the schedule, and clients then see the trace. Where a network has inputs alone there is one node.
+/// allows the schedule, and clients then see the trace. Where a network has inputs alone there is one node. Neither the image nor
+/// what clients see is kept.
 pub fn schedule_verdict<H: Handlers, A: AppText<Input = H::Input, Output = H::Output>>(
     alloc: Global,
     handlers: H,
@@ -54,6 +65,6 @@ pub fn schedule_verdict<H: Handlers, A: AppText<Input = H::Input, Output = H::Ou
     requires counted { length claim.now.image ≤ MAX_STEPS }
     ensures { IfOk result (λ verdict. verdict ≡ schedule_verdict A.input_text A.output_text net (H.meaning handlers) claim.now) }
 {
-    let ran = run_mapped::<H, NoImage<H::Input>>(alloc, handlers, net, claim.image());
-    verdict_by_run::<A>(alloc, claim, ran)
+    let running = Running::<H, NoImage<H::Input>>::new(alloc, handlers, net)?;
+    verdict_by_run::<Running<H, NoImage<H::Input>>, A>(alloc, running, claim)
 }

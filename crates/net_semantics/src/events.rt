@@ -32,7 +32,8 @@ pub fn input_event<H: Handlers>(
     requires held { node < length states.old.items }
     requires takes { IsTrue ((H.meaning handlers.now).takes_input node) }
     requires ready { IfSome (slice_get states.old.items node) (IsReady (H.sound handlers.now node) (H.spent handlers.now)) }
-    ensures happens { OnOk result (Happens (λ s. (H.meaning handlers.now).input node s input.now) node states.old.items states.new.items effects.new) }
+    ensures happens { OnOk result (Happens (λ s. (H.meaning handlers.now).input node s input.now) node states.old.items states.new.items
+        effects.new) }
     ensures sound { OnOk result (IfSome (slice_get states.new.items node) (H.sound handlers.now node)) }
 {
     make_room(effects)?;
@@ -51,7 +52,8 @@ pub fn timeout_event<H: Handlers>(
     requires node { node < (H.meaning handlers.now).nodes }
     requires held { node < length states.old.items }
     requires ready { IfSome (slice_get states.old.items node) (IsReady (H.sound handlers.now node) (H.spent handlers.now)) }
-    ensures happens { OnOk result (Happens (λ s. (H.meaning handlers.now).timeout node s) node states.old.items states.new.items effects.new) }
+    ensures happens { OnOk result (Happens (λ s. (H.meaning handlers.now).timeout node s) node states.old.items states.new.items
+        effects.new) }
     ensures sound { OnOk result (IfSome (slice_get states.new.items node) (H.sound handlers.now node)) }
 {
     make_room(effects)?;
@@ -70,7 +72,8 @@ pub fn message_event<H: Handlers>(
     requires source { packet.now.source < (H.meaning handlers.now).nodes }
     requires destination { packet.now.destination < (H.meaning handlers.now).nodes }
     requires held { packet.now.destination < length states.old.items }
-    requires ready { IfSome (slice_get states.old.items packet.now.destination) (IsReady (H.sound handlers.now packet.now.destination) (H.spent handlers.now)) }
+    requires ready { IfSome (slice_get states.old.items packet.now.destination)
+        (IsReady (H.sound handlers.now packet.now.destination) (H.spent handlers.now)) }
     ensures happens { OnOk result (Happens
         (λ s. (H.meaning handlers.now).message packet.now.destination s packet.now.source packet.now.content.now)
         packet.now.destination states.old.items states.new.items effects.new) }
@@ -146,8 +149,10 @@ pub fn publish<I: Drop, O: Drop, M: Drop>(
 /// The first state of each node, in order.
 pub fn first_states<H: Handlers>(alloc: Global, handlers: &H) -> Result<Vec<H::State>, AllocError>
     ensures nodes { IfOk result (λ states. length states.items ≡ (H.meaning handlers.now).nodes) }
-    ensures first { IfOk result (λ states. (n : ℕ) → n < (H.meaning handlers.now).nodes → slice_get states.items n ≡ Some ((H.meaning handlers.now).init n)) }
-    ensures sound { IfOk result (λ states. (n : ℕ) → n < (H.meaning handlers.now).nodes → H.sound handlers.now n ((H.meaning handlers.now).init n)) }
+    ensures first { IfOk result (λ states. (n : ℕ) → n < (H.meaning handlers.now).nodes
+        → slice_get states.items n ≡ Some ((H.meaning handlers.now).init n)) }
+    ensures sound { IfOk result (λ states. (n : ℕ) → n < (H.meaning handlers.now).nodes
+        → H.sound handlers.now n ((H.meaning handlers.now).init n)) }
 {
     let nodes = handlers.nodes();
     let mut states = Vec::new(alloc);

@@ -20,7 +20,8 @@ pub fn existing_node<H: Handlers>(handlers: &H, n: u32) -> Result<Node, StepRefu
 
 /// Node `n`, which has to exist and to take input.
 pub fn input_node<H: Handlers>(handlers: &H, n: u32) -> Result<Node, StepRefusal>
-    ensures { result ≡ (if nat_lt n (H.meaning handlers.now).nodes then (if (H.meaning handlers.now).takes_input n then Ok n else Err StepRefusal.NoInputHere) else Err StepRefusal.NoSuchNode) }
+    ensures { result ≡ (if nat_lt n (H.meaning handlers.now).nodes then
+        (if (H.meaning handlers.now).takes_input n then Ok n else Err StepRefusal.NoInputHere) else Err StepRefusal.NoSuchNode) }
 {
     let node = existing_node(handlers, n)?;
     if !handlers.takes_input(node) {

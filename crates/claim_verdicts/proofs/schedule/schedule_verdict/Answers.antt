@@ -1,16 +1,16 @@
-use Rattle.net_semantics.specs.Runs.{first_refused, no_recovery, trace}
-use Rattle.claim_verdicts.proofs.ScheduleRuns.{run-within, runs-to}
+use Rattle.std.proofs.Common.{◌≡◌, [], refl, subst, sym}
+use Rattle.xform_stack.specs.Running.{HasFollowed}
 use Rattle.claim_verdicts.proofs.schedule.schedule_verdict.Goals as goal
 
-pub verdict_by_run-requires-clause-within : goal.verdict_by_run-requires-clause-within
-verdict_by_run-requires-clause-within g c =
-    run-within c.args.net (g.H.Handlers.meaning c.args.handlers) c.image.result.now c.run_mapped-ran.result c.args.claim.now.image c.image.ensures c.run_mapped-ran.ensures.refused
+pub verdict_by_run-requires-clause-started : goal.verdict_by_run-requires-clause-started
+verdict_by_run-requires-clause-started g c =
+    let new = c.in_ok-running.ensures in
+    record {
+      followed = subst (λ (h : g.row.H.Denot). HasFollowed (g.H.Handlers.meaning h) (λ map m ss. map ≡ []) c.in_ok-running.running []) (sym new.handlers) new.started;
+      traced = new.trace;
+      allowed = refl;
+      counted = new.taken;
+    }
 
 pub returns : goal.returns
-returns g c =
-    let m = g.H.Handlers.meaning c.args.handlers in
-    let image = c.args.claim.now.image in
-    let first = first_refused c.args.net m no_recovery image in
-    let shown = trace m no_recovery image in
-    let ran = rw c.image.ensures at c.run_mapped-ran.ensures in
-    c.verdict_by_run.ensures first shown (runs-to c.run_mapped-ran.result first shown ran.allowed ran.trace ran.refused)
+returns g c = rw (c.in_ok-running.ensures.net, c.in_ok-running.ensures.handlers) at c.verdict_by_run.ensures
