@@ -76,8 +76,10 @@ impl<I: Drop, O: Drop, X: Drop> Draft<I, O, X> {
 
     /// Adds an item to the trace.
     pub fn add_item(&mut self, item: Item<I, O>) -> Result<(), AllocError>
-        ensures { OnOk result (self.new ≡ record self.old { trace = self.old.trace ++ item ∷ []; inputs = count_item self.old.inputs item
-            }) }
+        ensures { OnOk result (self.new ≡ record self.old {
+          trace = self.old.trace ++ item ∷ [];
+          inputs = count_item self.old.inputs item;
+        }) }
     {
         let more = usize::from(matches!(item, Item::Input(_, _)));
         self.trace.push(item)?;

@@ -41,7 +41,11 @@ fn verdict_by_run<R: Runs, A: AppText<Input = R::Input, Output = R::Output>>(
             Err(RunFault::Memory) => return Err(AllocError),
         }
         let came = running.trace().items();
-        comparison = comparison.after::<A, Item<A::Input, A::Output>>(&mut texts, claim.trace(), came)?;
+        comparison = comparison.after::<A, Item<A::Input, A::Output>>(
+            &mut texts,
+            claim.trace(),
+            came,
+        )?;
         running.forget_trace();
     }
     match comparison.difference(claim.trace().len()) {

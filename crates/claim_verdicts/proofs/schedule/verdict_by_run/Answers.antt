@@ -54,8 +54,8 @@ returns-in-Err-Step g c =
     → IsRunAnswer {A = Unit {0}} (Err c.in-Err-Step.field-0) (refusal_of z.net z.meaning (run z.meaning z.recovery ss) x) (length ss)) inv.system c.in-Err-Step.ensures.refused in
     let here = rw c.in-Err-Step.field-0-is at answer (take i xs) (trace sys.meaning sys.recovery (take i xs)) inv.ran in
     let found : first_refused sys.net sys.meaning sys.recovery xs ≡ Some (place, why) =
-        ap (λ ss. first_refused sys.net sys.meaning sys.recovery ss) (at_item xs i x below is)
-        ∙ refused_next sys (take i xs) (drop (i + 1) xs) x (fault.Step why place) inv.ran.allowed here in
+    ap (λ ss. first_refused sys.net sys.meaning sys.recovery ss) (at_item xs i x below is)
+    ∙ refused_next sys (take i xs) (drop (i + 1) xs) x (fault.Step why place) inv.ran.allowed here in
     let same : i ≡ place = omega (arith, here.1, length-take i xs, below) in
     rw found (ap (λ line. No 4 line) (c.image_line.ensures ∙ ap (image_line c.args.claim.now) same))
 
@@ -76,7 +76,7 @@ loop-place-preserved g c =
     let next = subst (λ (z : SystemOf g). (ss : List (Step g.row.R-Input.Denot)) (gone : List (ItemOf g)) → HasRun z r.follows r.progress ss gone old
     → HasRun z r.follows r.progress (ss ++ x ∷ []) gone stepped) inv.system c.in-Ok.ensures.next in
     let ran : HasRun sys r.follows r.progress (take (i + 1) xs) seen stepped =
-        rw (take_more xs i x below, ← is) (next (take i xs) seen inv.ran) in
+    rw (take_more xs i x below, ← is) (next (take i xs) seen inv.ran) in
     let tells = rw (c.trace-in-loop-place.ensures, c.items-came.ensures, c.trace.ensures) at c.in_ok-comparison.ensures.tells in
     record {
       system = c.forget_trace.ensures.system ∙ (c.in-Ok.ensures.system ∙ inv.system);
