@@ -2,6 +2,7 @@ ghost use Rattle.std.specs.Prelude.{◌≡◌, ℕ, ◌+◌, ◌<◌, ◌≤◌,
 
 use std::alloc::{AllocError, Global};
 use std::marker::Model;
+use std::mem;
 use vst_base::Node;
 
 /// The outputs and sends that an event makes, in order. Contracts see both lists, and how many of
@@ -66,6 +67,38 @@ impl<O: Drop, M: Drop> Effects<O, M> {
         ensures sends { result.1.items ≡ self.sends }
     {
         (self.outputs, self.sends)
+    }
+
+    /// Lends the outputs to effects for handlers within, which add to them, and which have no sends and room for so many. Until
+    /// they are taken back there are none here. At an `Err` nothing changed.
+    pub fn lend_outputs<N: Drop>(
+        &mut self,
+        alloc: Global,
+        sends: usize,
+    ) -> Result<Effects<O, N>, AllocError>
+        ensures outputs { IfOk result (λ within. within.outputs ≡ self.old.outputs) }
+        ensures no_sends { IfOk result (λ within. within.sends ≡ []) }
+        ensures room { IfOk result (λ within. sends ≤ within.send_places) }
+        ensures lent { OnOk result (self.new.outputs ≡ []) }
+        ensures err { OnErr result (self.new ≡ self.old) }
+        ensures sends { self.new.sends ≡ self.old.sends }
+        ensures send_places { self.new.send_places ≡ self.old.send_places }
+    {
+        let sends = Vec::with_capacity(alloc, sends)?;
+        let outputs = mem::replace(&mut self.outputs, Vec::new(alloc));
+        Ok(Effects { outputs, sends })
+    }
+
+    /// Takes the outputs back from effects that they were lent to, and gives the sends of these, in order.
+    pub fn take_back<N: Drop>(&mut self, within: Effects<O, N>) -> Vec<(Node, N)>
+        ensures outputs { self.new.outputs ≡ within.outputs }
+        ensures given { result.items ≡ within.sends }
+        ensures sends { self.new.sends ≡ self.old.sends }
+        ensures send_places { self.new.send_places ≡ self.old.send_places }
+    {
+        let (outputs, sends) = within.into_parts();
+        self.outputs = outputs;
+        sends
     }
 
     /// Makes room for so many more outputs and sends. What is there stays, whatever the result.

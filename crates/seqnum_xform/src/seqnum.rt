@@ -77,10 +77,11 @@ impl<H: Handlers> Handlers for SeqNum<H> {
         input: &H::Input,
         effects: &mut Effects<H::Output, SeqMsg<H::Msg>>,
     ) -> Result<(), AllocError> {
-        let mut within = Effects::with_capacity(alloc, 0, MAX_SENDS)?;
+        let mut within = effects.lend_outputs(alloc, MAX_SENDS)?;
         self.inner
             .input(alloc, node, &mut state.inner, input, &mut within)?;
-        hand_on(within, &mut state.next, effects)
+        hand_on(within, &mut state.next, effects);
+        Ok(())
     }
 
     fn message(
@@ -107,7 +108,7 @@ impl<H: Handlers> Handlers for SeqNum<H> {
             return Ok(());
         }
         state.seen.add(alloc, from, message.number)?;
-        let mut within = Effects::with_capacity(alloc, 0, MAX_SENDS)?;
+        let mut within = effects.lend_outputs(alloc, MAX_SENDS)?;
         self.inner.message(
             alloc,
             node,
@@ -116,7 +117,8 @@ impl<H: Handlers> Handlers for SeqNum<H> {
             &message.inner,
             &mut within,
         )?;
-        hand_on(within, &mut state.next, effects)
+        hand_on(within, &mut state.next, effects);
+        Ok(())
     }
 
     fn timeout(
@@ -126,10 +128,11 @@ impl<H: Handlers> Handlers for SeqNum<H> {
         state: &mut SeqState<H::State>,
         effects: &mut Effects<H::Output, SeqMsg<H::Msg>>,
     ) -> Result<(), AllocError> {
-        let mut within = Effects::with_capacity(alloc, 0, MAX_SENDS)?;
+        let mut within = effects.lend_outputs(alloc, MAX_SENDS)?;
         self.inner
             .timeout(alloc, node, &mut state.inner, &mut within)?;
-        hand_on(within, &mut state.next, effects)
+        hand_on(within, &mut state.next, effects);
+        Ok(())
     }
 
     ghost fresh = { fresh H.meaning H.sound H.spent H.fresh };

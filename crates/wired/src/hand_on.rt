@@ -7,18 +7,6 @@ use std::alloc::{AllocError, Global};
 use vst_base::Node;
 use wire_messages::Wire;
 
-// Hands on the outputs, in order.
-fn outputs<O: Drop>(within: Vec<O>, effects: &mut Effects<O, Packet>) -> Result<(), AllocError>
-    ensures outputs { OnOk result (effects.new.outputs ≡ effects.old.outputs ++ within.items) }
-    ensures sends { effects.new.sends ≡ effects.old.sends }
-    ensures room { effects.new.send_places ≡ effects.old.send_places }
-{
-    for output in within {
-        effects.output(output)?;
-    }
-    Ok(())
-}
-
 // Hands on the messages, in order, each as the packet of its bytes.
 fn sends<O: Drop, M: Wire>(
     alloc: Global,
@@ -39,7 +27,8 @@ fn sends<O: Drop, M: Wire>(
     Ok(())
 }
 
-/// Hands on what the handlers within made of an event at a node, with its messages as packets.
+/// Hands on what the handlers within made of an event at a node, where the outputs were lent to them: takes these back, and sends
+/// the messages as packets.
 pub(crate) fn hand_on<O: Drop, M: Wire>(
     alloc: Global,
     cluster: &Cluster,
@@ -48,11 +37,10 @@ pub(crate) fn hand_on<O: Drop, M: Wire>(
     effects: &mut Effects<O, Packet>,
 ) -> Result<(), AllocError>
     requires room { length within.sends ≤ effects.old.send_places }
-    ensures outputs { OnOk result (effects.new.outputs ≡ effects.old.outputs ++ within.outputs) }
+    ensures outputs { OnOk result (effects.new.outputs ≡ within.outputs) }
     ensures sends { OnOk result (effects.new.sends
         ≡ effects.old.sends ++ sent M.format cluster.now.stack cluster.now.name from within.sends) }
 {
-    let (given, sent) = within.into_parts();
-    outputs(given, effects)?;
+    let sent = effects.take_back(within);
     sends(alloc, cluster, from, sent, effects)
 }

@@ -85,7 +85,7 @@ where
         input: &H::Input,
         effects: &mut Effects<H::Output, Packet>,
     ) -> Result<(), AllocError> {
-        let mut within = Effects::with_capacity(alloc, 0, MAX_SENDS)?;
+        let mut within = effects.lend_outputs(alloc, MAX_SENDS)?;
         self.inner.input(alloc, node, state, input, &mut within)?;
         hand_on(alloc, &self.cluster, node, within, effects)
     }
@@ -102,7 +102,7 @@ where
         let Some(heard) = hear::<H::Msg>(alloc, &self.cluster, from, node, message)? else {
             return Ok(());
         };
-        let mut within = Effects::with_capacity(alloc, 0, MAX_SENDS)?;
+        let mut within = effects.lend_outputs(alloc, MAX_SENDS)?;
         self.inner
             .message(alloc, node, state, from, &heard, &mut within)?;
         hand_on(alloc, &self.cluster, node, within, effects)
@@ -115,7 +115,7 @@ where
         state: &mut H::State,
         effects: &mut Effects<H::Output, Packet>,
     ) -> Result<(), AllocError> {
-        let mut within = Effects::with_capacity(alloc, 0, MAX_SENDS)?;
+        let mut within = effects.lend_outputs(alloc, MAX_SENDS)?;
         self.inner.timeout(alloc, node, state, &mut within)?;
         hand_on(alloc, &self.cluster, node, within, effects)
     }

@@ -15,5 +15,7 @@ returns-clause-does g c =
     (heard f w.stack w.name c.args.from c.args.node c.args.message.now))) c.message.new.state c.args.effects.now c.hand_on.new.effects))
     c.self.view_is
     (handed_heard f g.H.Handlers.meaning w c.args.node c.args.from c.args.state.now c.message.new.state
-    (heard f w.stack w.name c.args.from c.args.node c.args.message.now) c.in-Some.heard c.in_ok-within.within c.message.new.effects c.args.effects.now c.hand_on.new.effects
-    c.hand_on.result is_heard c.in_ok-within.ensures.outputs c.in_ok-within.ensures.sends c.in_ok-message.ensures.does c.hand_on.ensures.outputs c.hand_on.ensures.sends)
+    (heard f w.stack w.name c.args.from c.args.node c.args.message.now) c.in-Some.heard c.in_ok-within.within c.message.new.effects
+    c.args.effects.now c.lend_outputs.new.self c.hand_on.new.effects c.hand_on.result is_heard
+    c.in_ok-within.ensures.outputs c.in_ok-within.ensures.no_sends c.lend_outputs.ensures.sends c.in_ok-message.ensures.does
+    c.hand_on.ensures.outputs c.hand_on.ensures.sends)
