@@ -4,7 +4,7 @@ use Rattle.std.proofs.Common.{Option, Some, None, is_some, IsSome, slice_get, tr
 use Rattle.std.proofs.lemmas.Bool.{cases_eq, eq-eqb, ne_eqb, false≢true}
 use Rattle.std.proofs.lemmas.List.{map-append, length-map}
 use Rattle.std.proofs.lemmas.Option.{same_Some, get_or_from_slice_get, slice_get_past}
-use Rattle.slab.specs.Slab.{Slab, get, Updates}
+use Rattle.slab.specs.Slab.{Slab, get, slab_len, Updates}
 use Rattle.net_semantics.specs.declared.packets.Sent.{Sent}
 use Rattle.net_semantics.specs.Worlds.{change_at}
 use Rattle.net_semantics.specs.Shown.{Shown}
@@ -82,13 +82,13 @@ module _ {M : Type 0} (c c2 : Slab M) where
       ∙ ap (λ xs. shown_with c t ∷ xs) (same_but_set ss k s (λ j u ne e. h (suc j) u (λ q. ne (omega arith)) e))
 
 module _ {M : Type 0} (c : Slab M) where
-  pub kept_at_first : (ss : List Sent) → ss ≡ [] → IsKept ss c 0
-  kept_at_first ss none =
-      let first : IsKept [] c 0 = record {
-        counted = refl;
+  pub kept_at_first : (ss : List Sent) → ss ≡ [] → slab_len c ≡ 0 → IsKept ss c
+  kept_at_first ss none empty =
+      let first : IsKept [] c = record {
+        counted = empty;
         there = λ k s e l. absurd (cc);
         apart = λ j k s t e f l m q. absurd (cc);
-      } in subst (λ xs. IsKept xs c 0) (sym none) first
+      } in subst (λ xs. IsKept xs c) (sym none) first
 
   -- a packet that is shown with a copy was sent, and has it
   pub sent_there : (ss : List Sent) (k : ℕ) (s : Sent) → 0 < held_copies (slice_get (shown_all c ss) k) → s ≡ get_or ss k s
@@ -113,25 +113,25 @@ module _ {M : Type 0} (c : Slab M) where
         subst (λ o. slice_get ps k ≡ Some (parcel_of s.source s.destination (held_copies o) m)) (sym shown) shown
 
 -- packets are kept and shown as before where there is room for more contents
-module _ {M : Type 0} (ss : List Sent) (c c2 : Slab M) (held : ℕ) (same : c2 ≡ record c { capacity = c2.capacity }) where
-  pub kept_roomier : IsKept ss c held → IsKept ss c2 held
+module _ {M : Type 0} (ss : List Sent) (c c2 : Slab M) (same : c2 ≡ record c { capacity = c2.capacity }) where
+  pub kept_roomier : IsKept ss c → IsKept ss c2
   kept_roomier was =
-      let roomier : IsKept ss (record c { capacity = c2.capacity }) held =
+      let roomier : IsKept ss (record c { capacity = c2.capacity }) =
       record { counted = was.counted; there = was.there; apart = was.apart } in
-      subst (λ x. IsKept ss x held) (sym same) roomier
+      subst (λ x. IsKept ss x) (sym same) roomier
 
   pub shown_roomier : shown_all c2 ss ≡ shown_all c ss
   shown_roomier = same_all c c2 ss (λ j s e. ap (λ x. shown_with x s) same)
 
 -- packet k, which has a copy, gets another number of copies, and no place but its own gets another content
-pub record Changes {M : Type 0} (ss : List Sent) (c c2 : Slab M) (held k : ℕ) (s : Sent) (n : ℕ) : Type 0 where
-  pub was : IsKept ss c held
+pub record Changes {M : Type 0} (ss : List Sent) (c c2 : Slab M) (k : ℕ) (s : Sent) (n : ℕ) : Type 0 where
+  pub was : IsKept ss c
   pub there : slice_get ss k ≡ Some s
   pub copy : 0 < s.copies
   pub others : (p : ℕ) → p ≢ s.place → get c2 p ≡ get c p
   pub still : 0 < n → get c2 s.place ≡ get c s.place
 
-module _ {M : Type 0} (ss : List Sent) (c c2 : Slab M) (held k : ℕ) (s : Sent) (n : ℕ) (h : Changes ss c c2 held k s n) where
+module _ {M : Type 0} (ss : List Sent) (c c2 : Slab M) (k : ℕ) (s : Sent) (n : ℕ) (h : Changes ss c c2 k s n) where
   abbrev changed : List Sent
   changed = set ss k (with_copies s n)
 
@@ -172,50 +172,54 @@ module _ {M : Type 0} (ss : List Sent) (c c2 : Slab M) (held k : ℕ) (s : Sent)
   read : shown_with c s ≡ get_or (shown_all c ss) k (shown_with c s)
   read = sym (get_or_from_slice_get (shown_all c ss) k (shown_with c s) (shown_with c s) stands)
 
-  pub kept_some : 0 < n → IsKept changed c2 held
-  kept_some l =
+  pub kept_some : 0 < n → slab_len c2 ≡ slab_len c → IsKept changed c2
+  kept_some l len =
       let some = count_some (shown_all c ss) k (shown_with c s) (shown_with c2 (with_copies s n)) copy_shown l in
-      record { counted = h.was.counted ∙ (some ∙ ap held_count (sym shown_changed)); there = changed_there; apart = changed_apart }
+      record {
+        counted = len ∙ (h.was.counted ∙ (some ∙ ap held_count (sym shown_changed)));
+        there = changed_there;
+        apart = changed_apart;
+      }
 
-  pub kept_none : n ≡ 0 → IsKept changed c2 (held - 1)
-  kept_none e =
+  pub kept_none : n ≡ 0 → slab_len c2 + 1 ≡ slab_len c → IsKept changed c2
+  kept_none e len =
       let none = count_none (shown_all c ss) k (shown_with c s) (shown_with c2 (with_copies s n)) copy_shown e in
-      let fewer : held - 1 ≡ held_count (set (shown_all c ss) k (shown_with c2 (with_copies s n))) =
-      omega (arith, h.was.counted, none) in
+      let fewer : slab_len c2 ≡ held_count (set (shown_all c ss) k (shown_with c2 (with_copies s n))) =
+      omega (arith, h.was.counted, none, len) in
       record { counted = fewer ∙ ap held_count (sym shown_changed); there = changed_there; apart = changed_apart }
 
 -- how packets are shown where one copy less of packet k is in flight, and where one more is
-module _ {M : Type 0} (ss : List Sent) (c c2 : Slab M) (held k : ℕ) (s : Sent) where
-  pub shown_less : Changes ss c c2 held k s (s.copies - 1)
+module _ {M : Type 0} (ss : List Sent) (c c2 : Slab M) (k : ℕ) (s : Sent) where
+  pub shown_less : Changes ss c c2 k s (s.copies - 1)
       → shown_all c2 (set ss k (with_copies s (s.copies - 1))) ≡ change_at held_less k (shown_all c ss)
   shown_less h =
       let n = s.copies - 1 in
       let less : shown_with c2 (with_copies s n) ≡ held_less (shown_with c s) =
       ap (shown_as s n) (same_content n (get c2 s.place) (content_of s.copies (get c s.place))
       (λ l. h.still l ∙ sym (its_content s.copies (get c s.place) h.copy))) in
-      shown_changed ss c c2 held k s n h
-      ∙ set_less (shown_all c ss) k (shown_with c s) (shown_with c2 (with_copies s n)) (copy_shown ss c c2 held k s n h)
-      (less ∙ ap held_less (read ss c c2 held k s n h))
+      shown_changed ss c c2 k s n h
+      ∙ set_less (shown_all c ss) k (shown_with c s) (shown_with c2 (with_copies s n)) (copy_shown ss c c2 k s n h)
+      (less ∙ ap held_less (read ss c c2 k s n h))
 
-  pub shown_more : Changes ss c c2 held k s (s.copies + 1)
+  pub shown_more : Changes ss c c2 k s (s.copies + 1)
       → shown_all c2 (set ss k (with_copies s (s.copies + 1))) ≡ change_at held_more k (shown_all c ss)
   shown_more h =
       let n = s.copies + 1 in
       let more : shown_with c2 (with_copies s n) ≡ held_more (shown_with c s) =
       ap (shown_as s n) (its_content n (get c2 s.place) (omega arith)
       ∙ (h.still (omega arith) ∙ sym (its_content s.copies (get c s.place) h.copy))) in
-      shown_changed ss c c2 held k s n h
-      ∙ set_more (shown_all c ss) k (shown_with c s) (shown_with c2 (with_copies s n)) (copy_shown ss c c2 held k s n h)
-      (more ∙ ap held_more (read ss c c2 held k s n h))
+      shown_changed ss c c2 k s n h
+      ∙ set_more (shown_all c ss) k (shown_with c s) (shown_with c2 (with_copies s n)) (copy_shown ss c c2 k s n h)
+      (more ∙ ap held_more (read ss c c2 k s n h))
 
 -- a packet is sent, with its content where none stood
-pub record Adds {M : Type 0} (ss : List Sent) (c c2 : Slab M) (held place : ℕ) (m : M) : Type 0 where
-  pub was : IsKept ss c held
+pub record Adds {M : Type 0} (ss : List Sent) (c c2 : Slab M) (place : ℕ) (m : M) : Type 0 where
+  pub was : IsKept ss c
   pub vacant : get c place ≡ None
   pub updates : Updates c c2 place (Some m)
 
-module _ {M : Type 0} (ss : List Sent) (c c2 : Slab M) (held place : ℕ) (m : M) (source destination : ℕ)
-    (h : Adds ss c c2 held place m) where
+module _ {M : Type 0} (ss : List Sent) (c c2 : Slab M) (place : ℕ) (m : M) (source destination : ℕ)
+    (h : Adds ss c c2 place m) where
   abbrev added : List Sent
   added = ss ++ sent_to source destination place ∷ []
 
@@ -251,11 +255,11 @@ module _ {M : Type 0} (ss : List Sent) (c c2 : Slab M) (held place : ℕ) (m : M
       map-append (shown_with c2) ss (s ∷ [])
       ∙ (ap (λ ps. ps ++ shown_with c2 s ∷ []) before ∙ ap (λ p. shown_all c ss ++ p ∷ []) new)
 
-  pub kept_added : IsKept added c2 (held + 1)
-  kept_added =
+  pub kept_added : slab_len c2 ≡ slab_len c + 1 → IsKept added c2
+  kept_added len =
       let more = count_one_more (shown_all c ss) (held_sent source (destination, m)) (omega arith) in
       record {
-        counted = ap (λ n. n + 1) h.was.counted ∙ (sym more ∙ ap held_count (sym shown_added));
+        counted = len ∙ (ap (λ n. n + 1) h.was.counted ∙ (sym more ∙ ap held_count (sym shown_added)));
         there = added_there;
         apart = added_apart;
       }

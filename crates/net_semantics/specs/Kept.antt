@@ -1,6 +1,6 @@
 -- Packets as `Packets` holds them: the contents of those in flight stand apart, each in a place of its own.
 use Rattle.std.specs.Prelude.{◌≡◌, ℕ, ◌<◌, ◌==◌, List, map, Option, Some, None, IsSome, if◌then◌else◌, slice_get}
-use Rattle.slab.specs.Slab.{Slab, get}
+use Rattle.slab.specs.Slab.{Slab, get, slab_len}
 use Rattle.net_semantics.specs.declared.packets.Sent.{Sent}
 use Rattle.net_semantics.specs.Shown.{Shown}
 use Rattle.net_semantics.specs.Held.{held_count}
@@ -21,9 +21,9 @@ module _ {M : Type 0} where
   abbrev pub shown_all : Slab M → List Sent → List (Shown M)
   shown_all contents sent = map (shown_with contents) sent
 
-  -- each packet in flight has a content, no two of them have it in the same place, and so many are in flight
-  pub record IsKept (sent : List Sent) (contents : Slab M) (held : ℕ) : Type 0 where
-    pub counted : held ≡ held_count (shown_all contents sent)
+  -- each packet in flight has a content, no two of them have it in the same place, and there is no other content
+  pub record IsKept (sent : List Sent) (contents : Slab M) : Type 0 where
+    pub counted : slab_len contents ≡ held_count (shown_all contents sent)
     pub there : (k : ℕ) (s : Sent) → slice_get sent k ≡ Some s → 0 < s.copies → IsSome (get contents s.place)
     pub apart : (j k : ℕ) (s t : Sent) → slice_get sent j ≡ Some s → slice_get sent k ≡ Some t
         → 0 < s.copies → 0 < t.copies → s.place ≡ t.place → j ≡ k

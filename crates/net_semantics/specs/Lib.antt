@@ -4,6 +4,7 @@ pub mod Runs
 pub mod Shown
 pub mod Held
 pub mod Kept
+pub mod KeptExamples
 pub mod Taking
 pub mod ShownFail
 pub mod TakingFail

@@ -14,7 +14,8 @@ mod world;
 
 pub use fail_world::FailWorld;
 pub use pins::{
-    kept_by_place, refusals_in_order, repeats_left_out, runs_and_traces, steps_of_a_world,
+    contents_apart, kept_by_place, refusals_in_order, repeats_left_out, runs_and_traces,
+    steps_of_a_world,
 };
 pub use trace::Trace;
 pub use vst_base::{Item, MAX_STEPS, Net, Node, Step, StepKind, StepRefusal};

@@ -30,7 +30,6 @@ pub struct Parcel<'a, M> {
 pub struct Packets<M> {
     items: Vec<Sent>,
     contents: Slab<M>,
-    held: usize,
 }
 
 impl<M> Model for Packets<M> {
@@ -43,7 +42,7 @@ impl<M> Model for Packets<M> {
 
     ghost view = { λ p. shown_all p.contents p.items.items };
 
-    ghost invariant = { λ p. IsKept p.items.items p.contents p.held };
+    ghost invariant = { λ p. IsKept p.items.items p.contents };
 }
 
 impl<M: Drop> Packets<M> {
@@ -54,7 +53,6 @@ impl<M: Drop> Packets<M> {
         Packets {
             items: Vec::new(alloc),
             contents: Slab::new(alloc),
-            held: 0,
         }
     }
 
@@ -69,7 +67,7 @@ impl<M: Drop> Packets<M> {
     pub fn held(&self) -> usize
         ensures { result ≡ held_count self.now }
     {
-        self.held
+        self.contents.len()
     }
 
     /// How many copies of packet `k` are in flight, none of one that was never sent.
@@ -141,7 +139,6 @@ impl<M: Drop> Packets<M> {
         if sent.copies == 0 {
             let place = sent.place;
             self.contents.remove(place);
-            self.held -= 1;
         }
     }
 
@@ -158,7 +155,6 @@ impl<M: Drop> Packets<M> {
             place,
         })?;
         self.contents.insert_reserved(content);
-        self.held += 1;
         Ok(())
     }
 }

@@ -3,6 +3,8 @@ ghost use Rattle.net_semantics.specs.Worlds.{copies, ends, held};
 ghost use Rattle.net_semantics.specs.Runs.{trace, first_refused, machine, machine_trace, no_recovery, outputs_in};
 ghost use Rattle.net_semantics.specs.Once.{once};
 ghost use Rattle.net_semantics.specs.ShownFail.{kept_at};
+ghost use Rattle.net_semantics.specs.Kept.{IsKept, shown_all, shown_with};
+ghost use Rattle.net_semantics.specs.KeptExamples.{in_places, sent_with, shown_so};
 ghost use Rattle.handler_trait.specs.Echo.{echo, echo_recovery};
 ghost use Rattle.net_semantics.specs.Echo.{echo_after, echo_refuses, adder};
 
@@ -121,4 +123,15 @@ pub fn kept_by_place()
     ensures up { kept_at {K = ℕ} (slice_get (None ∷ Some 10 ∷ []) 0) ≡ None }
     ensures down { kept_at {K = ℕ} (slice_get (None ∷ Some 10 ∷ []) 1) ≡ Some 10 }
     ensures no_node { kept_at {K = ℕ} (slice_get (None ∷ Some 10 ∷ []) 2) ≡ None }
+{}
+
+/// Packets as they are shown, by contents that are kept apart, and which contents these may be.
+pub fn contents_apart()
+    ensures in_flight { shown_with (in_places (Some 7 ∷ Some 9 ∷ [])) (sent_with 2 1) ≡ shown_so 2 (Some 9) }
+    ensures in_a_place_that_another_has_now { shown_with (in_places (Some 7 ∷ [])) (sent_with 0 0) ≡ shown_so 0 None }
+    ensures all { shown_all (in_places (None ∷ Some 9 ∷ [])) (sent_with 0 0 ∷ sent_with 1 1 ∷ []) ≡ shown_so 0 None ∷ shown_so 1 (Some 9) ∷ [] }
+    ensures kept { IsKept (sent_with 0 0 ∷ sent_with 2 0 ∷ []) (in_places (Some 7 ∷ [])) }
+    ensures not_without_a_content { IsKept (sent_with 1 0 ∷ sent_with 1 1 ∷ []) (in_places (Some 7 ∷ None ∷ Some 9 ∷ [])) → ⊥ }
+    ensures not_with_another_content { IsKept (sent_with 1 0 ∷ []) (in_places (Some 7 ∷ Some 9 ∷ [])) → ⊥ }
+    ensures not_in_one_place { IsKept (sent_with 1 0 ∷ sent_with 1 0 ∷ []) (in_places (Some 7 ∷ Some 9 ∷ [])) → ⊥ }
 {}

@@ -19,15 +19,15 @@ invariant_of-self g c =
     let i = c.self.inside in
     let s = c.index_mut-sent.result.now in
     let found = sent_there i.contents i.items.items c.args.k s (rw c.self.view_is c.requires.copy) c.index_mut-sent.ensures.value in
-    let more : Changes i.items.items i.contents i.contents i.held c.args.k s (s.copies + 1) =
+    let more : Changes i.items.items i.contents i.contents c.args.k s (s.copies + 1) =
     record { was = c.self.invariant; there = found.0; copy = found.1; others = λ p ne. refl; still = λ l. refl } in
-    kept_some i.items.items i.contents i.contents i.held c.args.k s (s.copies + 1) more (omega arith)
+    kept_some i.items.items i.contents i.contents c.args.k s (s.copies + 1) more (omega arith) refl
 
 pub returns : goal.returns
 returns g c =
     let i = c.self.inside in
     let s = c.index_mut-sent.result.now in
     let found = sent_there i.contents i.items.items c.args.k s (rw c.self.view_is c.requires.copy) c.index_mut-sent.ensures.value in
-    let more : Changes i.items.items i.contents i.contents i.held c.args.k s (s.copies + 1) =
+    let more : Changes i.items.items i.contents i.contents c.args.k s (s.copies + 1) =
     record { was = c.self.invariant; there = found.0; copy = found.1; others = λ p ne. refl; still = λ l. refl } in
-    shown_more i.items.items i.contents i.contents i.held c.args.k s more ∙ ap (change_at held_more c.args.k) c.self.view_is
+    shown_more i.items.items i.contents i.contents c.args.k s more ∙ ap (change_at held_more c.args.k) c.self.view_is

@@ -1,8 +1,6 @@
 use Rattle.std.proofs.Common.{◌≡◌, ◌∙◌, ◌-◌, ◌≢◌, ap, arith, refl}
 use Rattle.net_semantics.specs.Worlds.{change_at}
 use Rattle.net_semantics.specs.Held.{held_less}
-use Rattle.net_semantics.specs.Kept.{shown_all}
-use Rattle.net_semantics.proofs.Counts.{counted}
 use Rattle.net_semantics.proofs.Keeping.{Changes, sent_there, kept_some, kept_none, shown_less}
 use Rattle.net_semantics.proofs.packets.Packets.take_copy.Goals as goal
 
@@ -20,19 +18,13 @@ remove-requires g c =
     let found = sent_there i.contents i.items.items c.args.k s (rw c.self.view_is c.requires) c.index_mut-sent.ensures.value in
     c.self.invariant.there c.args.k s found.0 found.1
 
-pub overflow_sub-self : goal.overflow_sub-self
-overflow_sub-self g c =
-    let i = c.self.inside in
-    let some = counted (shown_all i.contents i.items.items) c.args.k (rw c.self.view_is c.requires) in
-    omega (arith, c.self.invariant.counted, some)
-
 pub invariant_of-self : goal.invariant_of-self
 invariant_of-self g c =
     let i = c.self.inside in
     let s = c.index_mut-sent.result.now in
     let found = sent_there i.contents i.items.items c.args.k s (rw c.self.view_is c.requires) c.index_mut-sent.ensures.value in
     let none : s.copies - 1 ≡ 0 = omega (arith, c.if-sent-eq0.true) in
-    let less : Changes i.items.items i.contents c.remove.new.self i.held c.args.k s (s.copies - 1) =
+    let less : Changes i.items.items i.contents c.remove.new.self c.args.k s (s.copies - 1) =
     record {
       was = c.self.invariant;
       there = found.0;
@@ -40,7 +32,7 @@ invariant_of-self g c =
       others = c.remove.ensures.updates.others;
       still = λ l. absurd (omega (arith, none, l));
     } in
-    kept_none i.items.items i.contents c.remove.new.self i.held c.args.k s (s.copies - 1) less none
+    kept_none i.items.items i.contents c.remove.new.self c.args.k s (s.copies - 1) less none c.remove.ensures.len
 
 pub invariant_of-self-else-sent-eq0 : goal.invariant_of-self-else-sent-eq0
 invariant_of-self-else-sent-eq0 g c =
@@ -48,9 +40,9 @@ invariant_of-self-else-sent-eq0 g c =
     let s = c.index_mut-sent.result.now in
     let found = sent_there i.contents i.items.items c.args.k s (rw c.self.view_is c.requires) c.index_mut-sent.ensures.value in
     let some : s.copies - 1 ≢ 0 = c.if-sent-eq0.false in
-    let less : Changes i.items.items i.contents i.contents i.held c.args.k s (s.copies - 1) =
+    let less : Changes i.items.items i.contents i.contents c.args.k s (s.copies - 1) =
     record { was = c.self.invariant; there = found.0; copy = found.1; others = λ p ne. refl; still = λ l. refl } in
-    kept_some i.items.items i.contents i.contents i.held c.args.k s (s.copies - 1) less (omega (arith, some))
+    kept_some i.items.items i.contents i.contents c.args.k s (s.copies - 1) less (omega (arith, some)) refl
 
 pub returns-then-sent-eq0 : goal.returns-then-sent-eq0
 returns-then-sent-eq0 g c =
@@ -58,7 +50,7 @@ returns-then-sent-eq0 g c =
     let s = c.index_mut-sent.result.now in
     let found = sent_there i.contents i.items.items c.args.k s (rw c.self.view_is c.requires) c.index_mut-sent.ensures.value in
     let none : s.copies - 1 ≡ 0 = omega (arith, c.if-sent-eq0.true) in
-    let less : Changes i.items.items i.contents c.remove.new.self i.held c.args.k s (s.copies - 1) =
+    let less : Changes i.items.items i.contents c.remove.new.self c.args.k s (s.copies - 1) =
     record {
       was = c.self.invariant;
       there = found.0;
@@ -66,13 +58,13 @@ returns-then-sent-eq0 g c =
       others = c.remove.ensures.updates.others;
       still = λ l. absurd (omega (arith, none, l));
     } in
-    shown_less i.items.items i.contents c.remove.new.self i.held c.args.k s less ∙ ap (change_at held_less c.args.k) c.self.view_is
+    shown_less i.items.items i.contents c.remove.new.self c.args.k s less ∙ ap (change_at held_less c.args.k) c.self.view_is
 
 pub returns-else-sent-eq0 : goal.returns-else-sent-eq0
 returns-else-sent-eq0 g c =
     let i = c.self.inside in
     let s = c.index_mut-sent.result.now in
     let found = sent_there i.contents i.items.items c.args.k s (rw c.self.view_is c.requires) c.index_mut-sent.ensures.value in
-    let less : Changes i.items.items i.contents i.contents i.held c.args.k s (s.copies - 1) =
+    let less : Changes i.items.items i.contents i.contents c.args.k s (s.copies - 1) =
     record { was = c.self.invariant; there = found.0; copy = found.1; others = λ p ne. refl; still = λ l. refl } in
-    shown_less i.items.items i.contents i.contents i.held c.args.k s less ∙ ap (change_at held_less c.args.k) c.self.view_is
+    shown_less i.items.items i.contents i.contents c.args.k s less ∙ ap (change_at held_less c.args.k) c.self.view_is
