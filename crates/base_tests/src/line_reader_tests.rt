@@ -133,7 +133,7 @@ fn has_lines_before(alloc: Global, call: u64, wanted: &[u8]) -> Result<bool, Fai
 }
 
 #[test]
-fn a_failed_read_comes_behind_the_whole_lines(rt: HostRuntime) -> Result<(), Fail> {
+fn a_failed_read_comes_after_the_whole_lines(rt: HostRuntime) -> Result<(), Fail> {
     for (call, wanted) in [(1, ""), (2, "ab|"), (3, "ab|"), (4, "ab|cde|")] {
         assert!(rt; has_lines_before(rt.alloc(), call, wanted.as_bytes())?);
     }
@@ -141,7 +141,7 @@ fn a_failed_read_comes_behind_the_whole_lines(rt: HostRuntime) -> Result<(), Fai
 }
 
 #[test]
-fn nothing_is_read_behind_the_end(rt: HostRuntime) -> Result<(), Fail> {
+fn nothing_is_read_after_the_end(rt: HostRuntime) -> Result<(), Fail> {
     let alloc = rt.alloc();
     let mut source = source(alloc, b"a", 10, Vec::new(alloc))?;
     let mut reader = Reader::new(alloc, 2_000_000)?;

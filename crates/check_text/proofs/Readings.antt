@@ -11,7 +11,7 @@ use Rattle.line_reader.specs.Lines.{decided, lines_of, whole_lines}
 use Rattle.line_reader.specs.Readers.{ReaderView, fresh}
 use Rattle.line_reader.specs.Outcomes.{Uses, StandsAt, BreaksOff, EndsAll, ReadsLine, HasReadCause}
 use Rattle.line_reader.proofs.Lining.{whole-append}
-use Rattle.line_reader.proofs.Using.{uses-none, uses-more, lines-more, breaks-behind, stands-at-end, stands-behind}
+use Rattle.line_reader.proofs.Using.{uses-none, uses-more, lines-more, breaks-after, stands-at-end, stands-after}
 use Rattle.check_text.specs.Claims.{Claim}
 use Rattle.check_text.specs.Drafts.{Draft, EndsBy, EndsClaim, Finishes, TakesLine, comes_to, no_lines}
 use Rattle.check_text.specs.Forms.{Form, claim_of}
@@ -88,7 +88,7 @@ module _ {I O X : Type 0} (f : Form I O X) where
     line-broke : (cause : mid.ended ≡ false) (part : List ℕ) → BreaksOff left' s.uses.rest' part → whole_lines part ≡ [] → ReadsClaim f left' bytes (Err fault.Read)
     line-broke going part breaks none = (
       s.used ++ part,
-      breaks-behind (fresh most_lines) mid left left' bytes s.used part s.uses (s.uses.closed going) breaks,
+      breaks-after (fresh most_lines) mid left left' bytes s.used part s.uses (s.uses.closed going) breaks,
       ap (λ ls. refusal_so_far (claim_of f ls)) (whole-append s.used part (s.uses.closed going) ∙ ap (λ ls. lines_of s.used ++ ls) none)
           ∙ (ap refusal_so_far (s.goes []) ∙ none-refused f d (mid.number + 1)),
     )
@@ -123,7 +123,7 @@ module _ {I O X : Type 0} (f : Form I O X) where
 
     -- how much was given where a line is refused
     pub ahead-refused : (w : Why) → StandsAt mid new left' s.uses.rest' new.number → LooksAhead left' bytes (fault.Refused new.number w)
-    ahead-refused w stands = given-of new left' bytes new.number w (stands-behind (fresh most_lines) mid new left left' bytes s.used new.number s.uses stands)
+    ahead-refused w stands = given-of new left' bytes new.number w (stands-after (fresh most_lines) mid new left left' bytes s.used new.number s.uses stands)
 
     ahead-ends : (r : Result (Claim I O X) LineFault) → s.uses.rest' ≡ [] → EndsAll new left' → new.number ≡ mid.number → EndsClaim f d new.number r → IfErr r (LooksAhead left' bytes)
     ahead-ends (Ok c) none ends still is = tt
@@ -137,7 +137,7 @@ module _ {I O X : Type 0} (f : Form I O X) where
     ahead-ended A fault.Write r reads still is = absurd reads
     ahead-ended A fault.Memory r reads still is = rw is tt
     ahead-ended A (fault.Refused n w) r reads still is =
-        rw is (given-of new left' bytes n w (stands-behind (fresh most_lines) mid new left left' bytes s.used n s.uses reads.0))
+        rw is (given-of new left' bytes n w (stands-after (fresh most_lines) mid new left left' bytes s.used n s.uses reads.0))
 
 -- the cause of a fault
 ends-quiet : {I O X : Type 0} (f : Form I O X) (d : Draft I O X) (n f0 f' : ℕ) (r : Result (Claim I O X) LineFault) → EndsClaim f d n r → IfErr r (HasReadFault f0 f')

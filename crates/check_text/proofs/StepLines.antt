@@ -19,13 +19,13 @@ of_line (line.IsStep s) = image.Says s
 of_line (line.Refused w) = image.Refused w
 
 -- a line that is skipped has no parts: its first word names no kind of step
-no-parts-behind : (bs : List ℕ) (o : Option (List ℕ × List ℕ)) → cut bs ≡ o → parts_of (35 ∷ bs) ≡ None
-no-parts-behind bs None e = rw e refl
-no-parts-behind bs (Some p) e = rw e refl
+no-parts-after : (bs : List ℕ) (o : Option (List ℕ × List ℕ)) → cut bs ≡ o → parts_of (35 ∷ bs) ≡ None
+no-parts-after bs None e = rw e refl
+no-parts-after bs (Some p) e = rw e refl
 
 no-parts : (l : List ℕ) → is_skipped l ≡ true → parts_of l ≡ None
 no-parts [] e = refl
-no-parts (b ∷ bs) e = ap (λ n. parts_of (n ∷ bs)) (eqb-true b 35 e) ∙ no-parts-behind bs (cut bs) refl
+no-parts (b ∷ bs) e = ap (λ n. parts_of (n ∷ bs)) (eqb-true b 35 e) ∙ no-parts-after bs (cut bs) refl
 
 skipped-is : {I : Type 0} (p : Option Parts) (o : Option (Step I)) (b c : Bool) → p ≡ None
     → image.Refused why.UnknownWord ≡ said_or_refused (cond (is_none p) (Some why.UnknownWord) (cond b (Some why.Number) (cond c (Some why.Text) None))) o

@@ -37,8 +37,8 @@ pub record IsStaged {I O X : Type 0} (d : Draft I O X) : Type 0 where
 
 module _ {I O X : Type 0} where
   -- a claim after further items of a trace
-  abbrev pub behind_items : List (Item I O) → Claim I O X → Claim I O X
-  behind_items items c = record { trace = items ++ c.trace; header = c.header; image = c.image }
+  abbrev pub after_items : List (Item I O) → Claim I O X → Claim I O X
+  after_items items c = record { trace = items ++ c.trace; header = c.header; image = c.image }
 
   -- the claim of a draft whose image goes on with these lines
   abbrev pub with_image : Draft I O X → List X → Claim I O X
@@ -46,8 +46,8 @@ module _ {I O X : Type 0} where
 
   -- by the stage, with the lines that follow from this number on
   abbrev pub goes_on : Form I O X → Draft I O X → Stage → ℕ → List (List ℕ) → Reading (Claim I O X)
-  goes_on form d stage.Trace number ls = read_map (behind_items d.trace) (claim_from form number d.inputs ls)
-  goes_on form d stage.Header number ls = read_map (behind_items d.trace) (with_header form form.below number ls)
+  goes_on form d stage.Trace number ls = read_map (after_items d.trace) (claim_from form number d.inputs ls)
+  goes_on form d stage.Header number ls = read_map (after_items d.trace) (with_header form form.below number ls)
   goes_on form d stage.Image number ls = read_map (with_image d) (image_from form.says number (length d.image) ls)
 
   abbrev pub comes_to : Form I O X → Draft I O X → ℕ → List (List ℕ) → Reading (Claim I O X)

@@ -54,9 +54,9 @@ module _ {I O X : Type 0} (form : Form I O X) where
       headed_unless (first_of (line_refusals most_lines number l)) number (headed (image_header below l) number (image_from form.says (number + 1) 0 ls))
 
   -- the lines after `below`
-  abbrev pub behind_below : Option StackId → ℕ → List (List ℕ) → Reading (Claim I O X)
-  behind_below None number ls = read_map (only_image None) (image_from form.says number 0 ls)
-  behind_below (Some s) number ls = with_header (Some s) number ls
+  abbrev pub after_below : Option StackId → ℕ → List (List ℕ) → Reading (Claim I O X)
+  after_below None number ls = read_map (only_image None) (image_from form.says number 0 ls)
+  after_below (Some s) number ls = with_header (Some s) number ls
 
   -- a line of the trace at this number, after so many inputs, with what the lines after it are by the inputs before
   -- them, and what they are if it is `below`
@@ -70,7 +70,7 @@ module _ {I O X : Type 0} (form : Form I O X) where
   claim_from number inputs [] = EndedAt number
   claim_from number inputs (l ∷ ls) =
       claim_line (trace_line form.input_of form.output_of form.nodes number inputs l) number inputs
-      (λ n. claim_from (number + 1) n ls) (behind_below form.below (number + 1) ls)
+      (λ n. claim_from (number + 1) n ls) (after_below form.below (number + 1) ls)
 
   -- the claim that the lines of a text are
   abbrev pub claim_of : List (List ℕ) → Reading (Claim I O X)

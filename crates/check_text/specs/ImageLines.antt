@@ -53,15 +53,15 @@ step_says input_of line =
     (step_of input_of line)
 
 -- a line of an order: the word `order`, and a request
-abbrev pub behind_order : List ℕ → Option (List ℕ)
-behind_order line = option_and_then (λ p. if is_text p.0 (codes "order") then Some p.1 else None) (cut line)
+abbrev pub after_order : List ℕ → Option (List ℕ)
+after_order line = option_and_then (λ p. if is_text p.0 (codes "order") then Some p.1 else None) (cut line)
 
 abbrev pub order_of : {I : Type 0} → (List ℕ → Option I) → List ℕ → Option I
-order_of input_of line = option_and_then input_of (behind_order line)
+order_of input_of line = option_and_then input_of (after_order line)
 
 abbrev pub order_says : {I : Type 0} → (List ℕ → Option I) → List ℕ → ImageLine I
 order_says input_of line =
-    said_or_refused (first_of ((why.UnknownWord, is_none (behind_order line)) ∷ (why.Text, is_none (order_of input_of line)) ∷ [])) (order_of input_of line)
+    said_or_refused (first_of ((why.UnknownWord, is_none (after_order line)) ∷ (why.Text, is_none (order_of input_of line)) ∷ [])) (order_of input_of line)
 
 module _ {X : Type 0} where
   abbrev pub image_unless : Option Why → ImageLine X → ImageLine X

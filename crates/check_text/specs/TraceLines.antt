@@ -39,11 +39,11 @@ pub record ItemParts : Type 0 where
 abbrev pub side_named : List ℕ → Option Bool
 side_named w = if is_text w (codes "in") then Some true else if is_text w (codes "out") then Some false else None
 
-abbrev pub parts_behind : List ℕ → Bool → Option ItemParts
-parts_behind rest side = option_map (λ p. record { is_input = side; number = p.0; text = p.1 }) (cut rest)
+abbrev pub parts_after : List ℕ → Bool → Option ItemParts
+parts_after rest side = option_map (λ p. record { is_input = side; number = p.0; text = p.1 }) (cut rest)
 
 abbrev pub item_parts : List ℕ → Option ItemParts
-item_parts line = option_and_then (λ p. option_and_then (parts_behind p.1) (side_named p.0)) (cut line)
+item_parts line = option_and_then (λ p. option_and_then (parts_after p.1) (side_named p.0)) (cut line)
 
 abbrev pub node_in : List ℕ → Option ℕ
 node_in line = option_and_then (λ p. number_of p.number) (item_parts line)

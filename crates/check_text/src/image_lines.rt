@@ -1,5 +1,5 @@
 ghost use Rattle.std.specs.Prelude.{◌≡◌, IfOk, IfSome, Some};
-ghost use Rattle.check_text.specs.ImageLines.{IsHeaded, behind_order, counted_line, heads, image_header, order_says, step_says};
+ghost use Rattle.check_text.specs.ImageLines.{IsHeaded, after_order, counted_line, heads, image_header, order_says, step_says};
 ghost use Rattle.line_reader.specs.Slices.{one};
 
 use crate::{ImageLine, ImageText};
@@ -35,8 +35,8 @@ impl<A: AppText> ImageText for Steps<A> {
 }
 
 // What stands after the word `order`.
-fn behind_order(line: &[u8]) -> Option<&[u8]>
-    ensures { one result ≡ behind_order line.now }
+fn after_order(line: &[u8]) -> Option<&[u8]>
+    ensures { one result ≡ after_order line.now }
 {
     match cut_at(line, SPACE) {
         Some((word, rest)) => {
@@ -56,7 +56,7 @@ impl<A: AppText> ImageText for Orders<A> {
     ghost says = { order_says A.input_of };
 
     fn read_line(alloc: Global, line: &[u8]) -> Result<ImageLine<A::Input>, AllocError> {
-        let Some(text) = behind_order(line) else {
+        let Some(text) = after_order(line) else {
             return Ok(ImageLine::Refused(Why::UnknownWord));
         };
         match A::read_input(alloc, text) {

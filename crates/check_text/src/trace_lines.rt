@@ -1,7 +1,7 @@
 ghost use Rattle.std.specs.Prelude.{◌≡◌, nat_lt, IfOk, Some, None, if◌then◌else◌};
 ghost use Rattle.vst_base.specs.Firsts.{first_of};
 ghost use Rattle.check_text.specs.ItemViews.{parts_view};
-ghost use Rattle.check_text.specs.TraceLines.{begins_as_input, counted_says, first_word, item_or_refusal, item_of, item_parts, item_refusals, item_with, parts_behind, side_named, trace_says};
+ghost use Rattle.check_text.specs.TraceLines.{begins_as_input, counted_says, first_word, item_or_refusal, item_of, item_parts, item_refusals, item_with, parts_after, side_named, trace_says};
 
 use crate::item_parts::ItemParts;
 use crate::trace_line::TraceLine;
@@ -42,8 +42,8 @@ fn side_named(word: &[u8]) -> Option<bool>
 }
 
 // The parts after the word of an input or an output.
-fn parts_behind(rest: &[u8], is_input: bool) -> Option<ItemParts<'_>>
-    ensures { parts_view result ≡ parts_behind rest.now is_input }
+fn parts_after(rest: &[u8], is_input: bool) -> Option<ItemParts<'_>>
+    ensures { parts_view result ≡ parts_after rest.now is_input }
 {
     match cut_at(rest, SPACE) {
         Some((number, text)) => Some(ItemParts {
@@ -61,7 +61,7 @@ fn item_parts(line: &[u8]) -> Option<ItemParts<'_>>
 {
     match cut_at(line, SPACE) {
         Some((word, rest)) => match side_named(word) {
-            Some(is_input) => parts_behind(rest, is_input),
+            Some(is_input) => parts_after(rest, is_input),
             None => None,
         },
         None => None,
@@ -146,7 +146,7 @@ pub(crate) fn counted_says<A: AppText>(
 ) -> Result<TraceLine<A::Input, A::Output>, AllocError>
     ensures { IfOk result (λ l. l ≡ counted_says A.input_of A.output_of nodes inputs line.now) }
 {
-    if begins_as_input(line) && inputs >= MAX_STEPS as usize {
+    if inputs >= MAX_STEPS as usize && begins_as_input(line) {
         return Ok(TraceLine::Refused(Why::TooManyEvents));
     }
     trace_says::<A>(alloc, nodes, line)

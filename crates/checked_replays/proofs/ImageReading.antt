@@ -17,7 +17,7 @@ use Rattle.schedule_text.specs.declared.header.Header.{Header}
 use Rattle.schedule_text.specs.Headers.{header_text}
 use Rattle.schedule_text.specs.Printing.{as_line, item_text, trace_text}
 use Rattle.check_text.specs.Claims.{Claim, only_image}
-use Rattle.check_text.specs.Forms.{Form, behind_below, claim_of, headed, headed_unless, image_from, onto, with_header}
+use Rattle.check_text.specs.Forms.{Form, after_below, claim_of, headed, headed_unless, image_from, onto, with_header}
 use Rattle.check_text.specs.ImageLines.{counted_line, image_header, image_unless, line_of_image}
 use Rattle.check_text.specs.Reading.{Reading, Whole, read_map}
 use Rattle.check_text.specs.TraceLines.{most_lines}
@@ -74,7 +74,7 @@ lines-of-parts ls below head rest plain plain_below plain_head =
 abbrev pub IsHeadedBy : {I O X : Type 0} → Form I O X → Option Header → Type 0
 IsHeadedBy {X = X} form head =
     (number : ℕ) (ls : List (List ℕ)) (xs : List X) → Each IsShort (header_lines head) → number + length (header_lines head) ≤ most_lines + 1
-    → image_from form.says (number + length (header_lines head)) 0 ls ≡ Whole xs → behind_below form form.below number (header_lines head ++ ls) ≡ Whole (only_image head xs)
+    → image_from form.says (number + length (header_lines head)) 0 ls ≡ Whole xs → after_below form form.below number (header_lines head ++ ls) ≡ Whole (only_image head xs)
 
 -- the whole text of a claim, whose image is spelled so, below this header, if it has one
 module _ {I O X : Type 0} (form : Form I O X) (t : I → List ℕ) (u : O → List ℕ) (HasIn : I → Type 0) (HasOut : O → Type 0) (few_nodes : form.nodes < 4294967296) (ins : IsSpelling HasIn form.input_of t) (outs : IsSpelling HasOut form.output_of u)

@@ -9,7 +9,7 @@ use Rattle.raft_text.specs.RaftTexts.{IsRaftInput, order_text, raft_input_of, ra
 use Rattle.raft_types.specs.declared.client.RaftInput.{RaftInput}
 use Rattle.schedule_text.proofs.PrintedLaws.{plain-text}
 use Rattle.check_text.specs.Claims.{only_image}
-use Rattle.check_text.specs.Forms.{Form, behind_below, image_from}
+use Rattle.check_text.specs.Forms.{Form, after_below, image_from}
 use Rattle.check_text.specs.ImageLines.{order_of, order_says, said_or_refused}
 use Rattle.check_text.specs.Reading.{read_map}
 use Rattle.check_text.specs.declared.image_line.ImageLine.TheVariants as line
@@ -32,7 +32,7 @@ module _ {C : Type 0} (HasIn : C → Type 0) (command_of : List ℕ → Option C
   plain-orders (q ∷ order) has = (none-append 10 (codes "order ") (raft_input_text command_text q) refl (plain-text (raft_input_text command_text q) (spelled.one_line q has.0)), plain-orders order has.1)
 
 -- without a header
-pub unheaded : {I O X : Type 0} (form : Form I O X) → ((number : ℕ) (ls : List (List ℕ)) → behind_below form form.below number ls ≡ read_map (only_image None) (image_from form.says number 0 ls)) → IsHeadedBy form None
+pub unheaded : {I O X : Type 0} (form : Form I O X) → ((number : ℕ) (ls : List (List ℕ)) → after_below form form.below number ls ≡ read_map (only_image None) (image_from form.says number 0 ls)) → IsHeadedBy form None
 unheaded form headed number ls xs short within image =
     let same : number ≡ number + 0 = omega arith in
     headed number ls ∙ (ap (λ n. read_map (only_image None) (image_from form.says n 0 ls)) same ∙ ap (λ r. read_map (only_image None) r) image)

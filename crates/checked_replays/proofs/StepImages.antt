@@ -11,7 +11,7 @@ use Rattle.schedule_text.specs.Reading.{number_in, parts_of, step_of}
 use Rattle.schedule_text.specs.Spellable.{IsSpellable}
 use Rattle.schedule_text.proofs.PrintedLaws.{parts-some, plain-step}
 use Rattle.schedule_text.proofs.ReadBackLaws.{step-reads-back}
-use Rattle.check_text.specs.Forms.{Form, behind_below, with_header}
+use Rattle.check_text.specs.Forms.{Form, after_below, with_header}
 use Rattle.check_text.specs.ImageLines.{image_header, said_or_refused, step_says}
 use Rattle.check_text.specs.declared.image_line.ImageLine.TheVariants as line
 use Rattle.vst_base.specs.declared.step.Step.{Step}
@@ -41,6 +41,6 @@ plain-steps f t HasIn spelled [] has = tt
 plain-steps f t HasIn spelled (s ∷ ss) has = (plain-step f t HasIn spelled.reads_back spelled.one_line s has.0, plain-steps f t HasIn spelled ss has.1)
 
 -- below a header of this kind
-pub headed-by : {I O X : Type 0} (form : Form I O X) (h : Header) → ((number : ℕ) (ls : List (List ℕ)) → behind_below form form.below number ls ≡ with_header form form.below number ls) → image_header form.below (header_text h) ≡ Some h
+pub headed-by : {I O X : Type 0} (form : Form I O X) (h : Header) → ((number : ℕ) (ls : List (List ℕ)) → after_below form form.below number ls ≡ with_header form form.below number ls) → image_header form.below (header_text h) ≡ Some h
     → IsHeadedBy form (Some h)
 headed-by form h headed is number ls xs short within image = headed number (header_text h ∷ ls) ∙ headed-read form form.below number h ls xs is short.0 (omega (arith, within)) image

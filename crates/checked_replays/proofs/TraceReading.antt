@@ -17,8 +17,8 @@ use Rattle.linearizability.specs.Linearizable.{Each}
 use Rattle.schedule_text.specs.Printing.{item_text, numbered}
 use Rattle.schedule_text.proofs.PrintedLaws.{plain-number, plain-text}
 use Rattle.check_text.specs.Claims.{Claim}
-use Rattle.check_text.specs.Drafts.{behind_items}
-use Rattle.check_text.specs.Forms.{Form, behind_below, claim_from, claim_line}
+use Rattle.check_text.specs.Drafts.{after_items}
+use Rattle.check_text.specs.Forms.{Form, after_below, claim_from, claim_line}
 use Rattle.check_text.specs.Reading.{Whole, read_map}
 use Rattle.check_text.specs.TraceLines.{begins_as_input, count_item, counted_says, item_or_refusal, most_lines, trace_line, trace_says, trace_unless}
 use Rattle.schedule_replay.specs.Replaying.{is_input}
@@ -82,18 +82,18 @@ module _ {I O X : Type 0} (form : Form I O X) (input_text : I → List ℕ) (out
   pub trace-read : (line_number inputs : ℕ) (items : List (Item I O)) (below : List (List ℕ)) (c : Claim I O X)
       → Each (IsTextItem form.nodes HasIn HasOut) items → Each IsShort (map (item_text input_text output_text) items)
       → line_number + length items ≤ most_lines → inputs + count_by is_input items ≤ 1000000
-      → behind_below form form.below (line_number + length items + 1) below ≡ Whole c
-      → claim_from form line_number inputs (map (item_text input_text output_text) items ++ codes "below" ∷ below) ≡ Whole (behind_items items c)
+      → after_below form form.below (line_number + length items + 1) below ≡ Whole c
+      → claim_from form line_number inputs (map (item_text input_text output_text) items ++ codes "below" ∷ below) ≡ Whole (after_items items c)
   trace-read line_number inputs [] below c has short within few is =
       let next : line_number + 0 + 1 ≡ line_number + 1 = omega arith in
-      ap (λ l. claim_line form l line_number inputs (λ n. claim_from form (line_number + 1) n below) (behind_below form form.below (line_number + 1) below)) (below-read line_number inputs (omega (arith, within)))
-      ∙ (ap (λ n. behind_below form form.below n below) (omega arith) ∙ is)
+      ap (λ l. claim_line form l line_number inputs (λ n. claim_from form (line_number + 1) n below) (after_below form form.below (line_number + 1) below)) (below-read line_number inputs (omega (arith, within)))
+      ∙ (ap (λ n. after_below form form.below n below) (omega arith) ∙ is)
   trace-read line_number inputs (x ∷ items) below c has short within few is =
       let fits = room-of inputs x items few in
       let rest = map (item_text input_text output_text) items ++ codes "below" ∷ below in
-      ap (λ l. claim_line form l line_number inputs (λ n. claim_from form (line_number + 1) n rest) (behind_below form form.below (line_number + 1) rest)) (item-read line_number inputs x has.0 short.0 (omega (arith, within)) fits.0)
+      ap (λ l. claim_line form l line_number inputs (λ n. claim_from form (line_number + 1) n rest) (after_below form form.below (line_number + 1) rest)) (item-read line_number inputs x has.0 short.0 (omega (arith, within)) fits.0)
       ∙ ap (λ r. read_map (λ (d : Claim I O X). record { trace = x ∷ d.trace; header = d.header; image = d.image }) r)
-      (trace-read (line_number + 1) (count_item inputs x) items below c has.1 short.1 (omega (arith, within)) fits.1 (ap (λ n. behind_below form form.below n below) (omega arith) ∙ is))
+      (trace-read (line_number + 1) (count_item inputs x) items below c has.1 short.1 (omega (arith, within)) fits.1 (ap (λ n. after_below form form.below n below) (omega arith) ∙ is))
 
   -- and none of them holds a newline
   plain-item : (x : Item I O) → IsTextItem form.nodes HasIn HasOut x → IsPlain (item_text input_text output_text x)

@@ -12,7 +12,7 @@ use Rattle.vst_base.specs.declared.step.Item.{Item}
 use Rattle.vst_base.specs.declared.step.Item.TheVariants as item
 use Rattle.net_semantics.specs.BelowPb.{IsExplainedBy, OnlyRedirects, RedirectsAtOnce, inputs_at, outputs_at, replies_in}
 use Rattle.linearizability.specs.Linearizable.{Each}
-use Rattle.claim_verdicts.specs.Backups.{Items, is_at_backup, is_wrong_answer, is_wrong_at_backup, is_wrong_behind, last_of, passes, redirects, replies_so}
+use Rattle.claim_verdicts.specs.Backups.{Items, is_at_backup, is_wrong_answer, is_wrong_at_backup, is_wrong_after, last_of, passes, redirects, replies_so}
 use Rattle.claim_verdicts.specs.Laws.{IsSpelledOutput, IsSpelledReply}
 use Rattle.claim_verdicts.proofs.Neighbours.{outputs-push}
 use Rattle.claim_verdicts.proofs.NoneWrongs.{NoneWrong}
@@ -132,7 +132,7 @@ module _ {S C O : Type 0} (IsO : O → Type 0) (u : O → List ℕ) (apart : (a 
       record {
         outputs = first ∙ ap (λ os. map told.Reply os) (ap (λ n. take n F) (sym all) ∙ sym (fold-take m m.init (replies_in (outputs_at 0 items)) (inputs_at 0 items)));
         behind = λ before after o whole.
-            let here : is_wrong_behind {C = C} u F (length (inputs_at 0 before)) (length (outputs_at 0 before)) (item.Output 0 o) ≡ false = at-place (is_wrong_answer u F) [] before (item.Output 0 o) after (subst (NoneWrong (is_wrong_answer u F) []) whole answers) in
+            let here : is_wrong_after {C = C} u F (length (inputs_at 0 before)) (length (outputs_at 0 before)) (item.Output 0 o) ≡ false = at-place (is_wrong_answer u F) [] before (item.Output 0 o) after (subst (NoneWrong (is_wrong_answer u F) []) whole answers) in
             let more = (or-false (nat_le (length (inputs_at 0 before)) (length (outputs_at 0 before))) (not (replies_so u (slice_get F (length (outputs_at 0 before))) o)) here).0 in
             grind (arith, nat_tests);
         redirected = redirected-of items backup;
@@ -156,7 +156,7 @@ taken-at (suc k) (x ∷ xs) (suc j) q e = taken-at k xs j q e
 
 -- an output that is the one at its place, after its input
 right-answer : {O : Type 0} (C : Type 0) (u : O → List ℕ) (F : List O) (asked answered : ℕ) (o : PbOut O) (q : O) → nat_le asked answered ≡ false → slice_get F answered ≡ Some q → o ≡ told.Reply q
-    → is_wrong_behind {C = C} u F asked answered (item.Output 0 o) ≡ false
+    → is_wrong_after {C = C} u F asked answered (item.Output 0 o) ≡ false
 right-answer C u F asked answered o q more there is = rw (more, there, is, (bytes_eq-Decides (u q) (u q)).1 refl) refl
 
 module _ {C O : Type 0} where
@@ -174,7 +174,7 @@ module _ {C O : Type 0} where
   last-pushed (y ∷ z ∷ rest) x = last-pushed (z ∷ rest) x
 
 module _ {S C O : Type 0} (u : O → List ℕ) (m : MachineMeaning S C O) (whole : Items C O) (e : IsExplainedBy m whole) where
-  answer-right : (b rest : Items C O) (o : PbOut O) → whole ≡ b ++ item.Output 0 o ∷ rest → is_wrong_behind {C = C} u (fold m (inputs_at 0 whole)) (length (inputs_at 0 b)) (length (outputs_at 0 b)) (item.Output 0 o) ≡ false
+  answer-right : (b rest : Items C O) (o : PbOut O) → whole ≡ b ++ item.Output 0 o ∷ rest → is_wrong_after {C = C} u (fold m (inputs_at 0 whole)) (length (inputs_at 0 b)) (length (outputs_at 0 b)) (item.Output 0 o) ≡ false
   answer-right b rest o split =
       let j = length (outputs_at 0 b) in
       let r = replies_in (outputs_at 0 whole) in
@@ -191,11 +191,11 @@ module _ {S C O : Type 0} (u : O → List ℕ) (m : MachineMeaning S C O) (whole
   none-answer b [] split = tt
   none-answer b (item.Input n c ∷ rest) split = (refl, none-answer (b ++ item.Input n c ∷ []) rest (split ∙ sym (append_assoc b (item.Input n c ∷ []) rest)))
   none-answer b (item.Output n o ∷ rest) split = (by (n == 0) refl, none-answer (b ++ item.Output n o ∷ []) rest (split ∙ sym (append_assoc b (item.Output n o ∷ []) rest))) where
-    by : (w : Bool) → (n == 0) ≡ w → is_wrong_behind {C = C} u (fold m (inputs_at 0 whole)) (length (inputs_at 0 b)) (length (outputs_at 0 b)) (item.Output n o) ≡ false
+    by : (w : Bool) → (n == 0) ≡ w → is_wrong_after {C = C} u (fold m (inputs_at 0 whole)) (length (inputs_at 0 b)) (length (outputs_at 0 b)) (item.Output n o) ≡ false
     by false s = rw s refl
     by true s =
         let zero-is = eqb-true n 0 s in
-        ap (λ k. is_wrong_behind {C = C} u (fold m (inputs_at 0 whole)) (length (inputs_at 0 b)) (length (outputs_at 0 b)) (item.Output k o)) zero-is
+        ap (λ k. is_wrong_after {C = C} u (fold m (inputs_at 0 whole)) (length (inputs_at 0 b)) (length (outputs_at 0 b)) (item.Output k o)) zero-is
         ∙ answer-right b rest o (split ∙ ap (λ k. b ++ item.Output k o ∷ rest) zero-is)
 
   pub none-backup : (b items : Items C O) → whole ≡ b ++ items → NoneWrong is_wrong_at_backup b items

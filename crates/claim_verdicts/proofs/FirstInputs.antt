@@ -14,7 +14,7 @@ use Rattle.linearizability.specs.Linearizable.{AreDistinct, Each, Seen, is_named
 use Rattle.schedule_text.specs.Words.{is_text}
 use Rattle.claim_verdicts.specs.Clusters.{answers_one, before_input, puts_in}
 use Rattle.claim_verdicts.specs.Places.{place_of}
-use Rattle.claim_verdicts.specs.Marks.{MarksInput, behind_place, is_name, mark_by, mark_of, marks_of, names_of, next_mark, reach_of}
+use Rattle.claim_verdicts.specs.Marks.{MarksInput, past_place, is_name, mark_by, mark_of, marks_of, names_of, next_mark, reach_of}
 use Rattle.claim_verdicts.specs.declared.mark.Mark.{Mark}
 use Rattle.claim_verdicts.specs.declared.mark.Mark.TheVariants.{Unseen, InTime, Late}
 use Rattle.claim_verdicts.specs.declared.name.Name.{Name}
@@ -142,8 +142,8 @@ module _ {C O : Type 0} (t : C → List ℕ) where
 
   reach-one : (names : List Name) (order : List (RaftInput C)) (n : ℕ) (o : RaftOut O) (k : ℕ) → names ≡ names_of order → AreDistinct order → nat_lt k (reach_of names o) ≡ answers_one (drop k order) (item.Output n o)
   reach-one names order n (told.Reply client request o) k are distinct =
-      ap (λ ns. nat_lt k (behind_place (place_of (is_name client request) ns))) are
-      ∙ (ap (λ v. nat_lt k (behind_place v)) (place-named client request order) ∙ among-drop client request k order distinct)
+      ap (λ ns. nat_lt k (past_place (place_of (is_name client request) ns))) are
+      ∙ (ap (λ v. nat_lt k (past_place v)) (place-named client request order) ∙ among-drop client request k order distinct)
   reach-one names order n (told.NotLeader client request) k are distinct = grind (arith, nat_tests)
   reach-one names order n (told.Full client request) k are distinct = grind (arith, nat_tests)
 

@@ -11,7 +11,7 @@ use Rattle.linearizability.specs.Linearizable.{AreDistinct, AreOther, Each, is_n
 use Rattle.claim_verdicts.specs.Clusters.{is_among}
 use Rattle.claim_verdicts.specs.Places.{place_of}
 use Rattle.claim_verdicts.specs.declared.name.Name.{Name}
-use Rattle.claim_verdicts.specs.Marks.{IsFront, behind_place, is_name, name_of, named, names_of}
+use Rattle.claim_verdicts.specs.Marks.{IsFront, past_place, is_name, name_of, named, names_of}
 
 -- std's position, by cases on the list
 more-places : (n m : ℕ) (u : Bool) → nat_lt n m ≡ u → cond (nat_lt (1 + n) (suc m)) (Some (1 + n)) None ≡ option_map suc (cond u (Some n) None)
@@ -76,21 +76,21 @@ module _ {C : Type 0} where
     by behind false None s p e = (s, behind p)
 
   -- requests from a place on have a name exactly where the place of the name is not before it
-  pub among-drop : (client request : ℕ) (k : ℕ) (order : List (RaftInput C)) → AreDistinct order → nat_lt k (behind_place (place_of (is_named client request) order)) ≡ list_any (is_named client request) (drop k order)
+  pub among-drop : (client request : ℕ) (k : ℕ) (order : List (RaftInput C)) → AreDistinct order → nat_lt k (past_place (place_of (is_named client request) order)) ≡ list_any (is_named client request) (drop k order)
   among-drop client request zero [] distinct = refl
   among-drop client request (suc k) [] distinct = grind (arith, nat_tests)
   among-drop client request zero (r ∷ rest) distinct = by (among-drop client request zero rest distinct.1) (is_named client request r) (place_of (is_named client request) rest) refl refl where
-    by : nat_lt 0 (behind_place (place_of (is_named client request) rest)) ≡ list_any (is_named client request) rest → (t : Bool) (o : Option ℕ) → is_named client request r ≡ t → place_of (is_named client request) rest ≡ o
-        → nat_lt 0 (behind_place (cond t (Some 0) (option_map suc o))) ≡ (t || list_any (is_named client request) rest)
+    by : nat_lt 0 (past_place (place_of (is_named client request) rest)) ≡ list_any (is_named client request) rest → (t : Bool) (o : Option ℕ) → is_named client request r ≡ t → place_of (is_named client request) rest ≡ o
+        → nat_lt 0 (past_place (cond t (Some 0) (option_map suc o))) ≡ (t || list_any (is_named client request) rest)
     by behind true o s p = refl
-    by behind false (Some n) s p = let here = ap (λ v. nat_lt 0 (behind_place v)) (sym p) ∙ behind in let both : nat_lt 0 (suc n + 1) ≡ nat_lt 0 (n + 1) = grind (arith, nat_tests) in both ∙ here
-    by behind false None s p = ap (λ v. nat_lt 0 (behind_place v)) (sym p) ∙ behind
+    by behind false (Some n) s p = let here = ap (λ v. nat_lt 0 (past_place v)) (sym p) ∙ behind in let both : nat_lt 0 (suc n + 1) ≡ nat_lt 0 (n + 1) = grind (arith, nat_tests) in both ∙ here
+    by behind false None s p = ap (λ v. nat_lt 0 (past_place v)) (sym p) ∙ behind
   among-drop client request (suc k) (r ∷ rest) distinct = by (among-drop client request k rest distinct.1) (is_named client request r) (place_of (is_named client request) rest) refl refl where
-    by : nat_lt k (behind_place (place_of (is_named client request) rest)) ≡ list_any (is_named client request) (drop k rest) → (t : Bool) (o : Option ℕ) → is_named client request r ≡ t → place_of (is_named client request) rest ≡ o
-        → nat_lt (suc k) (behind_place (cond t (Some 0) (option_map suc o))) ≡ list_any (is_named client request) (drop k rest)
+    by : nat_lt k (past_place (place_of (is_named client request) rest)) ≡ list_any (is_named client request) (drop k rest) → (t : Bool) (o : Option ℕ) → is_named client request r ≡ t → place_of (is_named client request) rest ≡ o
+        → nat_lt (suc k) (past_place (cond t (Some 0) (option_map suc o))) ≡ list_any (is_named client request) (drop k rest)
     by behind true o s p = let none = unnamed-any client request k rest (others-unnamed client request r rest distinct.0 s) in let over : nat_lt (suc k) 1 ≡ false = grind (arith, nat_tests) in over ∙ sym none
-    by behind false (Some n) s p = let here = ap (λ v. nat_lt k (behind_place v)) (sym p) ∙ behind in let less : nat_lt (suc k) (suc n + 1) ≡ nat_lt k (n + 1) = grind (arith, nat_tests) in less ∙ here
-    by behind false None s p = let over : nat_lt (suc k) 0 ≡ nat_lt k 0 = grind (arith, nat_tests) in over ∙ (ap (λ v. nat_lt k (behind_place v)) (sym p) ∙ behind)
+    by behind false (Some n) s p = let here = ap (λ v. nat_lt k (past_place v)) (sym p) ∙ behind in let less : nat_lt (suc k) (suc n + 1) ≡ nat_lt k (n + 1) = grind (arith, nat_tests) in less ∙ here
+    by behind false None s p = let over : nat_lt (suc k) 0 ≡ nat_lt k 0 = grind (arith, nat_tests) in over ∙ (ap (λ v. nat_lt k (past_place v)) (sym p) ∙ behind)
 
   any-named : (client request : ℕ) (order : List (RaftInput C)) → list_any (is_name client request) (names_of order) ≡ list_any (is_named client request) order
   any-named client request [] = refl

@@ -38,12 +38,12 @@ module _ {C O : Type 0} where
 
   -- after so many inputs and outputs of the primary, an output there is not the machine's, or not after the input that it is
   -- to answer. The outputs there answer the inputs there in order
-  abbrev pub is_wrong_behind : (O → List ℕ) → List O → ℕ → ℕ → Item C (PbOut O) → Bool
-  is_wrong_behind output_text outputs asked answered (item.Input n c) = false
-  is_wrong_behind output_text outputs asked answered (item.Output n o) = n == 0 && (nat_le asked answered || not (replies_so output_text (slice_get outputs answered) o))
+  abbrev pub is_wrong_after : (O → List ℕ) → List O → ℕ → ℕ → Item C (PbOut O) → Bool
+  is_wrong_after output_text outputs asked answered (item.Input n c) = false
+  is_wrong_after output_text outputs asked answered (item.Output n o) = n == 0 && (nat_le asked answered || not (replies_so output_text (slice_get outputs answered) o))
 
   abbrev pub is_wrong_answer : (O → List ℕ) → List O → Items C O → Item C (PbOut O) → Items C O → Bool
-  is_wrong_answer output_text outputs before x after = is_wrong_behind output_text outputs (length (inputs_at 0 before)) (length (outputs_at 0 before)) x
+  is_wrong_answer output_text outputs before x after = is_wrong_after output_text outputs (length (inputs_at 0 before)) (length (outputs_at 0 before)) x
 
   abbrev pub redirects : Item C (PbOut O) → Bool
   redirects (item.Output n told.Redirect) = n == 1
@@ -68,8 +68,8 @@ module _ {C O : Type 0} where
   -- between its neighbours, an input at the backup is not redirected at once, or the backup puts out something else, or
   -- without an input
   abbrev pub is_wrong_between : Bool → Item C (PbOut O) → Option (Item C (PbOut O)) → Bool
-  is_wrong_between behind_input (item.Input n c) next = n == 1 && not (passes redirects next)
-  is_wrong_between behind_input (item.Output n o) next = n == 1 && not (redirects (item.Output n o) && behind_input)
+  is_wrong_between after_input (item.Input n c) next = n == 1 && not (passes redirects next)
+  is_wrong_between after_input (item.Output n o) next = n == 1 && not (redirects (item.Output n o) && after_input)
 
   abbrev pub is_wrong_at_backup : Items C O → Item C (PbOut O) → Items C O → Bool
   is_wrong_at_backup before x after = is_wrong_between (passes is_at_backup (last_of before)) x (slice_get after 0)

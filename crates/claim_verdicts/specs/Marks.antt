@@ -34,12 +34,12 @@ pub record IsFront {C : Type 0} (found : List Name) (order : List (RaftInput C))
   pub next : (r : RaftInput C) → slice_get order (length found) ≡ Some r → is_among (take (length found) order) r.client r.request ≡ true
 
 -- so many of the first requests may have been answered, once a client is told this
-abbrev pub behind_place : Option ℕ → ℕ
-behind_place None = 0
-behind_place (Some place) = place + 1
+abbrev pub past_place : Option ℕ → ℕ
+past_place None = 0
+past_place (Some place) = place + 1
 
 abbrev pub reach_of : {O : Type 0} → List Name → RaftOut O → ℕ
-reach_of names (told.Reply client request o) = behind_place (place_of (is_name client request) names)
+reach_of names (told.Reply client request o) = past_place (place_of (is_name client request) names)
 reach_of names (told.NotLeader client request) = 0
 reach_of names (told.Full client request) = 0
 

@@ -2,7 +2,7 @@ ghost use Rattle.std.specs.Prelude.{◌≡◌, ◌<◌, [], IfOk, IfSome, length
 ghost use Rattle.std.specs.Option.{option_copied};
 ghost use Rattle.net_semantics.specs.BelowPb.{inputs_at};
 ghost use Rattle.vst_base.specs.Machines.{fold};
-ghost use Rattle.claim_verdicts.specs.Backups.{answers, asks, is_wrong_answer, is_wrong_behind, replies_so};
+ghost use Rattle.claim_verdicts.specs.Backups.{answers, asks, is_wrong_answer, is_wrong_after, replies_so};
 ghost use Rattle.claim_verdicts.specs.Places.{first_wrong};
 
 use crate::text_pair::TextPair;
@@ -68,14 +68,14 @@ fn answers<C, O>(item: &Item<C, PbOut<O>>) -> bool
 
 // Whether an output of the primary is not the one at its place, or not after the input that it is to answer, where so many
 // inputs and outputs there stand before it.
-fn is_wrong_behind<A: AppText>(
+fn is_wrong_after<A: AppText>(
     texts: &mut TextPair,
     outputs: &[A::Output],
     asked: usize,
     answered: usize,
     item: &Item<A::Input, PbOut<A::Output>>,
 ) -> Result<bool, AllocError>
-    ensures { IfOk result (λ wrong. wrong ≡ is_wrong_behind A.output_text outputs.now asked answered item.now) }
+    ensures { IfOk result (λ wrong. wrong ≡ is_wrong_after A.output_text outputs.now asked answered item.now) }
 {
     match item {
         Item::Output(node, output) if node.index() == 0 => {
@@ -99,7 +99,7 @@ pub(crate) fn wrong_answer<A: AppText>(
     let mut asked = 0;
     let mut answered = 0;
     for (place, item) in trace.iter().enumerate() {
-        if is_wrong_behind::<A>(&mut texts, outputs, asked, answered, item)? {
+        if is_wrong_after::<A>(&mut texts, outputs, asked, answered, item)? {
             return Ok(Some(place));
         }
         asked += usize::from(asks(item));

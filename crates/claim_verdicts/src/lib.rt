@@ -6,6 +6,7 @@ mod backup;
 mod cluster;
 mod comparison;
 mod difference;
+mod examples;
 mod explaining;
 mod laws;
 mod lines;
@@ -22,6 +23,7 @@ mod verdict;
 
 pub use backup::backup_verdict;
 pub use cluster::cluster_verdict;
+pub use examples::worked_comparisons;
 pub use laws::{yes_is_linearizable, yes_is_one_machine, yes_is_what_clients_see};
 pub use schedule::schedule_verdict;
 pub use verdict::Verdict;

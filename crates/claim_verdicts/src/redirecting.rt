@@ -27,18 +27,18 @@ fn redirects<C, O>(item: &Item<C, PbOut<O>>) -> bool
 
 // Whether an item at the backup is wrong between its neighbours.
 fn is_wrong_between<C, O>(
-    behind_input: bool,
+    after_input: bool,
     item: &Item<C, PbOut<O>>,
     next: Option<&Item<C, PbOut<O>>>,
 ) -> bool
-    ensures { result ≡ is_wrong_between behind_input item.now (option_copied next.entry) }
+    ensures { result ≡ is_wrong_between after_input item.now (option_copied next.entry) }
 {
     match item {
         Item::Input(node, _) if node.index() == 1 => match next {
             Some(next) => !redirects(next),
             None => true,
         },
-        Item::Output(node, _) if node.index() == 1 => !(redirects(item) && behind_input),
+        Item::Output(node, _) if node.index() == 1 => !(redirects(item) && after_input),
         _ => false,
     }
 }
@@ -48,12 +48,12 @@ pub(crate) fn wrong_at_backup<C, O>(trace: &[Item<C, PbOut<O>>]) -> Option<usize
     ensures first { result ≡ first_wrong is_wrong_at_backup [] trace.now }
     ensures within { IfSome result (λ place. place < length trace.now) }
 {
-    let mut behind_input = false;
+    let mut after_input = false;
     for (place, item) in trace.iter().enumerate() {
-        if is_wrong_between(behind_input, item, trace.get(place + 1)) {
+        if is_wrong_between(after_input, item, trace.get(place + 1)) {
             return Some(place);
         }
-        behind_input = is_at_backup(item);
+        after_input = is_at_backup(item);
     }
     None
 }

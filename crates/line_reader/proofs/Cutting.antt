@@ -5,15 +5,15 @@ use Rattle.memchr.specs.Find.{Passes, Nowhere, is_byte}
 use Rattle.line_reader.specs.Cuts.{cut_at, onto_cut}
 
 -- a cut after a front
-abbrev pub behind_front : List ℕ → Option (List ℕ × List ℕ) → Option (List ℕ × List ℕ)
-behind_front front None = None
-behind_front front (Some p) = Some (front ++ p.0, p.1)
+abbrev pub after_front : List ℕ → Option (List ℕ × List ℕ) → Option (List ℕ × List ℕ)
+after_front front None = None
+after_front front (Some p) = Some (front ++ p.0, p.1)
 
-behind_nothing : (o : Option (List ℕ × List ℕ)) → behind_front [] o ≡ o
+behind_nothing : (o : Option (List ℕ × List ℕ)) → after_front [] o ≡ o
 behind_nothing None = refl
 behind_nothing (Some p) = refl
 
-behind_onto : (b : ℕ) (bs : List ℕ) (o : Option (List ℕ × List ℕ)) → onto_cut b (behind_front bs o) ≡ behind_front (b ∷ bs) o
+behind_onto : (b : ℕ) (bs : List ℕ) (o : Option (List ℕ × List ℕ)) → onto_cut b (after_front bs o) ≡ after_front (b ∷ bs) o
 behind_onto b bs None = refl
 behind_onto b bs (Some p) = refl
 
@@ -33,7 +33,7 @@ pub none-from : (at b : ℕ) (bs : List ℕ) → (b == at) ≡ false → cut_at 
 none-from at b bs other e = rw (other, e) refl
 
 -- after bytes without it
-pub cut-behind : (at : ℕ) (xs ys : List ℕ) → cut_at at xs ≡ None → cut_at at (xs ++ ys) ≡ behind_front xs (cut_at at ys)
+pub cut-behind : (at : ℕ) (xs ys : List ℕ) → cut_at at xs ≡ None → cut_at at (xs ++ ys) ≡ after_front xs (cut_at at ys)
 cut-behind at [] ys e = sym (behind_nothing (cut_at at ys))
 cut-behind at (x ∷ xs) ys e =
     let parts = none-parts at x xs e in
@@ -42,13 +42,13 @@ cut-behind at (x ∷ xs) ys e =
 
 pub cut-here : (at : ℕ) (xs ys : List ℕ) → cut_at at xs ≡ None → (at == at) ≡ true → cut_at at (xs ++ at ∷ ys) ≡ Some (xs, ys)
 cut-here at xs ys e same =
-    cut-behind at xs (at ∷ ys) e ∙ (ap (λ t. behind_front xs (cond t (Some ([], ys)) (onto_cut at (cut_at at ys)))) same ∙ ap (λ zs. Some (zs, ys)) (append-nothing xs)) where
+    cut-behind at xs (at ∷ ys) e ∙ (ap (λ t. after_front xs (cond t (Some ([], ys)) (onto_cut at (cut_at at ys)))) same ∙ ap (λ zs. Some (zs, ys)) (append-nothing xs)) where
       append-nothing : (zs : List ℕ) → zs ++ [] ≡ zs
       append-nothing [] = refl
       append-nothing (z ∷ zs) = ap (λ ws. z ∷ ws) (append-nothing zs)
 
 pub none-append : (at : ℕ) (xs ys : List ℕ) → cut_at at xs ≡ None → cut_at at ys ≡ None → cut_at at (xs ++ ys) ≡ None
-none-append at xs ys e f = cut-behind at xs ys e ∙ ap (behind_front xs) f
+none-append at xs ys e f = cut-behind at xs ys e ∙ ap (after_front xs) f
 
 pub none-take : (at n : ℕ) (xs : List ℕ) → cut_at at xs ≡ None → cut_at at (take n xs) ≡ None
 none-take at zero xs e = refl

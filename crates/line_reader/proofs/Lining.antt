@@ -3,7 +3,7 @@ use Rattle.std.specs.Prelude.{◌≡◌, ℕ, Bool, true, false, ◌==◌, ◌+�
 use Rattle.std.proofs.Common.{zero, suc, ap, ◌∙◌, sym, subst, append_assoc, arith, zero-add, suc-add}
 use Rattle.std.proofs.lemmas.List.{append-nil}
 use Rattle.line_reader.specs.Cuts.{cut_at, onto_cut}
-use Rattle.line_reader.specs.Lines.{split_lines, onto_first, last_line, lines_of, whole_lines, first_size, behind_lines}
+use Rattle.line_reader.specs.Lines.{split_lines, onto_first, last_line, lines_of, whole_lines, first_size, after_lines}
 use Rattle.line_reader.proofs.Cutting.{none-parts, cut-here}
 
 -- a text by what its first newline cuts it into
@@ -85,9 +85,9 @@ closed-append xs ys e f =
     last-append xs ys e ∙ f
 
 -- what stands after lines, and after more of them
-pub behind_lines-add : (n m : ℕ) (bs : List ℕ) → behind_lines (n + m) bs ≡ behind_lines m (behind_lines n bs)
-behind_lines-add zero m bs = rw zero-add refl
-behind_lines-add (suc n) m bs = rw suc-add (behind_lines-add n m (drop (first_size bs) bs))
+pub after_lines-add : (n m : ℕ) (bs : List ℕ) → after_lines (n + m) bs ≡ after_lines m (after_lines n bs)
+after_lines-add zero m bs = rw zero-add refl
+after_lines-add (suc n) m bs = rw suc-add (after_lines-add n m (drop (first_size bs) bs))
 
 pub drop-front : (xs ys : List ℕ) (n : ℕ) → n ≡ length xs → drop n (xs ++ ys) ≡ ys
 drop-front [] ys n e = rw e refl

@@ -5,7 +5,7 @@ use Rattle.std.proofs.lemmas.Bool.Decides.{nat_tests}
 use Rattle.std.proofs.lemmas.List.{append-nil, take-append-le}
 use Rattle.vst_base.specs.Firsts.{first_of}
 use Rattle.line_reader.specs.Cuts.{cut_at}
-use Rattle.line_reader.specs.Lines.{split_lines, lines_of, first_size, behind_lines, decided}
+use Rattle.line_reader.specs.Lines.{split_lines, lines_of, first_size, after_lines, decided}
 use Rattle.line_reader.specs.Limits.{line_refusals}
 use Rattle.line_reader.specs.Readers.{ReaderView, HasRest}
 use Rattle.line_reader.specs.Outcomes.{ReadsLine, EndsLine, TakesPiece}
@@ -29,9 +29,9 @@ record OneLine (rest line used rest' : List ℕ) : Type 0 where
   lines : lines_of rest ≡ lines_of used ++ lines_of rest'
   one : lines_of used ≡ line ∷ []
   size : first_size rest ≡ length used
-  behind : rest' ≡ behind_lines 1 rest
+  behind : rest' ≡ after_lines 1 rest
 
-behind-size : (rest used rest' : List ℕ) → rest ≡ used ++ rest' → first_size rest ≡ length used → rest' ≡ behind_lines 1 rest
+behind-size : (rest used rest' : List ℕ) → rest ≡ used ++ rest' → first_size rest ≡ length used → rest' ≡ after_lines 1 rest
 behind-size rest used rest' whole size = sym (ap (λ xs. drop (first_size rest) xs) whole ∙ drop-front used rest' (first_size rest) size)
 
 with-newline : (rest line rest' : List ℕ) → cut_at 10 line ≡ None → rest ≡ line ++ 10 ∷ rest' → OneLine rest line (line ++ 10 ∷ []) rest'
@@ -104,7 +104,7 @@ ends-line A old r new left' rest used rest' (Ok x) one left closed short fits st
         whole = one.whole;
         lines = one.lines;
         closed = λ is. closed (sym ends ∙ is);
-        behind = one.behind ∙ ap (λ ls. behind_lines (length ls) rest) (sym one.one);
+        behind = one.behind ∙ ap (λ ls. after_lines (length ls) rest) (sym one.one);
         number = counted ∙ (ap (λ n. n + 1) number ∙ ap (λ ls. old.number + length ls) (sym one.one));
         stays = λ is. ends ∙ stays is;
       },

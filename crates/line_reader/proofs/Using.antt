@@ -2,10 +2,10 @@
 use Rattle.std.specs.Prelude.{◌≡◌, ℕ, Bool, true, false, ◌==◌, ◌+◌, ◌-◌, ◌<◌, ◌≤◌, min, List, [], ◌∷◌, ◌++◌, length, drop, Option, cond, refl}
 use Rattle.std.proofs.Common.{zero, suc, ap, ◌∙◌, sym, subst, append_assoc, arith, length-append, length-drop}
 use Rattle.std.proofs.lemmas.List.{append-nil}
-use Rattle.line_reader.specs.Lines.{split_lines, lines_of, first_size, behind_lines, decided}
+use Rattle.line_reader.specs.Lines.{split_lines, lines_of, first_size, after_lines, decided}
 use Rattle.line_reader.specs.Readers.{ReaderView, HasRest}
 use Rattle.line_reader.specs.Outcomes.{Uses, StandsAt, BreaksOff}
-use Rattle.line_reader.proofs.Lining.{lines-append, closed-append, last-append, behind_lines-add}
+use Rattle.line_reader.proofs.Lining.{lines-append, closed-append, last-append, after_lines-add}
 
 -- no line was used yet
 pub uses-none : (r : ReaderView) (left : Option (List ℕ)) (rest : List ℕ) → HasRest r left rest → Uses r r left rest []
@@ -55,7 +55,7 @@ uses-more a b c left left' rest used used' u v =
       closed = λ is.
           let before = not-both b.ended (λ over. true-not-false c.ended (v.stays over) is) in
           closed-append used used' (u.closed before) (v.closed is);
-      behind = v.behind ∙ (ap (λ xs. behind_lines (length (lines_of used')) xs) u.behind ∙ (sym (behind_lines-add (length (lines_of used)) (length (lines_of used')) rest) ∙ ap (λ n. behind_lines n rest) (sym many)));
+      behind = v.behind ∙ (ap (λ xs. after_lines (length (lines_of used')) xs) u.behind ∙ (sym (after_lines-add (length (lines_of used)) (length (lines_of used')) rest) ∙ ap (λ n. after_lines n rest) (sym many)));
       number = v.number ∙ (ap (λ n. n + length (lines_of used')) u.number ∙ omega (arith, many));
       stays = λ is. v.stays (u.stays is);
     }
@@ -68,22 +68,22 @@ first_size-within (b ∷ bs) = by (b == 10) (first_size-within bs) where
   by true h = omega arith
   by false h = omega (arith, h)
 
-pub behind-within : (n : ℕ) (bs : List ℕ) → length (behind_lines n bs) ≤ length bs
+pub behind-within : (n : ℕ) (bs : List ℕ) → length (after_lines n bs) ≤ length bs
 behind-within zero bs = omega arith
 behind-within (suc n) bs = omega (arith, behind-within n (drop (first_size bs) bs), length-drop (first_size bs) bs)
 
 -- what decides a line is counted from any line before it
-pub decided-behind : (k j : ℕ) (bs rest : List ℕ) → rest ≡ behind_lines k bs → 0 < j → decided (k + j) bs ≡ (length bs - length rest) + decided j rest
-decided-behind k j bs rest is some =
+pub decided-after : (k j : ℕ) (bs rest : List ℕ) → rest ≡ after_lines k bs → 0 < j → decided (k + j) bs ≡ (length bs - length rest) + decided j rest
+decided-after k j bs rest is some =
     let before : (k + j) - 1 ≡ k + (j - 1) = omega (arith, some) in
-    let line = behind_lines (j - 1) rest in
-    let same : behind_lines ((k + j) - 1) bs ≡ line = ap (λ n. behind_lines n bs) before ∙ (behind_lines-add k (j - 1) bs ∙ ap (behind_lines (j - 1)) (sym is)) in
+    let line = after_lines (j - 1) rest in
+    let same : after_lines ((k + j) - 1) bs ≡ line = ap (λ n. after_lines n bs) before ∙ (after_lines-add k (j - 1) bs ∙ ap (after_lines (j - 1)) (sym is)) in
     let short : length rest ≤ length bs = subst (λ (xs : List ℕ). length xs ≤ length bs) (sym is) (behind-within k bs) in
     ap (λ (xs : List ℕ). (length bs - length xs) + min 4097 (first_size xs)) same ∙ omega (arith, short, behind-within (j - 1) rest)
 
-pub stands-behind : (a b c : ReaderView) (left left' : Option (List ℕ)) (rest used : List ℕ) (number : ℕ) (u : Uses a b left rest used)
+pub stands-after : (a b c : ReaderView) (left left' : Option (List ℕ)) (rest used : List ℕ) (number : ℕ) (u : Uses a b left rest used)
     → StandsAt b c left' u.rest' number → StandsAt a c left' rest number
-stands-behind a b c left left' rest used number u v =
+stands-after a b c left left' rest used number u v =
     let k = length (lines_of used) in
     let j = number - b.number in
     let there : number - a.number ≡ k + j = omega (arith, v.later, u.number) in
@@ -93,7 +93,7 @@ stands-behind a b c left left' rest used number u v =
       left = v.left;
       used = used ++ v.used;
       whole = u.whole ∙ (ap (λ xs. used ++ xs) v.whole ∙ sym (append_assoc used v.used v.rest'));
-      decides = length-append used v.used ∙ (omega (arith, size, v.decides) ∙ sym (ap (λ n. decided n rest) there ∙ decided-behind k j rest u.rest' u.behind (omega (arith, v.later))));
+      decides = length-append used v.used ∙ (omega (arith, size, v.decides) ∙ sym (ap (λ n. decided n rest) there ∙ decided-after k j rest u.rest' u.behind (omega (arith, v.later))));
       later = omega (arith, v.later, u.number);
       few = v.few;
     }
@@ -115,14 +115,14 @@ stands-at-end a b c left left' rest used u number none has is =
       used = used;
       whole = whole;
       later = omega (arith, is, u.number);
-      decides = omega (arith, size) ∙ sym (ap (λ n. decided n rest) there ∙ (decided-behind k 1 rest u.rest' u.behind (omega arith) ∙ ap (λ xs. (length rest - length xs) + decided 1 xs) none));
+      decides = omega (arith, size) ∙ sym (ap (λ n. decided n rest) there ∙ (decided-after k 1 rest u.rest' u.behind (omega arith) ∙ ap (λ xs. (length rest - length xs) + decided 1 xs) none));
       few = nothing-ahead c left' has;
     }
 
 -- a read that failed after whole lines
-pub breaks-behind : (a b : ReaderView) (left left' : Option (List ℕ)) (rest used part : List ℕ) (u : Uses a b left rest used) → (split_lines used).1 ≡ []
+pub breaks-after : (a b : ReaderView) (left left' : Option (List ℕ)) (rest used part : List ℕ) (u : Uses a b left rest used) → (split_lines used).1 ≡ []
     → BreaksOff left' u.rest' part → BreaksOff left' rest (used ++ part)
-breaks-behind a b left left' rest used part u closed v = record {
+breaks-after a b left left' rest used part u closed v = record {
   rest' = v.rest';
   left_is = v.left_is;
   whole = u.whole ∙ (ap (λ xs. used ++ xs) v.whole ∙ sym (append_assoc used part v.rest'));

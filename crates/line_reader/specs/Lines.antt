@@ -29,13 +29,13 @@ first_size [] = 0
 first_size (b ∷ bs) = if b == 10 then 1 else 1 + first_size bs
 
 -- what stands after so many lines
-abbrev pub behind_lines : ℕ → List ℕ → List ℕ
-behind_lines zero bs = bs
-behind_lines (suc n) bs = behind_lines n (drop (first_size bs) bs)
+abbrev pub after_lines : ℕ → List ℕ → List ℕ
+after_lines zero bs = bs
+after_lines (suc n) bs = after_lines n (drop (first_size bs) bs)
 
 -- how many bytes decide the line of this number, from 1: those of the lines before it, and its own up to its newline or,
 -- where that comes first, its 4,097th byte or the end
 abbrev pub decided : ℕ → List ℕ → ℕ
 decided number bs =
-    let line = behind_lines (number - 1) bs in
+    let line = after_lines (number - 1) bs in
     (length bs - length line) + min 4097 (first_size line)

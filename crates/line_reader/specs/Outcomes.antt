@@ -3,7 +3,7 @@ use Rattle.std.specs.Prelude.{◌≡◌, ℕ, true, false, ◌+◌, ◌-◌, ◌
 use Rattle.outside.specs.Counting.{Rose}
 use Rattle.vst_base.specs.Firsts.{first_of}
 use Rattle.line_reader.specs.Cuts.{cut_at}
-use Rattle.line_reader.specs.Lines.{split_lines, lines_of, whole_lines, behind_lines, decided}
+use Rattle.line_reader.specs.Lines.{split_lines, lines_of, whole_lines, after_lines, decided}
 use Rattle.line_reader.specs.Limits.{line_refusals}
 use Rattle.line_reader.specs.Readers.{ReaderView, HasRest}
 use Rattle.line_reader.specs.declared.why.Why.TheVariants as why
@@ -20,7 +20,7 @@ pub record Uses (old new : ReaderView) (left' : Option (List ℕ)) (rest used : 
   pub whole : rest ≡ used ++ rest'
   pub lines : lines_of rest ≡ lines_of used ++ lines_of rest'
   pub closed : new.ended ≡ false → (split_lines used).1 ≡ []
-  pub behind : rest' ≡ behind_lines (length (lines_of used)) rest
+  pub behind : rest' ≡ after_lines (length (lines_of used)) rest
   pub number : new.number ≡ old.number + length (lines_of used)
   pub stays : old.ended ≡ true → new.ended ≡ true
 

@@ -14,8 +14,8 @@ pub fn cut_at(bytes: &[u8], at: u8) -> Option<(&[u8], &[u8])>
     match memchr(at, bytes) {
         Some(place) => {
             let (front, rest) = bytes.split_at(place);
-            let (_, behind) = rest.split_at(1);
-            Some((front, behind))
+            let (_, after) = rest.split_at(1);
+            Some((front, after))
         }
         None => None,
     }

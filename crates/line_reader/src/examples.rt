@@ -1,7 +1,7 @@
-ghost use Rattle.std.specs.Prelude.{◌≡◌, [], ◌∷◌, ◌++◌, None, Some, codes, replicate};
+ghost use Rattle.std.specs.Prelude.{◌≡◌, [], ◌∷◌, ◌++◌, None, Some, false, true, codes, replicate};
 ghost use Rattle.vst_base.specs.Firsts.{first_of};
-ghost use Rattle.line_reader.specs.Cuts.{cut_at};
-ghost use Rattle.line_reader.specs.Lines.{behind_lines, decided, lines_of, whole_lines};
+ghost use Rattle.line_reader.specs.Cuts.{LastEnds, cut_at, has_cut};
+ghost use Rattle.line_reader.specs.Lines.{after_lines, decided, lines_of, whole_lines};
 ghost use Rattle.line_reader.specs.Limits.{line_refusals};
 
 use crate::Why;
@@ -15,7 +15,7 @@ pub fn worked()
     ensures empty_lines { lines_of (codes "\n\n") ≡ [] ∷ [] ∷ [] }
     ensures whole { whole_lines (codes "a\nb") ≡ codes "a" ∷ [] }
     ensures cut { (cut_at 32 (codes "in 1 lock") ≡ Some (codes "in", codes "1 lock")) × (cut_at 32 (codes "in") ≡ None) }
-    ensures behind { (behind_lines 1 (codes "a\nb\nc") ≡ codes "b\nc") × (behind_lines 3 (codes "a\nb\nc") ≡ []) }
+    ensures after { (after_lines 1 (codes "a\nb\nc") ≡ codes "b\nc") × (after_lines 3 (codes "a\nb\nc") ≡ []) }
     ensures decided_by_newline { (decided 1 (codes "ab\nc\n") ≡ 3) × (decided 2 (codes "ab\nc\n") ≡ 5) }
     ensures decided_by_end { (decided 2 (codes "ab\nc") ≡ 4) × (decided 3 (codes "ab\nc") ≡ 4) × (decided 1 [] ≡ 0) }
     ensures decided_by_length { (decided 1 (replicate 4100 35) ≡ 4097) × (decided 1 (replicate 4096 35 ++ 10 ∷ codes "ab") ≡ 4097) × (decided 1 (replicate 4095 35 ++ 10 ∷ codes "ab") ≡ 4096) }
@@ -24,4 +24,16 @@ pub fn worked()
     ensures last { first_of (line_refusals 2000000 2000000 []) ≡ None }
     ensures too_many { first_of (line_refusals 2000000 2000001 []) ≡ Some Why.TooManyEvents }
     ensures length_first { first_of (line_refusals 2000000 2000001 (replicate 4097 35)) ≡ Some Why.LineTooLong }
+{}
+
+/// Where the last newline of some bytes ends, on examples.
+pub fn worked_ends()
+    ensures there_is_one { has_cut 10 (codes "a\nb") ≡ true }
+    ensures there_is_none { (has_cut 10 (codes "ab") ≡ false) × (has_cut 10 [] ≡ false) }
+    ensures last_of_two { LastEnds 10 (codes "a\nb\nc") 4 }
+    ensures at_the_end { LastEnds 10 (codes "\n") 1 }
+    ensures of_none { LastEnds 10 (codes "ab") 0 }
+    ensures not_the_first_of_two { LastEnds 10 (codes "a\nb\nc") 2 → ⊥ }
+    ensures not_before_it_ends { LastEnds 10 (codes "a\n") 1 → ⊥ }
+    ensures not_where_there_is_none { LastEnds 10 (codes "ab") 1 → ⊥ }
 {}

@@ -13,7 +13,7 @@ mod why;
 mod why_words;
 
 pub use cuts::{NEWLINE, cut_at};
-pub use examples::worked;
+pub use examples::{worked, worked_ends};
 pub use fault::LineFault;
 pub use next::next_line;
 pub use reader::{MAX_LINE, Reader};

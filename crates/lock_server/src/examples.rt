@@ -40,7 +40,7 @@ pub fn worked_exclusion()
     ensures asked_between { ¬ Excludes (Item.Output 1 LockOutput.Locked ∷ Item.Input 1 LockInput.Lock ∷ Item.Output 2 LockOutput.Locked ∷ []) }
     ensures unlocked_by_another { ¬ Excludes (Item.Output 1 LockOutput.Locked ∷ Item.Input 2 LockInput.Unlock ∷ Item.Output 2 LockOutput.Locked ∷ []) }
     ensures unlocked_before { ¬ Excludes (Item.Input 1 LockInput.Unlock ∷ Item.Output 1 LockOutput.Locked ∷ Item.Output 2 LockOutput.Locked ∷ []) }
-    ensures unlocked_behind { ¬ Excludes (Item.Output 1 LockOutput.Locked ∷ Item.Output 2 LockOutput.Locked ∷ Item.Input 1 LockInput.Unlock ∷ []) }
+    ensures unlocked_after { ¬ Excludes (Item.Output 1 LockOutput.Locked ∷ Item.Output 2 LockOutput.Locked ∷ Item.Input 1 LockInput.Unlock ∷ []) }
 
     ensures copied_allowed { IsAllowed Net.Dup (lock_server 3) no_recovery copied_hand_over }
     ensures copied_breaks_it { ¬ Excludes (trace (lock_server 3) no_recovery copied_hand_over) }

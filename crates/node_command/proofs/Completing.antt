@@ -1,24 +1,21 @@
 -- Where no call fails a node's run answers the status that its input and its areas have, or that memory was wanted.
 use Rattle.std.specs.Prelude.{◌≡◌, ◌⊎◌, ℕ, List, Option, Some, None, Result, Ok, Err, IfSome}
-use Rattle.std.proofs.Common.{inl, inr, ap, ◌∙◌, subst, sym, arith, refl}
+use Rattle.std.proofs.Common.{inl, inr, ap, ◌∙◌, subst, sym, refl}
 use Rattle.command_line.specs.AskedNodes.{NodeWordsView}
-use Rattle.node_config.specs.Configs.{configured}
 use Rattle.node_config.specs.declared.config.Config.{Config}
 use Rattle.node_device.specs.Telling.{Told}
 use Rattle.run_streams.specs.Lines.{memory_line}
 use Rattle.run_streams.specs.Saying.{Said, Tells}
 use Rattle.slots.specs.Opening.{Why}
 use Rattle.node_state.specs.Answers.{refusal_of}
-use Rattle.udp_node.specs.Serving.{Meets}
 use Rattle.udp_node.specs.Stacks.{refused_areas}
-use Rattle.udp_node.specs.declared.fault.NodeFault.{NodeFault}
 use Rattle.udp_node.specs.declared.fault.NodeFault.TheVariants as fault
 use Rattle.node_command.specs.Coming.{HasRead}
 use Rattle.node_command.specs.Complete.{IsComplete, NoneRose, areas_status, configured_status, status_for}
 use Rattle.node_command.specs.Lines.{line_of, status_of}
 use Rattle.node_command.specs.Seen.{NodeRun}
 use Rattle.node_command.specs.Statuses.{CameTo}
-use Rattle.node_command.specs.Telling.{Ends, TellsTrouble, TellsTurns, TellsWhat}
+use Rattle.node_command.specs.Telling.{Ends, TellsTurns, TellsWhat}
 use Rattle.node_command.specs.declared.trouble.Trouble.{Trouble}
 use Rattle.node_command.specs.declared.trouble.Trouble.TheVariants as trouble
 

@@ -1,18 +1,15 @@
 -- How a node's run ends: each status by what the run came to and said.
-use Rattle.std.specs.Prelude.{◌≡◌, ◌⊎◌, ℕ, List, ◌++◌, Option, Some, None, Result, Ok, Err}
+use Rattle.std.specs.Prelude.{◌≡◌, ℕ, List, Option, Some, None, Result, Ok, Err}
 use Rattle.std.proofs.Common.{inl, inr, ap, ◌∙◌, subst, sym, append-nil, arith, refl}
-use Rattle.std.proofs.Math.Seq.{take-length}
 use Rattle.command_line.specs.AskedNodes.{NodeWordsView}
-use Rattle.outside.specs.Counting.{Rose}
 use Rattle.outside.specs.Wholes.{Gained, GainedFront}
 use Rattle.run_streams.specs.Lines.{memory_line}
 use Rattle.run_streams.specs.Saying.{Said, Tells}
-use Rattle.run_streams.specs.Seen.{CountsNothing, SinkSeen}
 use Rattle.udp_node.specs.declared.fault.NodeFault.TheVariants as fault
 use Rattle.node_command.specs.Lines.{line_of, status_of, turns_line}
 use Rattle.node_command.specs.Seen.{NodeRun}
-use Rattle.node_command.specs.Statuses.{AreAreasRefused, CameTo, EndsBy, HasCome, HasListeningFailed, HasOutFailed, HasWriteFailed, IsConfigRefused, IsDone, IsNodeStatus, IsOutOfMemory, MaySay, WasSaying}
-use Rattle.node_command.specs.Telling.{Ends, TellsTrouble, TellsTurns, TellsWhat, WroteTurns, FailedTurns, WantedTurns}
+use Rattle.node_command.specs.Statuses.{AreAreasRefused, CameTo, EndsBy, HasCome, HasListeningFailed, HasWriteFailed, IsConfigRefused, IsDone, IsNodeStatus, IsOutOfMemory, MaySay, WasSaying}
+use Rattle.node_command.specs.Telling.{Ends, TellsTrouble, TellsTurns, TellsWhat}
 use Rattle.node_command.specs.declared.trouble.Trouble.{Trouble}
 use Rattle.node_command.specs.declared.trouble.Trouble.TheVariants as trouble
 

@@ -1,6 +1,6 @@
 -- A configuration that was read was read to its end, and what a configuration of a node that is a peer says of it.
-use Rattle.std.specs.Prelude.{◌≡◌, ℕ, ◌+◌, ◌<◌, ◌≤◌, List, [], length, drop, Option, Some, None, Ok, Err, IfSome, option_map}
-use Rattle.std.proofs.Common.{inl, inr, ap, ◌∙◌, sym, arith, refl, subst}
+use Rattle.std.specs.Prelude.{◌≡◌, ℕ, ◌+◌, ◌<◌, List, [], length, drop, Option, Some, None, Ok, Err, IfSome, option_map}
+use Rattle.std.proofs.Common.{inl, inr, ap, ◌∙◌, sym, arith}
 use Rattle.std.proofs.lemmas.Bool.{cases_lt}
 use Rattle.std.proofs.lemmas.List.{drop_all}
 use Rattle.node_config.specs.Configs.{config_of, configured, need, ◌>>=◌}

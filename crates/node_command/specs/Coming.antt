@@ -1,5 +1,5 @@
 -- What reading the configuration, beginning and taking turns come to.
-use Rattle.std.specs.Prelude.{◌≡◌, ℕ, List, [], ◌∷◌, Option, Some, None, Result, Ok, Err, IfSome}
+use Rattle.std.specs.Prelude.{◌≡◌, ℕ, [], ◌∷◌, Some, None, Result, Ok, Err, IfSome}
 use Rattle.std.specs.List.{slice_get}
 use Rattle.command_line.specs.AskedNodes.{NodeWordsView}
 use Rattle.disk.specs.Acts.{Began, BeginFailed}

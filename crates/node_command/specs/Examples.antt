@@ -1,12 +1,17 @@
 -- Runs of a node for worked rows. Their input tells nothing, and their output and error stream were empty.
-use Rattle.std.specs.Prelude.{ℕ, List, [], ◌∷◌, Option, None, Some, codes}
+use Rattle.std.specs.Prelude.{ℕ, List, [], ◌∷◌, Option, None, Some, Result, codes, replicate}
 use Rattle.command_line.specs.AskedNodes.{NodeWordsView}
 use Rattle.disk.specs.Disk.{settled}
-use Rattle.node_device.specs.Examples.{counts, tells}
+use Rattle.node_config.specs.Configs.{config_as}
+use Rattle.node_config.specs.declared.config.Config.{Config}
+use Rattle.node_device.specs.Examples.{counts, node_at, tells, untold}
 use Rattle.node_device.specs.Faults.{Faults}
 use Rattle.node_device.specs.Telling.{Told}
 use Rattle.run_streams.specs.Seen.{SinkSeen, SourceSeen}
+use Rattle.vst_base.specs.declared.stack.StackId.TheVariants as stack
+use Rattle.node_command.specs.Coming.{Comes}
 use Rattle.node_command.specs.Seen.{DeviceSeen, NodeRun}
+use Rattle.node_command.specs.declared.trouble.Trouble.{Trouble}
 
 -- node 0 for three turns
 abbrev pub words : NodeWordsView
@@ -38,3 +43,15 @@ complained reads line after = record {
 -- a device that has done nothing, with empty areas
 abbrev pub untouched : Told
 untouched = record { acts = []; disk = record { slot0 = settled []; slot1 = settled []; selector = settled [] } }
+
+-- a cluster of one node
+abbrev pub alone : Config
+alone = config_as stack.KvRaft 0 (node_at 7000 ∷ []) [] 50 300 (replicate 16 0)
+
+-- so many beginnings failed, and one call of each other kind
+abbrev pub begins : ℕ → Faults
+begins n = record { begin = n; receive = 1; store = 1; send = 1 }
+
+-- what a node's run comes to where neither its input nor its device tells, and calls had failed so often before it and after it
+abbrev pub comes_to : Faults → Faults → Result (Unit {0}) Trouble → Type 0
+comes_to before after r = Comes words (source 0) (source 0) (device untold before) (device untold after) r

@@ -1,10 +1,10 @@
-ghost use Rattle.std.specs.Prelude.{◌≡◌, [], ◌∷◌, Err, None, Some, codes};
+ghost use Rattle.std.specs.Prelude.{◌≡◌, [], ◌∷◌, Err, None, Ok, Some, codes};
 ghost use Rattle.disk.specs.Acts.{Now};
 ghost use Rattle.node_command.specs.Complete.{areas_status, configured_status};
-ghost use Rattle.node_command.specs.Examples.{complained, device, idle, untouched, words};
+ghost use Rattle.node_command.specs.Examples.{begins, comes_to, complained, device, idle, untouched, words};
 ghost use Rattle.node_command.specs.Lines.{config_line, line_of, state_line, status_of, turns_line};
 ghost use Rattle.node_command.specs.Statuses.{EndsBy, IsConfigRefused, IsNodeStatus, IsOutOfMemory, MaySay};
-ghost use Rattle.node_device.specs.Examples.{counts, tells};
+ghost use Rattle.node_device.specs.Examples.{counts, sends, tells};
 ghost use Rattle.slots.specs.Opening.{BadSelector};
 
 use crate::Trouble;
@@ -45,4 +45,16 @@ pub fn worked_statuses()
     ensures wanted { IsOutOfMemory words (complained 0 (codes "memory\n") idle) }
     ensures wanted_in_silence { IsOutOfMemory words (complained 0 [] idle) → ⊥ }
     ensures says_memory { MaySay words (complained 0 [] idle) (codes "memory\n") }
+{}
+
+/// What reading the configuration, beginning and taking turns come to, by the calls that failed.
+pub fn worked_comings()
+    ensures served { comes_to (counts 1 1) (counts 1 1) (Ok tt) }
+    ensures served_though_a_send_failed { comes_to (sends 1) (sends 2) (Ok tt) }
+    ensures not_served_where_a_store_failed { comes_to (counts 1 1) (counts 1 2) (Ok tt) → ⊥ }
+    ensures ended { comes_to (counts 1 1) (counts 2 1) (Err (Trouble.Ended NodeFault.Receive)) }
+    ensures not_ended_uncounted { comes_to (counts 1 1) (counts 1 1) (Err (Trouble.Ended NodeFault.Receive)) → ⊥ }
+    ensures not_ended_by_another { comes_to (counts 1 1) (counts 2 2) (Err (Trouble.Ended NodeFault.Receive)) → ⊥ }
+    ensures unbegun { comes_to (begins 1) (begins 2) (Err Trouble.Begin) }
+    ensures not_unbegun_uncounted { comes_to (begins 1) (begins 1) (Err Trouble.Begin) → ⊥ }
 {}

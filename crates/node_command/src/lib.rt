@@ -10,5 +10,5 @@ mod telling;
 mod trouble;
 
 pub use command::run_node;
-pub use examples::{worked_lines, worked_statuses};
+pub use examples::{worked_comings, worked_lines, worked_statuses};
 pub use trouble::Trouble;

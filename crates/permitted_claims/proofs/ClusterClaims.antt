@@ -1,7 +1,7 @@
 -- What a claim on a machine on a cluster holds has texts, where the claim was read.
 use Rattle.std.specs.Prelude.{◌≡◌, ℕ, List, [], ◌∷◌, map, Option, Some, None, is_none, option_and_then, refl}
 use Rattle.check_text.specs.Forms.{Form, claim_of, form_of}
-use Rattle.check_text.specs.ImageLines.{behind_order, order_of, order_says}
+use Rattle.check_text.specs.ImageLines.{after_order, order_of, order_says}
 use Rattle.check_text.specs.Reading.{Whole}
 use Rattle.claim_verdicts.specs.Clusters.{ClusterClaim}
 use Rattle.claim_verdicts.specs.Laws.{AreSpelled, IsSpelledItem}
@@ -45,7 +45,7 @@ module _ {I : Type 0} (f : List ℕ → Option I) (HasIn : I → Type 0) (has_te
 
   order-text : (l : List ℕ) → IfSays HasIn (order_says f l)
   order-text l =
-      said-there HasIn (first_of ((why.UnknownWord, is_none (behind_order l)) ∷ (why.Text, is_none (order_of f l)) ∷ [])) (order_of f l) (rest-there (behind_order l))
+      said-there HasIn (first_of ((why.UnknownWord, is_none (after_order l)) ∷ (why.Text, is_none (order_of f l)) ∷ [])) (order_of f l) (rest-there (after_order l))
 
 -- how a claim is spelled whose image is an order of requests
 abbrev pub order_form : {C O : Type 0} → ℕ → Texts C O → Form (RaftInput C) (RaftOut O) (RaftInput C)

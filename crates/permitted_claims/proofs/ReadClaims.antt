@@ -17,7 +17,7 @@ use Rattle.schedule_text.specs.Headers.{header_of}
 use Rattle.schedule_text.specs.Reading.{number_of}
 use Rattle.schedule_text.specs.Words.{is_text}
 use Rattle.check_text.specs.Claims.{Claim, only_image, with_item}
-use Rattle.check_text.specs.Forms.{Form, behind_below, claim_from, claim_line, claim_of, headed, headed_unless, image_from, onto, with_header}
+use Rattle.check_text.specs.Forms.{Form, after_below, claim_from, claim_line, claim_of, headed, headed_unless, image_from, onto, with_header}
 use Rattle.check_text.specs.ImageLines.{IsHeaded, counted_line, header_if, heads, image_header, image_unless, line_of_image, said_or_refused}
 use Rattle.check_text.specs.Reading.{Reading, Whole, RefusedAt, EndedAt, read_map}
 use Rattle.check_text.specs.TraceLines.{ItemParts, begins_as_input, count_item, counted_says, is_beyond, item_of, item_or_refusal, item_parts, item_refusals, item_with, most_lines, trace_line, trace_says, trace_unless}
@@ -149,11 +149,11 @@ module _ {I O X : Type 0} (apart : AreApart) (form : Form I O X) (HasIn : I → 
       (headed-claim (image_header form.below l) number rest (header-there apart form.below l (header_of l) refl) (image-each (number + 1) 0 ls))
 
   -- by whether an image has a header
-  below-by : (below : Option StackId) → form.below ≡ below → (number : ℕ) (ls : List (List ℕ)) → IfWhole IsRead (behind_below form below number ls)
+  below-by : (below : Option StackId) → form.below ≡ below → (number : ℕ) (ls : List (List ℕ)) → IfWhole IsRead (after_below form below number ls)
   below-by None is number ls = only-claim None (subst (λ b. IsHeaded b None) (sym is) tt) (image_from form.says number 0 ls) (image-each number 0 ls)
   below-by (Some s) is number ls = subst (λ b. IfWhole IsRead (with_header form b number ls)) is (header-claim number ls)
 
-  below-claim : (number : ℕ) (ls : List (List ℕ)) → IfWhole IsRead (behind_below form form.below number ls)
+  below-claim : (number : ℕ) (ls : List (List ℕ)) → IfWhole IsRead (after_below form form.below number ls)
   below-claim number ls = below-by form.below refl number ls
 
   -- a line of a trace, before lines of which the rest of the claim is read, or the image if it is `below`. What `below` says
@@ -185,7 +185,7 @@ module _ {I O X : Type 0} (apart : AreApart) (form : Form I O X) (HasIn : I → 
   claim-read : (number inputs : ℕ) (ls : List (List ℕ)) → IfWhole IsRead (claim_from form number inputs ls)
   claim-read number inputs [] = tt
   claim-read number inputs (l ∷ ls) =
-      line-claim number inputs l (λ n. claim_from form (number + 1) n ls) (behind_below form form.below (number + 1) ls) (λ n. claim-read (number + 1) n ls) (below-claim (number + 1) ls)
+      line-claim number inputs l (λ n. claim_from form (number + 1) n ls) (after_below form form.below (number + 1) ls) (λ n. claim-read (number + 1) n ls) (below-claim (number + 1) ls)
 
   pub read-whole : (ls : List (List ℕ)) (c : Claim I O X) → claim_of form ls ≡ Whole c → IsReadClaim form.nodes HasIn HasOut HasImage form.below c
   read-whole ls c is = subst (IfWhole IsRead) is (claim-read 1 0 ls)

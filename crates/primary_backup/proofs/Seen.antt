@@ -53,9 +53,9 @@ module _ {C O : Type 0} where
       redirects_past y (z ∷ zs) o (redirects_past z zs o (h zs after o f))
 
   -- outputs of the primary after an input there, an output there and an input at the backup
-  behind_input : (n k : ℕ) (c : C) (later : List (Item C (PbOut O))) → k ≡ suc n → StandsBehind k later → StandsBehind n (item.Input 0 c ∷ later)
-  behind_input n k c later e h [] after o e2 = cc
-  behind_input n k c later e h (y ∷ ys) after o e2 =
+  after_input : (n k : ℕ) (c : C) (later : List (Item C (PbOut O))) → k ≡ suc n → StandsBehind k later → StandsBehind n (item.Input 0 c ∷ later)
+  after_input n k c later e h [] after o e2 = cc
+  after_input n k c later e h (y ∷ ys) after o e2 =
       let f : later ≡ ys ++ item.Output 0 o ∷ after = cc in
       let g : y ≡ item.Input 0 c = cc in
       let old = h ys after o f in
@@ -97,7 +97,7 @@ module _ {S C O : Type 0} (m : MachineMeaning S C O) where
       let longer = length-append pending (c ∷ []) in
       record {
         outputs = subst (λ (cs : List C). outputs_at 0 later ≡ map told.Reply (outputs_from m s (take (replies later) cs))) same h.outputs;
-        behind = behind_input (length pending) (length (pending ++ c ∷ [])) c later (omega arith) h.behind;
+        behind = after_input (length pending) (length (pending ++ c ∷ [])) c later (omega arith) h.behind;
         redirected = redirected_past (item.Input 0 c) later (λ d g. absurd (not_one 0 refl cc)) h.redirected;
         nothing_else = nothing_past (item.Input 0 c) later (λ o g. cc) h.nothing_else;
         primary = subst (λ (cs : List C). p ≡ state_after m s (take (replies later) cs)) same h.primary;

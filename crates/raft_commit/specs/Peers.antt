@@ -32,7 +32,7 @@ moved p true index len = if is_news p index len then Raised else Nothing
 moved p false index len = if is_refusal p index then Back else Nothing
 
 -- what the leader knows once it moved
-abbrev pub peer_behind : PeerView → ℕ → Moved → PeerView
-peer_behind p index Raised = record { next = suc index; matched = index }
-peer_behind p index Back = record p { next = index }
-peer_behind p index Nothing = p
+abbrev pub peer_after : PeerView → ℕ → Moved → PeerView
+peer_after p index Raised = record { next = suc index; matched = index }
+peer_after p index Back = record p { next = index }
+peer_after p index Nothing = p

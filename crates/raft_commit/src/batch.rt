@@ -13,6 +13,6 @@ pub fn next_batch<C>(entries: &[Entry<C>], next: u32) -> &[Entry<C>]
     ensures few { length result.now ≤ MAX_BATCH }
     ensures within { next + length result.now ≤ length entries.now + 1 }
 {
-    let behind = &entries[next as usize - 1..];
-    &behind[..behind.len().min(MAX_BATCH)]
+    let rest = &entries[next as usize - 1..];
+    &rest[..rest.len().min(MAX_BATCH)]
 }

@@ -3,29 +3,29 @@ ghost use Rattle.vst_base.specs.Committing.{advance};
 ghost use Rattle.vst_base.specs.LogExamples.{leader, log, noop};
 ghost use Rattle.raft_commit.specs.Batches.{batch};
 ghost use Rattle.raft_commit.specs.PeerExamples.{peer, peers};
-ghost use Rattle.raft_commit.specs.Peers.{matched_of, moved, new_peer, peer_behind};
+ghost use Rattle.raft_commit.specs.Peers.{matched_of, moved, new_peer, peer_after};
 ghost use Rattle.raft_commit.specs.declared.peer.Moved.TheVariants.{Raised, Back, Nothing};
 
 /// What a leader with ten entries makes of answers: of a node that it knows nothing of, and of one that it
 /// sent the entries from index 5 on and that has those up to 2.
 pub fn worked_answers()
     ensures nothing_known { new_peer 10 ≡ peer 11 0 }
-    ensures first_no { (moved (new_peer 10) false 10 10 ≡ Back) × (peer_behind (new_peer 10) 10 Back ≡ peer 10 0) }
-    ensures first_yes { (moved (new_peer 10) true 10 10 ≡ Raised) × (peer_behind (new_peer 10) 10 Raised ≡ peer 11 10) }
+    ensures first_no { (moved (new_peer 10) false 10 10 ≡ Back) × (peer_after (new_peer 10) 10 Back ≡ peer 10 0) }
+    ensures first_yes { (moved (new_peer 10) true 10 10 ≡ Raised) × (peer_after (new_peer 10) 10 Raised ≡ peer 11 10) }
     ensures first_of_an_empty_log { (moved (new_peer 0) false 0 0 ≡ Nothing) × (moved (new_peer 0) true 0 0 ≡ Nothing) }
 
-    ensures no_at_its_next { (moved (peer 5 2) false 4 10 ≡ Back) × (peer_behind (peer 5 2) 4 Back ≡ peer 4 2) }
+    ensures no_at_its_next { (moved (peer 5 2) false 4 10 ≡ Back) × (peer_after (peer 5 2) 4 Back ≡ peer 4 2) }
     ensures old_no_of_a_later_index { moved (peer 5 2) false 5 10 ≡ Nothing }
     ensures old_no_of_an_earlier_index { moved (peer 5 2) false 3 10 ≡ Nothing }
     ensures no_to_what_it_has { moved (peer 3 2) false 2 10 ≡ Nothing }
 
-    ensures yes_past_its_next { (moved (peer 5 2) true 7 10 ≡ Raised) × (peer_behind (peer 5 2) 7 Raised ≡ peer 8 7) }
-    ensures yes_before_its_next { (moved (peer 5 2) true 3 10 ≡ Raised) × (peer_behind (peer 5 2) 3 Raised ≡ peer 4 3) }
+    ensures yes_past_its_next { (moved (peer 5 2) true 7 10 ≡ Raised) × (peer_after (peer 5 2) 7 Raised ≡ peer 8 7) }
+    ensures yes_before_its_next { (moved (peer 5 2) true 3 10 ≡ Raised) × (peer_after (peer 5 2) 3 Raised ≡ peer 4 3) }
     ensures yes_to_the_end { moved (peer 5 2) true 10 10 ≡ Raised }
     ensures yes_past_the_end { moved (peer 5 2) true 11 10 ≡ Nothing }
     ensures yes_to_what_it_has { moved (peer 5 2) true 2 10 ≡ Nothing }
     ensures old_yes { moved (peer 5 2) true 1 10 ≡ Nothing }
-    ensures nothing_changes { peer_behind (peer 5 2) 1 Nothing ≡ peer 5 2 }
+    ensures nothing_changes { peer_after (peer 5 2) 1 Nothing ≡ peer 5 2 }
 {}
 
 /// What is sent of the new leader's log of Figure 7 of the Raft paper, of ten entries.

@@ -1,5 +1,5 @@
 ghost use Rattle.std.specs.Prelude.{◌≡◌, ◌+◌, ◌<◌, ◌≤◌};
-ghost use Rattle.raft_commit.specs.Peers.{moved, new_peer, peer_behind};
+ghost use Rattle.raft_commit.specs.Peers.{moved, new_peer, peer_after};
 
 use std::marker::Model;
 
@@ -73,7 +73,7 @@ impl Peer {
     pub fn on_answer(&mut self, ok: bool, index: u32, len: u32) -> Moved
         requires { len < u32.MAX }
         ensures answer { result ≡ moved self.old ok index len }
-        ensures peer { self.new ≡ peer_behind self.old index result }
+        ensures peer { self.new ≡ peer_after self.old index result }
         ensures in_order { self.new.matched < self.new.next }
         ensures in_the_log { self.old.next ≤ len + 1 → self.new.next ≤ len + 1 }
     {

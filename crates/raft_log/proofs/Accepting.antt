@@ -8,7 +8,7 @@ use Rattle.vst_base.specs.Logs.{accepted, has_conflict, merged, term_at}
 use Rattle.vst_base.proofs.LogTerms.{rest_behind, term_behind}
 use Rattle.raft_log.specs.declared.accept.Accept.{Accept}
 use Rattle.raft_log.specs.declared.accept.Accept.TheVariants.{Taken, Below}
-use Rattle.raft_log.specs.Accepting.{agreed, answer, first_conflict, log_behind}
+use Rattle.raft_log.specs.Accepting.{agreed, answer, first_conflict, log_after}
 
 or_later : (a b : Bool) → b ≡ true → (a || b) ≡ true
 or_later true b e = refl
@@ -128,7 +128,7 @@ accepted_none {C = C} log prev es h = ap (λ (r : List (Entry C)). take prev log
 -- what the call answers, and the log after it, by what it found
 pub record Answers {C : Type 0} (log : List (Entry C)) (commit prev : ℕ) (es : List (Entry C)) (a : Accept) (after : List (Entry C)) : Type 0 where
   pub answers : a ≡ answer log commit prev es
-  pub becomes : after ≡ log_behind log commit prev es
+  pub becomes : after ≡ log_after log commit prev es
 
 pub answers_below : {C : Type 0} (log : List (Entry C)) (commit prev : ℕ) (es : List (Entry C)) (n : ℕ) → commit ≤ length log →
     n ≡ agreed (drop prev log) es → n < length es → prev + n < commit → Answers log commit prev es (Below (prev + n + 1)) log

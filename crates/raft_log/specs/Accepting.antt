@@ -21,5 +21,5 @@ abbrev pub answer : {C : Type 0} → List (Entry C) → ℕ → ℕ → List (En
 answer log commit prev es = if has_conflict log commit prev es then Below (first_conflict log prev es) else Taken (prev + length es)
 
 -- the log after that answer
-abbrev pub log_behind : {C : Type 0} → List (Entry C) → ℕ → ℕ → List (Entry C) → List (Entry C)
-log_behind log commit prev es = if has_conflict log commit prev es then log else accepted log prev es
+abbrev pub log_after : {C : Type 0} → List (Entry C) → ℕ → ℕ → List (Entry C) → List (Entry C)
+log_after log commit prev es = if has_conflict log commit prev es then log else accepted log prev es

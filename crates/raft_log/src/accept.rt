@@ -1,6 +1,6 @@
 ghost use Rattle.std.specs.Prelude.{◌≡◌, ◌+◌, ◌≤◌, true, drop, length, IfOk, IsOk, OnErr, OnOk};
 ghost use Rattle.vst_base.specs.Logs.{has_conflict};
-ghost use Rattle.raft_log.specs.Accepting.{agreed, answer, log_behind};
+ghost use Rattle.raft_log.specs.Accepting.{agreed, answer, log_after};
 
 use crate::Log;
 use raft_types::MAX_INDEX;
@@ -48,7 +48,7 @@ impl<C: Drop> Log<C> {
         requires commit { commit ≤ length self.old }
         requires room { prev + length entries.now ≤ MAX_INDEX }
         ensures answer { IfOk result (λ accept. accept ≡ answer self.old commit prev entries.now) }
-        ensures log { OnOk result (self.new ≡ log_behind self.old commit prev entries.now) }
+        ensures log { OnOk result (self.new ≡ log_after self.old commit prev entries.now) }
         ensures err { OnErr result (self.new ≡ self.old) }
         ensures refuses { has_conflict self.old commit prev entries.now ≡ true → IsOk result }
         ensures had { agreed (drop prev self.old) entries.now ≡ length entries.now → IsOk result }

@@ -1,6 +1,6 @@
 ghost use Rattle.std.specs.Prelude.{◌≡◌, [], drop, take};
 ghost use Rattle.vst_base.specs.LogExamples.{leader, log, one_behind, one_more, parted_early, parted_late};
-ghost use Rattle.raft_log.specs.Accepting.{agreed, answer, first_conflict, log_behind};
+ghost use Rattle.raft_log.specs.Accepting.{agreed, answer, first_conflict, log_after};
 ghost use Rattle.raft_log.specs.declared.accept.Accept.TheVariants.{Taken, Below};
 
 /// What the followers' logs of Figure 7 of the Raft paper answer to the new leader's entries.
@@ -17,7 +17,7 @@ pub fn worked_answers()
     ensures the_first_conflict { answer parted_early 11 0 leader ≡ Below 4 }
     ensures the_end_is_a_conflict { first_conflict one_behind 0 leader ≡ 10 }
 
-    ensures cut_where_taken { log_behind parted_late 5 5 (drop 5 leader) ≡ leader }
-    ensures longer_where_had { log_behind one_more 11 2 (take 3 (drop 2 leader)) ≡ one_more }
-    ensures unchanged_where_refused { log_behind parted_late 6 5 (drop 5 leader) ≡ parted_late }
+    ensures cut_where_taken { log_after parted_late 5 5 (drop 5 leader) ≡ leader }
+    ensures longer_where_had { log_after one_more 11 2 (take 3 (drop 2 leader)) ≡ one_more }
+    ensures unchanged_where_refused { log_after parted_late 6 5 (drop 5 leader) ≡ parted_late }
 {}

@@ -10,7 +10,7 @@ use Rattle.vst_base.specs.Logs.{has_conflict, matches}
 use Rattle.vst_base.specs.Machines.{MachineMeaning}
 use Rattle.vst_base.specs.declared.what.What.{What}
 use Rattle.vst_base.specs.declared.what.What.TheVariants.{Noop, Request}
-use Rattle.raft_commit.specs.Peers.{PeerView, is_news, is_refusal, matched_of, new_peer, peer_behind}
+use Rattle.raft_commit.specs.Peers.{PeerView, is_news, is_refusal, matched_of, new_peer, peer_after}
 use Rattle.raft_commit.specs.declared.peer.Moved.{Moved}
 use Rattle.raft_commit.specs.declared.peer.Moved.TheVariants as moves
 use Rattle.raft_election.specs.Ballots.{grants, may_start}
@@ -337,7 +337,7 @@ module _ {S C O : Type 0} (m : MachineMeaning S C O) (n i : ℕ) (P : Entry C �
       p = peer_at s.peers from
 
       known_by : Moved → RaftView S C O
-      known_by v = record s { peers = set s.peers from (peer_behind p a.index v) }
+      known_by v = record s { peers = set s.peers from (peer_after p a.index v) }
 
       inside : from < length s.peers
       inside = omega (arith, ps.each)
@@ -351,13 +351,13 @@ module _ {S C O : Type 0} (m : MachineMeaning S C O) (n i : ℕ) (P : Entry C �
 
       notes : (ok : a.ok ≡ true) → p.matched < a.index → a.index ≤ length s.log → Does n i P sent (up s) (up (known_by moves.Raised)) []
       notes ok more le =
-          does_one (Match i from a.index) refl (refl, rw (← t, ← ok) came, leads_true _ l, matches_less more, le) tt (ap (λ f. record (up s) { matched = f }) (matched_set s.peers from (peer_behind p a.index moves.Raised) inside))
+          does_one (Match i from a.index) refl (refl, rw (← t, ← ok) came, leads_true _ l, matches_less more, le) tt (ap (λ f. record (up s) { matched = f }) (matched_set s.peers from (peer_after p a.index moves.Raised) inside))
         where
           matches_less : p.matched < a.index → matched_of s.peers from < a.index
           matches_less h = rw (get_or-map (λ (q : PeerView). q.matched) s.peers from (new_peer 0) 0 inside) h
 
-      same : (v : Moved) → (peer_behind p a.index v).matched ≡ p.matched → Does n i P sent (up s) (up (known_by v)) []
-      same v e = does_nothing (with_matched s from (peer_behind p a.index v) inside e)
+      same : (v : Moved) → (peer_after p a.index v).matched ≡ p.matched → Does n i P sent (up s) (up (known_by v)) []
+      same v e = does_nothing (with_matched s from (peer_after p a.index v) inside e)
 
       raised : (b : Bool) → is_news p a.index (length s.log) ≡ b → a.ok ≡ true →
           Knows n (on_moved m n i (known_by (cond b moves.Raised moves.Nothing)) from (cond b moves.Raised moves.Nothing)).state →

@@ -10,7 +10,7 @@ use Rattle.vst_base.specs.Machines.{MachineMeaning}
 use Rattle.vst_base.specs.declared.entry.Entry.{Entry}
 use Rattle.raft_commit.specs.Peers.{PeerView, matched_of}
 use Rattle.raft_commit.specs.declared.peer.Moved.TheVariants as moves
-use Rattle.raft_log.specs.Accepting.{answer, first_conflict, log_behind}
+use Rattle.raft_log.specs.Accepting.{answer, first_conflict, log_after}
 use Rattle.raft_log.specs.declared.accept.Accept.TheVariants.{Taken, Below}
 use Rattle.raft_xform.specs.declared.role.Role.{Role}
 use Rattle.raft_xform.specs.declared.role.Role.TheVariants as role
@@ -53,7 +53,7 @@ conflict log commit prev es at e = go (has_conflict log commit prev es) e
 
 -- what is committed then is in the log
 pub learned_in_log : {C : Type 0} (log : List (Entry C)) (commit prev prev_term theirs : ℕ) (es new : List (Entry C)) (last : ℕ) → commit ≤ length log →
-    matches log prev prev_term ≡ true → Taken last ≡ answer log commit prev es → new ≡ log_behind log commit prev es → max commit (min theirs last) ≤ length new
+    matches log prev prev_term ≡ true → Taken last ≡ answer log commit prev es → new ≡ log_after log commit prev es → max commit (min theirs last) ≤ length new
 learned_in_log log commit prev prev_term theirs es new last l m a n =
     let there : prev ≤ length log = leb-true _ _ (and_parts _ _ m).0 in
     let none = no_conflict log commit prev es last a in

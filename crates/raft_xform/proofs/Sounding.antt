@@ -9,7 +9,7 @@ use Rattle.vst_base.specs.declared.what.What.{What}
 use Rattle.vst_base.specs.declared.what.What.TheVariants.{Noop}
 use Rattle.vst_base.specs.Logs.{has_conflict, matches}
 use Rattle.vst_base.specs.Machines.{MachineMeaning}
-use Rattle.raft_commit.specs.Peers.{PeerView, is_news, is_refusal, matched_of, moved, new_peer, peer_behind}
+use Rattle.raft_commit.specs.Peers.{PeerView, is_news, is_refusal, matched_of, moved, new_peer, peer_after}
 use Rattle.raft_commit.specs.declared.peer.Moved.TheVariants as moves
 use Rattle.raft_election.specs.Ballots.{may_start}
 use Rattle.raft_types.specs.Messages.{AppendView, AppendedView}
@@ -37,15 +37,15 @@ longer_log {nodes} {len} {peers} p = record {
 }
 
 -- an answer lets nextIndex stay in the log or right after its end, and past matchIndex
-pub peer_moves : (len : ℕ) (p : PeerView) → IsPeer len p → (ok : Bool) (index : ℕ) → IsPeer len (peer_behind p index (moved p ok index len))
+pub peer_moves : (len : ℕ) (p : PeerView) → IsPeer len p → (ok : Bool) (index : ℕ) → IsPeer len (peer_after p index (moved p ok index len))
 peer_moves len p h true index = go (is_news p index len) refl
   where
-    go : (b : Bool) → is_news p index len ≡ b → IsPeer len (peer_behind p index (cond b moves.Raised moves.Nothing))
+    go : (b : Bool) → is_news p index len ≡ b → IsPeer len (peer_after p index (cond b moves.Raised moves.Nothing))
     go true t = let parts = and_parts (ltb p.matched index) (leb index len) t in let l : index ≤ len = leb-true index len parts.1 in (omega arith, omega arith)
     go false t = h
 peer_moves len p h false index = go (is_refusal p index) refl
   where
-    go : (b : Bool) → is_refusal p index ≡ b → IsPeer len (peer_behind p index (cond b moves.Back moves.Nothing))
+    go : (b : Bool) → is_refusal p index ≡ b → IsPeer len (peer_after p index (cond b moves.Back moves.Nothing))
     go true t =
         let parts = and_parts _ _ t in
         let here : suc index ≡ p.next = eqb-true _ _ parts.0 in
@@ -230,8 +230,8 @@ module _ {S C O : Type 0} {nodes me : ℕ} where
         committed = k.committed;
         short = k.short;
         peers = λ _. record {
-          each = length-set s.peers from (peer_behind (peer_at s.peers from) a.index (moved_by s from a)) ∙ ps.each;
-          within = All-set (IsPeer (length s.log)) s.peers from (peer_behind (peer_at s.peers from) a.index (moved_by s from a))
+          each = length-set s.peers from (peer_after (peer_at s.peers from) a.index (moved_by s from a)) ∙ ps.each;
+          within = All-set (IsPeer (length s.log)) s.peers from (peer_after (peer_at s.peers from) a.index (moved_by s from a))
               (peer_moves (length s.log) (peer_at s.peers from) (All-get_or (IsPeer (length s.log)) s.peers from (new_peer 0) (omega (arith, ps.each)) ps.within) a.ok a.index) ps.within;
         };
       }

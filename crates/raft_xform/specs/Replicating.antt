@@ -4,7 +4,7 @@ use Rattle.vst_base.specs.Committing.{learned_commit}
 use Rattle.vst_base.specs.Logs.{accepted, has_conflict, matches}
 use Rattle.vst_base.specs.Machines.{MachineMeaning}
 use Rattle.vst_base.specs.declared.what.What.TheVariants.{Request}
-use Rattle.raft_commit.specs.Peers.{moved, peer_behind}
+use Rattle.raft_commit.specs.Peers.{moved, peer_after}
 use Rattle.raft_commit.specs.declared.peer.Moved.{Moved}
 use Rattle.raft_commit.specs.declared.peer.Moved.TheVariants as moves
 use Rattle.raft_types.specs.Messages.{AppendView, AppendedView}
@@ -88,7 +88,7 @@ module _ {S C O : Type 0} where
   moved_by s from a = moved (peer_at s.peers from) a.ok a.index (length s.log)
 
   abbrev pub known : RaftView S C O → ℕ → AppendedView → RaftView S C O
-  known s from a = with_peer s from (peer_behind (peer_at s.peers from) a.index (moved_by s from a))
+  known s from a = with_peer s from (peer_after (peer_at s.peers from) a.index (moved_by s from a))
 
   -- the answer to AppendEntries comes to a leader in the same term
   abbrev pub on_appended : MachineMeaning S C O → ℕ → ℕ → RaftView S C O → ℕ → AppendedView → RaftEffect S C O

@@ -4,3 +4,4 @@ pub mod Within
 pub mod Alone
 pub mod Clusters
 pub mod ClusterLaws
+pub mod Examples

@@ -10,7 +10,7 @@ use Rattle.line_reader.specs.Lines.{lines_of, whole_lines, decided}
 use Rattle.line_reader.specs.Readers.{ReaderView, HasRest, fresh}
 use Rattle.line_reader.specs.Outcomes.{Uses, HasReadCause}
 use Rattle.line_reader.proofs.Lining.{whole-append, last-append}
-use Rattle.line_reader.proofs.Using.{decided-behind}
+use Rattle.line_reader.proofs.Using.{decided-after}
 use Rattle.schedule_text.specs.declared.header.Header.{Header}
 use Rattle.schedule_text.specs.Schedules.{Opening, Opened, RefusedAt, EndedAt, opening, opening_refusal}
 use Rattle.schedule_text.specs.Streams.{ReadsHeader}
@@ -119,7 +119,7 @@ module _ (h : Header) (r : ReaderView) (most : r.most ≡ most_lines) (events : 
         let j = n - r.number in
         let there : n - 0 ≡ k + j = omega (arith, a.later, u.number) in
         let size = ap length u.whole ∙ length-append used u.rest' in
-        let decides = ap (λ i. decided i bytes) there ∙ decided-behind k j bytes u.rest' u.behind (omega (arith, a.later)) in
+        let decides = ap (λ i. decided i bytes) there ∙ decided-after k j bytes u.rest' u.behind (omega (arith, a.later)) in
         record {
           refused = ap (λ (x : Replayed). x.refused) whole-same ∙ a.refused;
           written = subst (λ (x : Replayed). Gained out out' x.out) (sym whole-same) a.written;

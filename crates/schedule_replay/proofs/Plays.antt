@@ -18,11 +18,11 @@ use Rattle.line_reader.specs.Lines.{lines_of, whole_lines}
 use Rattle.line_reader.specs.Readers.{ReaderView, HasRest}
 use Rattle.line_reader.specs.Outcomes.{Uses, StandsAt}
 use Rattle.line_reader.proofs.Lining.{whole-append}
-use Rattle.line_reader.proofs.Using.{uses-none, uses-more, lines-more, stands-behind, breaks-behind}
+use Rattle.line_reader.proofs.Using.{uses-none, uses-more, lines-more, stands-after, breaks-after}
 use Rattle.schedule_text.specs.Printing.{as_line, item_text, trace_text}
 use Rattle.schedule_text.specs.Schedules.{Script, script, no_steps, with_step}
 use Rattle.schedule_text.specs.Streams.{ReadsStep}
-use Rattle.schedule_text.proofs.ScheduleLaws.{prefixed, script-behind}
+use Rattle.schedule_text.proofs.ScheduleLaws.{prefixed, script-after}
 use Rattle.xform_stack.specs.Running.{HasRun, Progress, System}
 use Rattle.xform_stack.specs.RunningLaws.{has_run-forget}
 use Rattle.schedule_replay.specs.declared.halt.Halt.{Halt}
@@ -33,7 +33,7 @@ use Rattle.schedule_replay.specs.Tallying.{tallied}
 use Rattle.schedule_replay.specs.Replaying.{is_input, is_output, is_reply_by, why_of, stop, taken}
 use Rattle.schedule_replay.specs.Replaying.{trace_lines, image_lines, ended, replayed_script}
 use Rattle.schedule_replay.specs.Playing.{TraceWritten, TookStep, HaltsBy, Halted, Waits, Writes}
-use Rattle.schedule_replay.proofs.Scripts.{all-taken, refused-behind, taken-front}
+use Rattle.schedule_replay.proofs.Scripts.{all-taken, refused-after, taken-front}
 
 -- where the reading of a schedule stands, and the writing of what comes of it
 pub record Standing (R : Type 0) : Type 0 where
@@ -176,7 +176,7 @@ module _ {I : Type 0} {f : List ℕ → Option I} {old now : ReaderView} {left' 
       let before = script_from f old (lines_of r.used) in
       let none : before.fault ≡ None = ap (λ (sc : Script I). sc.fault) r.says in
       let done : before.steps ≡ steps = ap (λ (sc : Script I). sc.steps) r.says in
-      script-behind old.most f (old.number + 1) old.events (lines_of r.used) ls none
+      script-after old.most f (old.number + 1) old.events (lines_of r.used) ls none
       ∙ script-moved before.steps ((old.number + 1) + length (lines_of r.used)) (old.events + length before.steps) ls done
       (omega (arith, r.uses.number)) (omega (arith, r.events, ap length done))
 
@@ -222,7 +222,7 @@ module _ {I : Type 0} {f : List ℕ → Option I} {old now : ReaderView} {left' 
         let tail = script now.most f ((now.number + 1) + length ls) (now.events + length first.steps) ms in (
           tail,
           script-rest ∙ ap (prefixed steps) (ap (script_from f now) read.1.lines
-              ∙ (script-behind now.most f (now.number + 1) now.events ls ms none
+              ∙ (script-after now.most f (now.number + 1) now.events ls ms none
               ∙ ap (λ (done : List (ℕ × Step I)). prefixed done tail) (ap (λ (sc : Script I). sc.steps) read.3))),
         )
 
@@ -280,22 +280,22 @@ module _ {R S K I O M G : Type 0} {sys : System S K I O M G} {follows : R → Li
           let read = reads r.uses.rest' r.uses.left in
           let part = r.used ++ read.0 in
           let both = stops None (script_from t.input_of a.reader (whole_lines part)) (part-stops r read.0 going read.2) in
-          (part, breaks-behind a.reader b.reader b.left after rest r.used read.0 r.uses (r.uses.closed going) read.1, both)
+          (part, breaks-after a.reader b.reader b.left after rest r.used read.0 r.uses (r.uses.closed going) read.1, both)
       halts-by (halt.Refused number w) (same, reads) rest has =
           let r = p.reads rest has in
           let sc = script_from t.input_of a.reader (lines_of rest) in
           elim (reads r.uses.rest' r.uses.left) [
             | inl read ↦
                 let both = stops (Some (number, w)) sc (rest-stops r (Some (number, w)) read.1) in
-                (stands-behind a.reader b.reader new b.left after rest r.used number r.uses read.0, both.0, both.1)
+                (stands-after a.reader b.reader new b.left after rest r.used number r.uses read.0, both.0, both.1)
             | inr found ↦
                 let s = found.0 in
                 let read = found.2 in
                 let ahead = step-ahead r new after s read in
-                let both = refused-behind sys.net sys.meaning sys.recovery (first_world sys.meaning) p.steps p.ran.allowed
+                let both = refused-after sys.net sys.meaning sys.recovery (first_world sys.meaning) p.steps p.ran.allowed
                 new.number s ahead.0 sc found.1 ahead.1 found.4 in
                 let stands = subst (λ (n : ℕ). StandsAt b.reader new after r.uses.rest' n) (sym found.3) read.2 in (
-                  stands-behind a.reader b.reader new b.left after rest r.used number r.uses stands,
+                  stands-after a.reader b.reader new b.left after rest r.used number r.uses stands,
                   both.0 ∙ (ap (λ n. Some (n, why_of found.1)) (sym found.3) ∙ ap (λ x. Some (number, x)) (sym found.5)),
                   both.1,
                 )

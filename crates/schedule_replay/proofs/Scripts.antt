@@ -48,10 +48,10 @@ module _ {S K I O M : Type 0} (net : Net) (m : Meaning S I O M) (r : Recovery S 
       ∙ ap (λ n. later n (first_refused_from net m r (run_from m r w (map (λ p. p.1) done)) (steps_of rest))) (length-map done (λ (p : ℕ × Step I). p.1)))
 
   -- a step after them that is refused is where it stops
-  pub refused-behind : (number : ℕ) (s : Step I) (rest sc : Script I) (p : StepRefusal) → sc ≡ prefixed done (with_step number s rest)
+  pub refused-after : (number : ℕ) (s : Step I) (rest sc : Script I) (p : StepRefusal) → sc ≡ prefixed done (with_step number s rest)
       → refusal_of net m (run_from m r w (map (λ p. p.1) done)) s ≡ Some p
       → (stop_from net m r w sc ≡ Some (number, why_of p)) × (taken_from net m r w sc ≡ map (λ p. p.1) done)
-  refused-behind number s rest sc p is refused =
+  refused-after number s rest sc p is refused =
       let sc' = prefixed done (with_step number s rest) in
       let w' = run_from m r w (map (λ p. p.1) done) in
       let here = place_and_why-first (refusal_of net m w' s) (first_refused_from net m r (next m r w' s) (steps_of rest)) p refused in

@@ -92,11 +92,11 @@ pub fn worked()
     // A text that broke off: its whole lines alone.
     ensures broken_off { (replayed_so_far (codes "schedule 1 bag lock 2\nin 1 lock\nin 1 lo")).out ≡ codes "in 1 lock\n" }
     ensures broken_off_in_order { (replayed_so_far (codes "schedule 1 bag lock 2\nin 1 lock\nin 1 lo")).refused ≡ None }
-    ensures broken_off_behind_a_refused_line { (replayed_so_far (codes "schedule 1 bag lock 2\nin 1 lock\ndeliver 7\nin 1 lo")).refused ≡ Some (3, NoCopy) }
+    ensures broken_off_after_a_refused_line { (replayed_so_far (codes "schedule 1 bag lock 2\nin 1 lock\ndeliver 7\nin 1 lo")).refused ≡ Some (3, NoCopy) }
     ensures the_trace_before_that_line { (replayed_so_far (codes "schedule 1 bag lock 2\nin 1 lock\ndeliver 7\nin 1 lo")).out ≡ codes "in 1 lock\n" }
     ensures broken_off_in_a_refused_line { (replayed_so_far (codes "schedule 1 bag lock 2\ndeliver 7")).refused ≡ None }
     ensures broken_off_before_the_header { (replayed_so_far (codes "# nothing\nsched")).refused ≡ None }
-    ensures broken_off_behind_no_header { (replayed_so_far (codes "schedule 1\nin 1 lo")).refused ≡ Some (1, Header) }
+    ensures broken_off_after_no_header { (replayed_so_far (codes "schedule 1\nin 1 lo")).refused ≡ Some (1, Header) }
 {}
 
 /// What a replay is: the text of a trace and an image that explains it, and no other text; none of a text that is refused.

@@ -7,7 +7,7 @@ use Rattle.std.proofs.lemmas.Bool.{and_parts, leb-true, le-leb, eq-eqb, eqb-true
 use Rattle.schedule_text.specs.declared.header.Header.{Header}
 use Rattle.vst_base.specs.declared.stack.StackRow.{StackRow}
 use Rattle.vst_base.specs.Stacks.{rows}
-use Rattle.schedule_text.specs.Headers.{header_front, header_text, behind, nodes_within, header_by, or_else, header_among, header_of, IsBy, IsAmong, IsHeader}
+use Rattle.schedule_text.specs.Headers.{header_front, header_text, strip_prefix, nodes_within, header_by, or_else, header_among, header_of, IsBy, IsAmong, IsHeader}
 use Rattle.schedule_text.specs.HeaderLaws.{with_nodes, header_by-parts, either-header}
 use Rattle.schedule_text.specs.Words.{number_up_to}
 use Rattle.schedule_text.proofs.NumeralLaws.{number_of-decimal, decimal_of_number}
@@ -20,12 +20,12 @@ nodes_within-reads : (least most m : ℕ) → least ≤ m → m ≤ most → nod
 nodes_within-reads least most m low high = within-by (nat_le least m) (nat_le m most) m (le-leb least m low) (le-leb m most high)
 
 -- after a front stands the rest
-behind-found : (t : Bool) (o : Option (List ℕ)) (rest : List ℕ) → t ≡ true → o ≡ Some rest → cond t o None ≡ Some rest
-behind-found t o rest same e = rw (same, e) refl
+strip_prefix-found : (t : Bool) (o : Option (List ℕ)) (rest : List ℕ) → t ≡ true → o ≡ Some rest → cond t o None ≡ Some rest
+strip_prefix-found t o rest same e = rw (same, e) refl
 
-behind-front : (front rest : List ℕ) → behind front (front ++ rest) ≡ Some rest
-behind-front [] rest = refl
-behind-front (f ∷ fs) rest = behind-found (f == f) (behind fs (fs ++ rest)) rest (eq-eqb f f refl) (behind-front fs rest)
+strip_prefix-front : (front rest : List ℕ) → strip_prefix front (front ++ rest) ≡ Some rest
+strip_prefix-front [] rest = refl
+strip_prefix-front (f ∷ fs) rest = strip_prefix-found (f == f) (strip_prefix fs (fs ++ rest)) rest (eq-eqb f f refl) (strip_prefix-front fs rest)
 
 -- the text of a header is a header by its pairing
 by-parts : (r : StackRow) (h : Header) (o : Option (List ℕ)) (digits : List ℕ) → h.net ≡ r.net → h.stack ≡ r.stack → o ≡ Some digits → number_up_to 4294967295 digits ≡ Some h.nodes
@@ -35,8 +35,8 @@ by-parts r h o digits net stack front number nodes = rw (← net, ← stack, fro
 
 header_by-text : (r : StackRow) (h : Header) → nat_le r.most 4294967295 ≡ true → IsBy r h → header_by r (header_text h) ≡ Some h
 header_by-text r h fits by =
-    let front : behind (header_front r.net r.stack) (header_text h) ≡ Some (decimal h.nodes) = rw (← by.net, ← by.stack) (behind-front (header_front h.net h.stack) (decimal h.nodes)) in
-    by-parts r h (behind (header_front r.net r.stack) (header_text h)) (decimal h.nodes) by.net by.stack front
+    let front : strip_prefix (header_front r.net r.stack) (header_text h) ≡ Some (decimal h.nodes) = rw (← by.net, ← by.stack) (strip_prefix-front (header_front h.net h.stack) (decimal h.nodes)) in
+    by-parts r h (strip_prefix (header_front r.net r.stack) (header_text h)) (decimal h.nodes) by.net by.stack front
     (number_of-decimal h.nodes (omega (arith, leb-true r.most 4294967295 fits, by.most))) (nodes_within-reads r.least r.most h.nodes by.least by.most)
 
 -- fronts that differ at a place that both have, so that neither begins a text of the other
@@ -45,14 +45,14 @@ differ [] ys = false
 differ (x ∷ xs) [] = false
 differ (x ∷ xs) (y ∷ ys) = cond (y == x) (differ xs ys) true
 
-behind-other : (t d : Bool) (o : Option (List ℕ)) → cond t d true ≡ true → (d ≡ true → o ≡ None) → cond t o None ≡ None
-behind-other true d o e none = none e
-behind-other false d o e none = refl
+strip_prefix-other : (t d : Bool) (o : Option (List ℕ)) → cond t d true ≡ true → (d ≡ true → o ≡ None) → cond t o None ≡ None
+strip_prefix-other true d o e none = none e
+strip_prefix-other false d o e none = refl
 
-behind-differ : (xs ys rest : List ℕ) → differ xs ys ≡ true → behind xs (ys ++ rest) ≡ None
-behind-differ [] ys rest e = cc
-behind-differ (x ∷ xs) [] rest e = cc
-behind-differ (x ∷ xs) (y ∷ ys) rest e = behind-other (y == x) (differ xs ys) (behind xs (ys ++ rest)) e (behind-differ xs ys rest)
+strip_prefix-differ : (xs ys rest : List ℕ) → differ xs ys ≡ true → strip_prefix xs (ys ++ rest) ≡ None
+strip_prefix-differ [] ys rest e = cc
+strip_prefix-differ (x ∷ xs) [] rest e = cc
+strip_prefix-differ (x ∷ xs) (y ∷ ys) rest e = strip_prefix-other (y == x) (differ xs ys) (strip_prefix xs (ys ++ rest)) e (strip_prefix-differ xs ys rest)
 
 -- pairings whose fronts differ, each with a greatest number of nodes that can be read
 abbrev differs : StackRow → StackRow → Bool
@@ -67,8 +67,8 @@ header_by-other : (r : StackRow) (rs : List StackRow) (h : Header) → list_all 
 header_by-other r [] h apart among = absurd among
 header_by-other r (q ∷ qs) h apart (inl by) =
     let first : (differs r q ≡ true) × (list_all (differs r) qs ≡ true) = and_parts (differs r q) (list_all (differs r) qs) apart in
-    let front : behind (header_front r.net r.stack) (header_text h) ≡ None = rw (by.net, by.stack) (behind-differ (header_front r.net r.stack) (header_front q.net q.stack) (decimal h.nodes) first.0) in
-    none-by (behind (header_front r.net r.stack) (header_text h)) front where
+    let front : strip_prefix (header_front r.net r.stack) (header_text h) ≡ None = rw (by.net, by.stack) (strip_prefix-differ (header_front r.net r.stack) (header_front q.net q.stack) (decimal h.nodes) first.0) in
+    none-by (strip_prefix (header_front r.net r.stack) (header_text h)) front where
       none-by : (o : Option (List ℕ)) → o ≡ None
           → option_and_then (λ digits. option_and_then (λ n. option_and_then (with_nodes r) (nodes_within r.least r.most n)) (number_up_to 4294967295 digits)) o ≡ None
       none-by o e = rw e refl
@@ -93,10 +93,10 @@ front-same : (t : Bool) (b f : ℕ) (o : Option (List ℕ)) (bs fs rest : List �
 front-same true b f o bs fs rest same more e = ap (λ c. c ∷ bs) (same refl) ∙ ap (λ cs. f ∷ cs) (more e)
 front-same false b f o bs fs rest same more e = cc
 
-front-append : (front line rest : List ℕ) → behind front line ≡ Some rest → line ≡ front ++ rest
+front-append : (front line rest : List ℕ) → strip_prefix front line ≡ Some rest → line ≡ front ++ rest
 front-append [] line rest e = cc
 front-append (f ∷ fs) [] rest e = cc
-front-append (f ∷ fs) (b ∷ bs) rest e = front-same (b == f) b f (behind fs bs) bs fs rest (eqb-true b f) (front-append fs bs rest) e
+front-append (f ∷ fs) (b ∷ bs) rest e = front-same (b == f) b f (strip_prefix fs bs) bs fs rest (eqb-true b f) (front-append fs bs rest) e
 
 text-header_by : (r : StackRow) (line : List ℕ) (h : Header) → header_by r line ≡ Some h → line ≡ header_text h
 text-header_by r line h e =

@@ -89,12 +89,12 @@ module _ {I : Type 0} where
   behind-by (Refused w) most f n e ls ms later none = cc
 
   -- after lines that say no fault a script goes on
-  pub script-behind : (most : ℕ) (f : List ℕ → Option I) (n e : ℕ) (ls ms : List (List ℕ)) → (script most f n e ls).fault ≡ None
+  pub script-after : (most : ℕ) (f : List ℕ → Option I) (n e : ℕ) (ls ms : List (List ℕ)) → (script most f n e ls).fault ≡ None
       → script most f n e (ls ++ ms) ≡ prefixed (script most f n e ls).steps (script most f (n + length ls) (e + length (script most f n e ls).steps) ms)
-  script-behind most f n e [] ms none = rw (add-zero, add-zero) refl
-  script-behind most f n e (l ∷ ls) ms none =
+  script-after most f n e [] ms none = rw (add-zero, add-zero) refl
+  script-after most f n e (l ∷ ls) ms none =
       let line = read_line most f n e l in
       let count : (n + 1) + length ls ≡ n + length (l ∷ ls) = omega arith in
       let k = e + length (script_line line n e (λ k. script most f (n + 1) k ls)).steps in
-      behind-by line most f n e ls ms (λ k none. script-behind most f (n + 1) k ls ms none) none
+      behind-by line most f n e ls ms (λ k none. script-after most f (n + 1) k ls ms none) none
       ∙ ap (λ m. prefixed (script most f n e (l ∷ ls)).steps (script most f m k ms)) count

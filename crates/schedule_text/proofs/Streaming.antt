@@ -13,7 +13,7 @@ use Rattle.line_reader.specs.Lines.{lines_of}
 use Rattle.line_reader.specs.Limits.{line_refusals}
 use Rattle.line_reader.specs.Readers.{ReaderView, HasRest}
 use Rattle.line_reader.specs.Outcomes.{Uses, StandsAt, ReadsLine, HasReadCause}
-use Rattle.line_reader.proofs.Using.{uses-more, stands-behind, stands-at-end, breaks-behind}
+use Rattle.line_reader.proofs.Using.{uses-more, stands-after, stands-at-end, breaks-after}
 use Rattle.schedule_text.specs.declared.header.Header.{Header}
 use Rattle.schedule_text.specs.declared.line.Line.{Line}
 use Rattle.schedule_text.specs.declared.line.Line.TheVariants as line
@@ -76,12 +76,12 @@ module _ (old mid new : ReaderView) (left left' : Option (List ℕ)) (rest : Lis
     header-failed A fault.Memory f f' still cause reads = tt
     header-failed A fault.Read f f' still cause (part, breaks, none) = (
       s.used ++ part,
-      breaks-behind old mid left left' rest s.used part s.uses (s.uses.closed cause.1) breaks,
+      breaks-after old mid left left' rest s.used part s.uses (s.uses.closed cause.1) breaks,
       mid.number + 1,
       of-part (opening old.most) old mid left rest s part cause.1 none,
     )
     header-failed A (fault.Refused n w) f f' still cause (stands, there, l, ls, first, refused) = (
-      stands-behind old mid new left left' rest s.used n s.uses stands,
+      stands-after old mid new left left' rest s.used n s.uses stands,
       ap opening_refusal (of-rest (opening old.most) old mid left rest s ∙ (ap (opening old.most (mid.number + 1)) first
           ∙ opening-refuses old.most (mid.number + 1) l ls w (ap (λ k. first_of (line_refusals old.most k l)) (sym there) ∙ (ap (λ m. first_of (line_refusals m n l)) (sym most) ∙ refused))))
           ∙ ap (λ k. Some (k, w)) (sym there),
@@ -99,7 +99,7 @@ module _ (old mid new : ReaderView) (left left' : Option (List ℕ)) (rest : Lis
       first = u.lines ∙ ap (λ ls. ls ++ lines_of u.rest') one
 
       pub header-stands : StandsAt old new left' rest new.number
-      header-stands = stands-behind old mid new left left' rest s.used new.number s.uses stands
+      header-stands = stands-after old mid new left left' rest s.used new.number s.uses stands
 
       pub header-read : (h : Header) → is_skipped new.line ≡ false → Some h ≡ header_of new.line → ReadsHeader old new left' rest (Ok h)
       header-read h read is = (
@@ -170,11 +170,11 @@ module _ {I : Type 0} (f : List ℕ → Option I) (old mid new : ReaderView) (le
     step-failed A fault.Memory f0 f' cause reads = tt
     step-failed A fault.Read f0 f' cause (part, breaks, none) = (
       s.used ++ part,
-      breaks-behind old mid left left' rest s.used part s.uses (s.uses.closed cause.1) breaks,
+      breaks-after old mid left left' rest s.used part s.uses (s.uses.closed cause.1) breaks,
       of-part (λ n ls. script old.most f n old.events ls) old mid left rest s part cause.1 none,
     )
     step-failed A (fault.Refused n w) f0 f' cause (stands, there, l, ls, first, refused) = (
-      stands-behind old mid new left left' rest s.used n s.uses stands,
+      stands-after old mid new left left' rest s.used n s.uses stands,
       of-rest (λ n ls. script old.most f n old.events ls) old mid left rest s
           ∙ (ap (script old.most f (mid.number + 1) old.events) first
           ∙ (script-by old.most f (mid.number + 1) old.events l ls (line.Refused w)
@@ -195,7 +195,7 @@ module _ {I : Type 0} (f : List ℕ → Option I) (old mid new : ReaderView) (le
           (ap (λ k. first_of (line_refusals old.most k new.line)) (sym there') ∙ (ap (λ m. first_of (line_refusals m new.number new.line)) (sym same) ∙ allowed)) is)
 
       stands-there : StandsAt old new left' rest new.number
-      stands-there = stands-behind old mid new left left' rest s.used new.number s.uses stands
+      stands-there = stands-after old mid new left left' rest s.used new.number s.uses stands
 
       pub step-skips : line.Skipped ≡ line_says f old.events new.line → Skipped (λ n ls. script old.most f n old.events ls) old new left' rest
       step-skips is = skipped-more (λ n ls. script old.most f n old.events ls) old mid new left left' rest s used new.line u one there' (λ ls. says line.Skipped is ls)

@@ -5,7 +5,7 @@ use Rattle.std.proofs.lemmas.Bool.{and_parts, leb-true}
 use Rattle.schedule_text.specs.declared.header.Header.{Header}
 use Rattle.vst_base.specs.declared.stack.StackRow.{StackRow}
 use Rattle.vst_base.specs.Stacks.{rows}
-use Rattle.schedule_text.specs.Headers.{header_front, behind, nodes_within, header_by, or_else, header_among, header_of, IsBy, IsAmong, IsHeader}
+use Rattle.schedule_text.specs.Headers.{header_front, strip_prefix, nodes_within, header_by, or_else, header_among, header_of, IsBy, IsAmong, IsHeader}
 use Rattle.schedule_text.specs.Words.{number_up_to}
 
 -- the header of a pairing with this number of nodes
@@ -36,8 +36,8 @@ by-digits r (Some digits) h e =
     (number.0, (digits, refl, number.1))
 
 pub header_by-parts : (r : StackRow) (line : List ℕ) (h : Header) → header_by r line ≡ Some h
-    → IsBy r h × ((digits : List ℕ) × (behind (header_front r.net r.stack) line ≡ Some digits) × (number_up_to 4294967295 digits ≡ Some h.nodes))
-header_by-parts r line h e = by-digits r (behind (header_front r.net r.stack) line) h e
+    → IsBy r h × ((digits : List ℕ) × (strip_prefix (header_front r.net r.stack) line ≡ Some digits) × (number_up_to 4294967295 digits ≡ Some h.nodes))
+header_by-parts r line h e = by-digits r (strip_prefix (header_front r.net r.stack) line) h e
 
 -- the first, if it is a header, and else the second
 pub either-header : {P Q : Type 0} (o p : Option Header) (h : Header) → (o ≡ Some h → P) → (p ≡ Some h → Q) → or_else o p ≡ Some h → P ⊎ Q

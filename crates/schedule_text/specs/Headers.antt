@@ -43,10 +43,10 @@ abbrev pub IsHeader : Header → Type 0
 IsHeader h = IsAmong rows h
 
 -- what stands after a front
-abbrev pub behind : List ℕ → List ℕ → Option (List ℕ)
-behind [] line = Some line
-behind (f ∷ fs) [] = None
-behind (f ∷ fs) (b ∷ bs) = if b == f then behind fs bs else None
+abbrev pub strip_prefix : List ℕ → List ℕ → Option (List ℕ)
+strip_prefix [] line = Some line
+strip_prefix (f ∷ fs) [] = None
+strip_prefix (f ∷ fs) (b ∷ bs) = if b == f then strip_prefix fs bs else None
 
 abbrev pub nodes_within : ℕ → ℕ → ℕ → Option ℕ
 nodes_within least most n = if nat_le least n && nat_le n most then Some n else None
@@ -54,7 +54,7 @@ nodes_within least most n = if nat_le least n && nat_le n most then Some n else 
 abbrev pub header_by : StackRow → List ℕ → Option Header
 header_by r line =
     option_and_then (λ digits. option_and_then (λ n. option_and_then (λ m. Some (record { net = r.net; stack = r.stack; nodes = m })) (nodes_within r.least r.most n))
-    (number_up_to 4294967295 digits)) (behind (header_front r.net r.stack) line)
+    (number_up_to 4294967295 digits)) (strip_prefix (header_front r.net r.stack) line)
 
 abbrev pub or_else : Option Header → Option Header → Option Header
 or_else None h = h

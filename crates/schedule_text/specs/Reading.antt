@@ -25,17 +25,17 @@ abbrev pub input_parts : Option (List ℕ × List ℕ) → Option Parts
 input_parts None = None
 input_parts (Some p) = Some (record { kind = kind.In; number = p.0; text = p.1 })
 
-abbrev pub parts_behind : List ℕ → StepKind → Option Parts
-parts_behind rest kind.In = input_parts (cut rest)
-parts_behind rest kind.Deliver = Some (record { kind = kind.Deliver; number = rest; text = [] })
-parts_behind rest kind.Tick = Some (record { kind = kind.Tick; number = rest; text = [] })
-parts_behind rest kind.Dup = Some (record { kind = kind.Dup; number = rest; text = [] })
-parts_behind rest kind.Lose = Some (record { kind = kind.Lose; number = rest; text = [] })
-parts_behind rest kind.Crash = Some (record { kind = kind.Crash; number = rest; text = [] })
-parts_behind rest kind.Reboot = Some (record { kind = kind.Reboot; number = rest; text = [] })
+abbrev pub parts_after : List ℕ → StepKind → Option Parts
+parts_after rest kind.In = input_parts (cut rest)
+parts_after rest kind.Deliver = Some (record { kind = kind.Deliver; number = rest; text = [] })
+parts_after rest kind.Tick = Some (record { kind = kind.Tick; number = rest; text = [] })
+parts_after rest kind.Dup = Some (record { kind = kind.Dup; number = rest; text = [] })
+parts_after rest kind.Lose = Some (record { kind = kind.Lose; number = rest; text = [] })
+parts_after rest kind.Crash = Some (record { kind = kind.Crash; number = rest; text = [] })
+parts_after rest kind.Reboot = Some (record { kind = kind.Reboot; number = rest; text = [] })
 
 abbrev pub parts_of : List ℕ → Option Parts
-parts_of line = option_and_then (λ p. option_and_then (parts_behind p.1) (kind_named p.0)) (cut line)
+parts_of line = option_and_then (λ p. option_and_then (parts_after p.1) (kind_named p.0)) (cut line)
 
 -- the numbers of nodes and packets
 abbrev pub number_of : List ℕ → Option ℕ

@@ -38,7 +38,7 @@ pub fn worked_headers()
     ensures one_node { header_of (codes "schedule 1 bag lock 1") ≡ None }
     ensures ten_nodes { header_of (codes "schedule 1 bag lock 10") ≡ None }
     ensures leading_zero { header_of (codes "schedule 1 bag lock 02") ≡ None }
-    ensures space_behind { header_of (codes "schedule 1 bag lock 2 ") ≡ None }
+    ensures space_after { header_of (codes "schedule 1 bag lock 2 ") ≡ None }
     ensures no_nodes { (header_of (codes "schedule 1 bag lock ") ≡ None) × (header_of (codes "schedule 1 bag lock") ≡ None) }
     ensures other_version { header_of (codes "schedule 2 bag lock 2") ≡ None }
     ensures least_numbered { header_of (codes "schedule 1 dup lock/seq 2") ≡ Some (record { net = Net.Dup; stack = StackId.LockSeq; nodes = 2 }) }
@@ -67,7 +67,7 @@ pub fn worked_headers()
     ensures cluster_text { header_text (record { net = Net.Fail; stack = StackId.KvRaft; nodes = 9 }) ≡ codes "schedule 1 fail kv/raft 9" }
     ensures opens_empty { opening 2000000 1 [] ≡ EndedAt 1 }
     ensures opens_without_header { opening 2000000 1 (codes "# none" ∷ []) ≡ EndedAt 2 }
-    ensures opens_behind_comment { opening 2000000 1 (codes "# a lock" ∷ codes "schedule 1 bag lock 2" ∷ codes "tick 0" ∷ []) ≡ Opened (record { net = Net.Bag; stack = StackId.Lock; nodes = 2 }) 3 (codes "tick 0" ∷ []) }
+    ensures opens_after_comment { opening 2000000 1 (codes "# a lock" ∷ codes "schedule 1 bag lock 2" ∷ codes "tick 0" ∷ []) ≡ Opened (record { net = Net.Bag; stack = StackId.Lock; nodes = 2 }) 3 (codes "tick 0" ∷ []) }
     ensures opens_with_step { opening 2000000 1 ([] ∷ codes "tick 0" ∷ []) ≡ RefusedAt 2 Why.Header }
 {}
 
@@ -86,7 +86,7 @@ pub fn worked_steps()
     ensures unknown_words { (read_line 2000000 input_of 2 0 (codes "foo 1") ≡ Line.Refused Why.UnknownWord) × (read_line 2000000 input_of 2 0 (codes "i 1 lock") ≡ Line.Refused Why.UnknownWord) × (read_line 2000000 input_of 2 0 (codes "ticks 0") ≡ Line.Refused Why.UnknownWord) }
     ensures leading_zero { (read_line 2000000 input_of 2 0 (codes "deliver 01") ≡ Line.Refused Why.Number) × (step_of input_of (codes "deliver 01") ≡ None) }
     ensures two_spaces { read_line 2000000 input_of 2 0 (codes "in  1 lock") ≡ Line.Refused Why.Number }
-    ensures space_behind { read_line 2000000 input_of 2 0 (codes "tick 5 ") ≡ Line.Refused Why.Number }
+    ensures space_after { read_line 2000000 input_of 2 0 (codes "tick 5 ") ≡ Line.Refused Why.Number }
     ensures no_input { (read_line 2000000 input_of 2 0 (codes "in 1 grab") ≡ Line.Refused Why.Text) × (step_of input_of (codes "in 1 grab") ≡ None) }
     ensures several { script 2000000 input_of 2 0 (codes "in 1 lock" ∷ codes "# then" ∷ codes "deliver 0" ∷ []) ≡ record { steps = (2, Step.In 1 LockInput.Lock) ∷ (4, Step.Deliver 0) ∷ []; fault = None } }
     ensures up_to_a_fault { script 2000000 input_of 2 0 (codes "tick 0" ∷ codes "" ∷ codes "tick" ∷ codes "tick 0" ∷ []) ≡ record { steps = (2, Step.Tick 0) ∷ []; fault = Some (4, Why.UnknownWord) } }
@@ -101,7 +101,7 @@ pub fn worked_limits()
     ensures events_before_text { read_line 2000000 input_of 2 1000000 (codes "in 1 grab") ≡ Line.Refused Why.TooManyEvents }
     ensures event_too_many { read_line 2000000 input_of 2 1000000 (codes "tick 0") ≡ Line.Refused Why.TooManyEvents }
     ensures last_event { read_line 2000000 input_of 2 999999 (codes "tick 0") ≡ Line.IsStep (Step.Tick 0) }
-    ensures skipped_behind_events { read_line 2000000 input_of 2 1000000 (codes "#") ≡ Line.Skipped }
+    ensures skipped_after_events { read_line 2000000 input_of 2 1000000 (codes "#") ≡ Line.Skipped }
     ensures last_line { read_line 2000000 input_of 2000000 0 (codes "tick 0") ≡ Line.IsStep (Step.Tick 0) }
     ensures line_too_many { (read_line 2000000 input_of 2000001 0 (codes "tick 0") ≡ Line.Refused Why.TooManyEvents) × (read_line 2000000 input_of 2000001 0 (codes "#") ≡ Line.Refused Why.TooManyEvents) }
     ensures line_before_word { read_line 2000000 input_of 2000001 0 (codes "foo 1") ≡ Line.Refused Why.TooManyEvents }

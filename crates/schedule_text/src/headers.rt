@@ -1,5 +1,5 @@
 ghost use Rattle.std.specs.Prelude.{◌≡◌, ◌≤◌, ◌<◌, ◌^◌, ◌++◌, OnOk, OnErr};
-ghost use Rattle.schedule_text.specs.Headers.{behind, header_among, header_by, header_front, header_of, header_text, net_word, nodes_within, spaced};
+ghost use Rattle.schedule_text.specs.Headers.{strip_prefix, header_among, header_by, header_front, header_of, header_text, net_word, nodes_within, spaced};
 ghost use Rattle.vst_base.specs.Stacks.{stack_word};
 ghost use Rattle.line_reader.specs.Slices.{one};
 
@@ -27,8 +27,8 @@ fn stack_word(stack: StackId) -> &'static [u8]
 }
 
 // What stands after a front.
-fn behind<'a>(front: &[u8], line: &'a [u8]) -> Option<&'a [u8]>
-    ensures { one result ≡ behind front.now line.now }
+fn strip_prefix<'a>(front: &[u8], line: &'a [u8]) -> Option<&'a [u8]>
+    ensures { one result ≡ strip_prefix front.now line.now }
 {
     if line.len() < front.len() {
         return None;
@@ -38,31 +38,31 @@ fn behind<'a>(front: &[u8], line: &'a [u8]) -> Option<&'a [u8]>
 }
 
 // What stands after a word and its space.
-fn behind_word<'a>(word: &[u8], line: &'a [u8]) -> Option<&'a [u8]>
-    ensures { one result ≡ behind (spaced word.now) line.now }
+fn after_word<'a>(word: &[u8], line: &'a [u8]) -> Option<&'a [u8]>
+    ensures { one result ≡ strip_prefix (spaced word.now) line.now }
 {
-    match behind(word, line) {
-        Some(rest) => behind(b" ", rest),
+    match strip_prefix(word, line) {
+        Some(rest) => strip_prefix(b" ", rest),
         None => None,
     }
 }
 
 // What stands after the words of a network and a stack.
-fn behind_names(net: Net, stack: StackId, line: &[u8]) -> Option<&[u8]>
-    ensures { one result ≡ behind (spaced (net_word net) ++ spaced (stack_word stack)) line.now }
+fn after_names(net: Net, stack: StackId, line: &[u8]) -> Option<&[u8]>
+    ensures { one result ≡ strip_prefix (spaced (net_word net) ++ spaced (stack_word stack)) line.now }
 {
-    match behind_word(net_word(net), line) {
-        Some(rest) => behind_word(stack_word(stack), rest),
+    match after_word(net_word(net), line) {
+        Some(rest) => after_word(stack_word(stack), rest),
         None => None,
     }
 }
 
 // What stands after a header up to its number of nodes.
-fn behind_front(net: Net, stack: StackId, line: &[u8]) -> Option<&[u8]>
-    ensures { one result ≡ behind (header_front net stack) line.now }
+fn after_front(net: Net, stack: StackId, line: &[u8]) -> Option<&[u8]>
+    ensures { one result ≡ strip_prefix (header_front net stack) line.now }
 {
-    match behind(b"schedule 1 ", line) {
-        Some(rest) => behind_names(net, stack, rest),
+    match strip_prefix(b"schedule 1 ", line) {
+        Some(rest) => after_names(net, stack, rest),
         None => None,
     }
 }
@@ -82,7 +82,7 @@ fn nodes_within(least: u8, most: u8, n: u32) -> Option<u8>
 fn header_by(row: &StackRow, line: &[u8]) -> Option<Header>
     ensures { result ≡ header_by row.now line.now }
 {
-    let digits = behind_front(row.net, row.stack, line)?;
+    let digits = after_front(row.net, row.stack, line)?;
     let n = number_of(digits)?;
     let nodes = nodes_within(row.least, row.most, n)?;
     Some(Header {

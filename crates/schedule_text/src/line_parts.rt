@@ -1,5 +1,5 @@
 ghost use Rattle.std.specs.Prelude.{◌≡◌};
-ghost use Rattle.schedule_text.specs.Reading.{parts_behind, parts_of};
+ghost use Rattle.schedule_text.specs.Reading.{parts_after, parts_of};
 ghost use Rattle.schedule_text.specs.PartViews.{parts_view};
 
 use crate::parts::{Parts, SPACE};
@@ -8,8 +8,8 @@ use line_reader::cut_at;
 use vst_base::StepKind;
 
 // The parts after the word of a kind of step.
-fn parts_behind(kind: StepKind, rest: &[u8]) -> Option<Parts<'_>>
-    ensures { parts_view result ≡ parts_behind rest.now kind }
+fn parts_after(kind: StepKind, rest: &[u8]) -> Option<Parts<'_>>
+    ensures { parts_view result ≡ parts_after rest.now kind }
 {
     match kind {
         StepKind::In => match cut_at(rest, SPACE) {
@@ -30,7 +30,7 @@ pub(crate) fn parts_of(line: &[u8]) -> Option<Parts<'_>>
 {
     match cut_at(line, SPACE) {
         Some((word, rest)) => match kind_named(word) {
-            Some(kind) => parts_behind(kind, rest),
+            Some(kind) => parts_after(kind, rest),
             None => None,
         },
         None => None,

@@ -566,7 +566,7 @@ fn a_read_that_fails_leaves_the_trace_of_the_whole_lines(rt: HostRuntime) -> Res
 }
 
 #[test]
-fn no_read_comes_behind_the_end(rt: HostRuntime) -> Result<(), Fail> {
+fn no_read_comes_after_the_end(rt: HostRuntime) -> Result<(), Fail> {
     let ran = replay_failing_read(rt.alloc(), 8)?;
     assert!(rt; (ran.status, ran.source.calls()) == (0, 7));
     Ok(())
@@ -639,7 +639,7 @@ fn each_write_that_fails_leaves_a_front_of_the_output(rt: HostRuntime) -> Result
 }
 
 #[test]
-fn no_write_comes_behind_the_output(rt: HostRuntime) -> Result<(), Fail> {
+fn no_write_comes_after_the_output(rt: HostRuntime) -> Result<(), Fail> {
     let behind = HANDED_OVER_ANSWER.len() as u64 + 1;
     let ran = replay_failing_write(rt.alloc(), behind)?;
     assert!(rt; ran.status == 0);

@@ -43,10 +43,10 @@ pub fn worked_refusals()
 /// line in which it broke off may still change.
 pub fn worked_breaks()
     ensures in_a_trace { refused_so_far StackId.Lock (whole_lines (codes "in 1 lock\nbel")) ≡ None }
-    ensures behind_a_refused_line { refused_so_far StackId.Lock (whole_lines (codes "in 1 lock\non 1 lock\nin 1")) ≡ Some (2, Why.UnknownWord) }
+    ensures after_a_refused_line { refused_so_far StackId.Lock (whole_lines (codes "in 1 lock\non 1 lock\nin 1")) ≡ Some (2, Why.UnknownWord) }
     ensures in_a_refused_line { refused_so_far StackId.Lock (whole_lines (codes "in 1 lock\non 1 lo")) ≡ None }
     ensures before_the_header { refused_so_far StackId.Lock (whole_lines (codes "below\n")) ≡ None }
-    ensures behind_another_header { refused_so_far StackId.KvPb (whole_lines (codes "below\nschedule 1 bag lock 2\nin")) ≡ Some (2, Why.Header) }
+    ensures after_another_header { refused_so_far StackId.KvPb (whole_lines (codes "below\nschedule 1 bag lock 2\nin")) ≡ Some (2, Why.Header) }
     ensures in_an_image { refused_so_far StackId.Kv (whole_lines (codes "below\nschedule 1 one kv 1\nin 0 get")) ≡ None }
     ensures in_an_order { refused_so_far StackId.KvRaft (whole_lines (codes "below\norder 7 01 get a\norder")) ≡ Some (2, Why.Text) }
 {}

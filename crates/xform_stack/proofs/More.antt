@@ -59,11 +59,11 @@ has_followed-more {S} m follows ss s v shows mapped = record {
 }
 
 -- a map that follows what clients saw of a step after the trace before it
-pub followed-behind : {H S I O M T : Type 0} (meaning : H → Meaning S I O M) (follows : T → Meaning S I O M → List (Step I) → Type 0) (h h' : H) (map map' : T) (s : Step I) (items before after : List (Item I O)) (n : ℕ)
+pub followed-after : {H S I O M T : Type 0} (meaning : H → Meaning S I O M) (follows : T → Meaning S I O M → List (Step I) → Type 0) (h h' : H) (map map' : T) (s : Step I) (items before after : List (Item I O)) (n : ℕ)
     → ((xs : List (Step I)) → follows map (meaning h) xs → drop n items ≡ items_of (meaning h) (run (meaning h) (no_recovery {S = S}) xs) s → follows map' (meaning h) (xs ++ s ∷ []))
     → h ≡ h' → items ≡ after → n ≡ length before
     → (ss : List (Step I)) → after ≡ before ++ items_of (meaning h') (run (meaning h') (no_recovery {S = S}) ss) s → follows map (meaning h') ss → follows map' (meaning h') (ss ++ s ∷ [])
-followed-behind {H} {S} {I} {O} {M} {T} meaning follows h h' map map' s items before after n follow same is count ss grew had =
+followed-after {H} {S} {I} {O} {M} {T} meaning follows h h' map map' s items before after n follow same is count ss grew had =
     let seen = items_of (meaning h') (run (meaning h') (no_recovery {S = S}) ss) s in
     let on = subst (λ (x : H). (xs : List (Step I)) → follows map (meaning x) xs → drop n items ≡ items_of (meaning x) (run (meaning x) (no_recovery {S = S}) xs) s → follows map' (meaning x) (xs ++ s ∷ [])) same follow in
     on ss had (ap (λ xs. drop n xs) (is ∙ grew) ∙ (ap (λ k. drop k (before ++ seen)) count ∙ drop-append_seam before seen))

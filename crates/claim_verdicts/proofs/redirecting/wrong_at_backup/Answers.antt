@@ -15,5 +15,5 @@ loop-place-preserved g c =
       first = inv.first ∙ wrong-more is_wrong_at_backup xs i x c.loop-place-test.true c.index-trace-place.is
           (ap (is_wrong_between (passes is_at_backup (last_of (take i xs))) x) (next-is xs (i + 1) ∙ copied-is _ xs (i + 1) c.get.result c.get.ensures.lookup.1 c.get.ensures.lookup.3)
           ∙ (ap (λ b. is_wrong_between b x (option_copied c.get.result)) (sym inv.behind) ∙ (sym c.is_wrong_between.ensures ∙ c.if-is_wrong_between.false)));
-      behind = c.is_at_backup-behind_input.ensures ∙ ap (passes is_at_backup) (sym (last-more xs i x c.loop-place-test.true c.index-trace-place.is));
+      behind = c.is_at_backup-after_input.ensures ∙ ap (passes is_at_backup) (sym (last-more xs i x c.loop-place-test.true c.index-trace-place.is));
     }

@@ -8,5 +8,5 @@ abbrev pub invariant-loop-place : goal.invariant-loop-place
 invariant-loop-place g l =
     record {
       first : first_wrong is_wrong_at_backup [] l.trace ≡ first_wrong is_wrong_at_backup (take l.place l.trace) (drop l.place l.trace);
-      behind : l.behind_input ≡ passes is_at_backup (last_of (take l.place l.trace));
+      behind : l.after_input ≡ passes is_at_backup (last_of (take l.place l.trace));
     }

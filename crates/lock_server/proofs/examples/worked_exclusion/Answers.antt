@@ -20,8 +20,8 @@ returns-clause-unlocked_by_another c h = let e = contains_one _ _ (h 1 2 [] (ite
 pub returns-clause-unlocked_before : goal.returns-clause-unlocked_before
 returns-clause-unlocked_before c h = nothing_contains _ (h 1 2 (item.Input 1 ask.Unlock ∷ []) [] [] (omega arith) refl)
 
-pub returns-clause-unlocked_behind : goal.returns-clause-unlocked_behind
-returns-clause-unlocked_behind c h = nothing_contains _ (h 1 2 [] [] (item.Input 1 ask.Unlock ∷ []) (omega arith) refl)
+pub returns-clause-unlocked_after : goal.returns-clause-unlocked_after
+returns-clause-unlocked_after c h = nothing_contains _ (h 1 2 [] [] (item.Input 1 ask.Unlock ∷ []) (omega arith) refl)
 
 pub returns-clause-asked_between : goal.returns-clause-asked_between
 returns-clause-asked_between c h = let e = contains_one _ _ (h 1 2 [] (item.Input 1 ask.Lock ∷ []) [] (omega arith) refl) in cc

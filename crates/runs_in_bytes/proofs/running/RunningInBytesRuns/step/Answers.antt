@@ -6,7 +6,7 @@ use Rattle.vst_base.specs.declared.step.TheConstants.{MAX_STEPS}
 use Rattle.wired.specs.WiredRuns.{world_in_bytes}
 use Rattle.wired.specs.Wiring.{Named, wired}
 use Rattle.xform_stack.specs.Running.{system_of}
-use Rattle.xform_stack.proofs.More.{allowed-more, followed-behind, has_run-more}
+use Rattle.xform_stack.proofs.More.{allowed-more, followed-after, has_run-more}
 use Rattle.runs_in_bytes.proofs.InBytes.{alike_in_bytes, followed_same}
 use Rattle.runs_in_bytes.proofs.Moving.{items_alike, next_alike, ran_more, refused_alike}
 use Rattle.runs_in_bytes.proofs.running.RunningInBytesRuns.step.Goals as goal
@@ -37,7 +37,7 @@ returns-clause-next g c = λ ss gone had.
     let few : length ss < MAX_STEPS = omega (arith, steps, before.counted) in
     let ran = ran_more IsInput world.net m2 r m r bytes ss s alike has.ran c.has_bytes.ensures few allowed in
     let trace = c.in-Ok.ensures.trace w has.shows ∙ ap (λ xs. world.trace ++ xs) (items_alike IsInput world.net m2 r m r bytes ss s has.ran ran) in
-    let mapped = followed-behind meaning t.has_followed c.inner.result.now h.inner c.self.inside.map c.follow_map-followed.new.map s c.items-items.result.now world.trace c.step.new.self.trace (length c.items-before.result.now)
+    let mapped = followed-after meaning t.has_followed c.inner.result.now h.inner c.self.inside.map c.follow_map-followed.new.map s c.items-items.result.now world.trace c.step.new.self.trace (length c.items-before.result.now)
     c.in-Ok-followed.ensures (c.inner.ensures ∙ ap (λ x. x.inner) (c.handlers.ensures ∙ c.step.ensures.handlers)) (c.items-items.ensures ∙ c.trace-2.ensures)
     (ap length (c.items-before.ensures ∙ c.trace.ensures)) ss trace has.mapped in
     let shows = subst (λ (x : Named g.row.H.Denot). Shows (meaning x.inner).nodes c.step.new.self (next m2 r w s)) c.step.ensures.handlers (c.in-Ok.ensures.next w has.shows) in

@@ -3,7 +3,7 @@ use Rattle.net_semantics.specs.Runs.{run, no_recovery}
 use Rattle.net_semantics.specs.Shown.{Shows}
 use Rattle.net_semantics.specs.Steps.{next}
 use Rattle.xform_stack.specs.Running.{HasFollowed, system_of}
-use Rattle.xform_stack.proofs.More.{followed-behind, has_followed-more, has_run-more}
+use Rattle.xform_stack.proofs.More.{followed-after, has_followed-more, has_run-more}
 use Rattle.xform_stack.proofs.running.RunningRuns.step.Goals as goal
 
 pub returns-clause-next : goal.returns-clause-next
@@ -16,7 +16,7 @@ returns-clause-next g c = λ ss gone had.
     let w = run m (no_recovery {S = g.row.H-State.Denot}) ss in
     let s = c.args.step.now in
     let trace = c.in-Ok.ensures.trace w before.followed.shows in
-    let mapped = followed-behind h.meaning t.has_followed c.handlers.result.now world.handlers c.self.inside.map c.follow_map-followed.new.map s c.items-items.result.now world.trace c.step.new.self.trace (length c.items-before.result.now)
+    let mapped = followed-after h.meaning t.has_followed c.handlers.result.now world.handlers c.self.inside.map c.follow_map-followed.new.map s c.items-items.result.now world.trace c.step.new.self.trace (length c.items-before.result.now)
     c.in-Ok-followed.ensures (c.handlers.ensures ∙ c.step.ensures.handlers) (c.items-items.ensures ∙ c.trace-2.ensures) (ap length (c.items-before.ensures ∙ c.trace.ensures)) ss trace before.followed.mapped in
     let shows = subst (λ (x : g.row.H.Denot). Shows (h.meaning x).nodes c.step.new.self (next m no_recovery w s)) c.step.ensures.handlers (c.in-Ok.ensures.next w before.followed.shows) in
     let followed = has_followed-more m t.has_followed ss s (record { world = c.step.new.self; map = c.follow_map-followed.new.map }) shows mapped in

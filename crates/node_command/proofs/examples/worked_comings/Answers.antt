@@ -1,0 +1,71 @@
+use Rattle.std.proofs.Common.{◌≡◌, ℕ, refl, arith}
+use Rattle.node_config.specs.Outcomes.{Fits}
+use Rattle.node_datagrams.specs.Saying.{SendsOnly}
+use Rattle.node_device.specs.Faults.{Faults}
+use Rattle.node_device.specs.Examples.{node_at, untold}
+use Rattle.node_command.specs.Coming.{IsConfigured, IsServed}
+use Rattle.node_command.specs.Examples.{alone, device, source, words}
+use Rattle.node_command.proofs.examples.worked_comings.Goals as goal
+
+fits : Fits 0 alone
+fits = record {
+  stack = refl;
+  me_is = refl;
+  within = omega arith;
+  peers = omega arith;
+  clients = omega arith;
+  ports = refl;
+  distinct = refl;
+  heartbeat = (omega arith, omega arith);
+  election = (omega arith, omega arith);
+}
+
+configured : (before after : Faults) → IsConfigured words (source 0) (source 0) (device untold before) (device untold after) alone (node_at 7000)
+configured before after = record { read = record { fits = fits; says = tt; ended = tt; quiet = refl }; at_is = refl }
+
+served : (before after : Faults) → SendsOnly before after → IsServed words (source 0) (source 0) (device untold before) (device untold after)
+served before after counts = record {
+  config = alone;
+  at = node_at 7000;
+  configured_so = configured before after;
+  areas = tt;
+  turns = tt;
+  counts = counts;
+}
+
+pub returns-clause-served : goal.returns-clause-served
+returns-clause-served c = served _ _ (record { begin = refl; receive = refl; store = refl; send = omega arith })
+
+pub returns-clause-served_though_a_send_failed : goal.returns-clause-served_though_a_send_failed
+returns-clause-served_though_a_send_failed c = served _ _ (record { begin = refl; receive = refl; store = refl; send = omega arith })
+
+pub returns-clause-not_served_where_a_store_failed : goal.returns-clause-not_served_where_a_store_failed
+returns-clause-not_served_where_a_store_failed c = λ h. let e : ◌≡◌ {A = ℕ} 2 1 = h.counts.store in omega (arith, e)
+
+pub returns-clause-ended : goal.returns-clause-ended
+returns-clause-ended c = record {
+  config = alone;
+  at = node_at 7000;
+  configured_so = configured _ _;
+  areas = tt;
+  ended = tt;
+  counts = record { begin = refl; receive = omega arith; store = refl; send = omega arith };
+}
+
+pub returns-clause-not_ended_uncounted : goal.returns-clause-not_ended_uncounted
+returns-clause-not_ended_uncounted c = λ h. omega (arith, h.counts.receive)
+
+pub returns-clause-not_ended_by_another : goal.returns-clause-not_ended_by_another
+returns-clause-not_ended_by_another c = λ h. let e : ◌≡◌ {A = ℕ} 2 1 = h.counts.store in omega (arith, e)
+
+pub returns-clause-unbegun : goal.returns-clause-unbegun
+returns-clause-unbegun c = record {
+  config = alone;
+  at = node_at 7000;
+  configured_so = configured _ _;
+  told = refl;
+  counts = (omega arith, refl);
+}
+
+pub returns-clause-not_unbegun_uncounted : goal.returns-clause-not_unbegun_uncounted
+returns-clause-not_unbegun_uncounted c = λ h. omega (arith, h.counts.0)
