@@ -1,7 +1,6 @@
 use crate::machines::{answer, text, token};
 use kv_machine::{KvCmd, KvMachine, KvState};
 use std::alloc::Global;
-use std::process::Abort;
 use std::test::Fail;
 use vst_base::Machine;
 
@@ -33,22 +32,18 @@ fn command(alloc: Global, place: u8) -> Result<KvCmd, Fail> {
     }
 }
 
-// The machine answers a copy of a command with this key, and these values of it.
+// Whether the machine answers a copy of a command with this key, and these values of it.
 fn tells(
-    rt: &impl Abort,
     alloc: Global,
     state: &mut KvState,
     place: u8,
     key: &[u8],
     after: Option<&[u8]>,
     before: Option<&[u8]>,
-) -> Result<(), Fail> {
-    let cmd = command(alloc, place)?;
-    let told = answer(alloc, &KvMachine, state, &cmd)?;
-    assert!(rt; told.key.as_bytes() == key, "the key of command {place}");
-    assert!(rt; text(&told.after) == after, "after command {place}");
-    assert!(rt; text(&told.before) == before, "before command {place}");
-    Ok(())
+) -> Result<bool, Fail> {
+    let told = answer(alloc, &KvMachine, state, &command(alloc, place)?)?;
+    let same = text(&told.after) == after && text(&told.before) == before;
+    Ok(same && told.key.as_bytes() == key)
 }
 
 #[test]
@@ -65,7 +60,10 @@ fn commands_are_answered_in_turn(rt: HostRuntime) -> Result<(), Fail> {
         (4, a, None, None),
         (5, b, y, y),
     ] {
-        tells(&rt, alloc, &mut state, place, key, after, before)?;
+        assert!(rt;
+            tells(alloc, &mut state, place, key, after, before)?,
+            "command {place}"
+        );
     }
     Ok(())
 }

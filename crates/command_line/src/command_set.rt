@@ -1,8 +1,9 @@
 ghost use Rattle.std.specs.Prelude.{◌≡◌, IfOk, false, map};
 ghost use Rattle.clap.specs.Words.{app_of, rule_of};
 ghost use Rattle.clap.specs.declared.builder.value_parser.ValueParser.TheVariants.{Names};
-ghost use Rattle.command_line.specs.CommandSet.{carries_packets, commands_with, directories, flag, node_numbers};
-ghost use Rattle.command_line.specs.CommandSet.{packet_stack_words, required_option, seeds, stack_words, step_counts, turn_counts};
+ghost use Rattle.command_line.specs.CommandSet.{IsLocal, carries_packets, check_command, commands_with, directories, flag};
+ghost use Rattle.command_line.specs.CommandSet.{make_command, node_command, node_numbers, packet_stack_words, required_option};
+ghost use Rattle.command_line.specs.CommandSet.{seeds, stack_words, step_counts, turn_counts};
 
 use crate::MAX_TURNS;
 use clap::builder::ValueParser;
@@ -46,24 +47,46 @@ pub(crate) fn command_set<'a>(
 ) -> Result<clap::Command<'a>, AllocError>
     ensures { IfOk result (λ command. app_of command ≡ commands_with (Names stacks.entry) (Names packet_stacks.entry)) }
 {
-    let replay = clap::Command::new(alloc, "replay");
-    let stack = required_option(alloc, "stack", stacks.into());
-    let check = clap::Command::new(alloc, "check").arg(stack)?;
-    let make = clap::Command::new(alloc, "make")
-        .arg(required_option(alloc, "stack", packet_stacks.into()))?
-        .arg(required_option(alloc, "seed", seeds()))?
-        .arg(required_option(alloc, "steps", step_counts()))?
-        .arg(flag(alloc, "summary"))?;
-    let node = clap::Command::new(alloc, "node")
-        .arg(required_option(alloc, "me", node_numbers()))?
-        .arg(required_option(alloc, "turns", turn_counts()))?
-        .arg(required_option(alloc, "state", directories()))?;
     clap::Command::new(alloc, "vst")
         .subcommand_required(true)
-        .subcommand(replay)?
-        .subcommand(check)?
-        .subcommand(make)?
-        .subcommand(node)
+        .subcommand(clap::Command::new(alloc, "replay"))?
+        .subcommand(check_command(alloc, stacks.into())?)?
+        .subcommand(make_command(alloc, packet_stacks.into())?)?
+        .subcommand(node_command(alloc)?)
+}
+
+// The command that checks a trace, against a stack that the parser takes.
+fn check_command<'a>(
+    alloc: Global,
+    stacks: ValueParser<'a>,
+) -> Result<clap::Command<'a>, AllocError>
+    ensures app { IfOk result (λ command. app_of command ≡ check_command stacks.entry) }
+    ensures local { IfOk result IsLocal }
+{
+    clap::Command::new(alloc, "check").arg(required_option(alloc, "stack", stacks))
+}
+
+// The command that makes a schedule, for a stack that the parser takes.
+fn make_command<'a>(alloc: Global, stacks: ValueParser<'a>) -> Result<clap::Command<'a>, AllocError>
+    ensures app { IfOk result (λ command. app_of command ≡ make_command stacks.entry) }
+    ensures local { IfOk result IsLocal }
+{
+    clap::Command::new(alloc, "make")
+        .arg(required_option(alloc, "stack", stacks))?
+        .arg(required_option(alloc, "seed", seeds()))?
+        .arg(required_option(alloc, "steps", step_counts()))?
+        .arg(flag(alloc, "summary"))
+}
+
+// The command that runs a node.
+fn node_command<'a>(alloc: Global) -> Result<clap::Command<'a>, AllocError>
+    ensures app { IfOk result (λ command. app_of command ≡ node_command) }
+    ensures local { IfOk result IsLocal }
+{
+    clap::Command::new(alloc, "node")
+        .arg(required_option(alloc, "me", node_numbers()))?
+        .arg(required_option(alloc, "turns", turn_counts()))?
+        .arg(required_option(alloc, "state", directories()))
 }
 
 // What is taken as the number that a schedule is made from.

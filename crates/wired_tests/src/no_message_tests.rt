@@ -151,22 +151,31 @@ fn get(alloc: Global) -> Result<PbMsg<KvCmd>, Fail> {
     Ok(PbMsg::Apply(KvCmd::Get(key(alloc, b"a")?)))
 }
 
+// Whether that is heard, and bytes that differ from its own by one thing do nothing.
+fn backup_hears_its_own(alloc: Global) -> Result<bool, Fail> {
+    let backed = PrimaryBackup::new(KvMachine);
+    Ok(hears_its_own(alloc, backed, StackId::KvPb, 4, &get(alloc)?)?)
+}
+
 #[test]
 fn bytes_that_are_no_message_do_nothing_to_a_backup(rt: HostRuntime) -> Result<(), Fail> {
-    let backed = PrimaryBackup::new(KvMachine);
-    let message = get(rt.alloc())?;
-    assert!(rt; hears_its_own(rt.alloc(), backed, StackId::KvPb, 4, &message)?);
+    assert!(rt; backup_hears_its_own(rt.alloc())?);
     Ok(())
+}
+
+// The same with a number.
+fn numbered_backup_hears_its_own(alloc: Global) -> Result<bool, Fail> {
+    let backed = SeqNum::new(PrimaryBackup::new(KvMachine));
+    let message = SeqMsg {
+        number: 0,
+        inner: get(alloc)?,
+    };
+    Ok(hears_its_own(alloc, backed, StackId::KvPbSeq, 3, &message)?)
 }
 
 #[test]
 fn bytes_that_are_no_message_do_nothing_to_a_numbered_backup(rt: HostRuntime) -> Result<(), Fail> {
-    let backed = SeqNum::new(PrimaryBackup::new(KvMachine));
-    let message = SeqMsg {
-        number: 0,
-        inner: get(rt.alloc())?,
-    };
-    assert!(rt; hears_its_own(rt.alloc(), backed, StackId::KvPbSeq, 3, &message)?);
+    assert!(rt; numbered_backup_hears_its_own(rt.alloc())?);
     Ok(())
 }
 
@@ -208,23 +217,30 @@ fn kept_after<H: Rebootable>(
     handlers.keep(alloc, &state)
 }
 
-// These bytes, as a node keeps them.
-fn saved(alloc: Global, bytes: &[u8]) -> Result<SavedBytes, AllocError> {
-    Ok(SavedBytes::new(bytes.to_vec(alloc)?))
+// What node 0 of three keeps, which has voted for itself.
+fn first_kept(alloc: Global) -> Result<SavedBytes, Fail> {
+    let cluster = Saved::new(Raft::new(KvMachine, 3), [0; 16]);
+    let node = Node::new(0, 3).unwrap();
+    Ok(kept_at_first(alloc, &cluster, node)?)
+}
+
+// What node n of three keeps that starts from these bytes.
+fn kept_from(alloc: Global, n: u8, bytes: &[u8]) -> Result<SavedBytes, Fail> {
+    let cluster = Saved::new(Raft::new(KvMachine, 3), [0; 16]);
+    let node = Node::new(n, 3).ok_or("a node of three")?;
+    let kept = SavedBytes::new(bytes.to_vec(alloc)?);
+    Ok(kept_after(alloc, &cluster, node, kept)?)
 }
 
 // Node 0, which has voted for itself, stops. It starts again from its bytes, and node 1 as if it had none.
 #[test]
 fn a_body_of_another_node_is_none_of_its_own(rt: HostRuntime) -> Result<(), Fail> {
     let alloc = rt.alloc();
-    let handlers = Saved::new(Raft::new(KvMachine, 3), [0; 16]);
-    let first = Node::new(0, 3).unwrap();
-    let second = Node::new(1, 3).unwrap();
-    let body = kept_at_first(alloc, &handlers, first)?;
-    let own = kept_after(alloc, &handlers, first, saved(alloc, body.bytes())?)?;
+    let body = first_kept(alloc)?;
+    let own = kept_from(alloc, 0, body.bytes())?;
     assert!(rt; own.bytes() == body.bytes());
-    let others = kept_after(alloc, &handlers, second, saved(alloc, body.bytes())?)?;
-    let none = kept_after(alloc, &handlers, second, saved(alloc, &[])?)?;
+    let others = kept_from(alloc, 1, body.bytes())?;
+    let none = kept_from(alloc, 1, &[])?;
     assert!(rt; others.bytes() == none.bytes());
     Ok(())
 }

@@ -2,10 +2,10 @@ ghost use Rattle.std.specs.Prelude.{◌<◌, length};
 
 use crate::keys::key;
 use handler_trait::{Handlers, Rebootable};
-use kv_machine::{KvCmd, KvMachine};
+use kv_machine::{KvCmd, KvMachine, KvOut};
 use lock_server::LockServer;
 use net_semantics::{FailWorld, MAX_STEPS, Net, Node, Step, StepRefusal, Trace, World};
-use raft_types::RaftInput;
+use raft_types::{RaftInput, RaftOut};
 use raft_xform::Raft;
 use std::alloc::Global;
 use std::test::Fail;
@@ -85,22 +85,34 @@ fn asks(alloc: Global, request: u64) -> Result<RaftInput<KvCmd>, Fail> {
     })
 }
 
-// Node 1 votes, stops, starts again from its bytes, and takes an entry.
-#[test]
-fn a_node_starts_again_from_its_bytes(rt: HostRuntime) -> Result<(), Fail> {
-    let alloc = rt.alloc();
+// What clients see of these steps of three nodes, where packets and what is kept are bytes.
+fn seen_in_bytes(
+    alloc: Global,
+    steps: &[Step<RaftInput<KvCmd>>],
+) -> Result<Trace<RaftInput<KvCmd>, RaftOut<KvOut>>, StepRefusal>
+    requires { length steps.now < MAX_STEPS }
+{
     let name = [0; 16];
     let cluster = Cluster {
         stack: StackId::KvRaft,
         name,
     };
+    let handlers = Wired::new(Saved::new(Raft::new(KvMachine, 3), name), cluster);
+    seen_where_nodes_stop(alloc, handlers, steps)
+}
+
+// Node 1 votes, stops, starts again from its bytes, and takes an entry.
+#[test]
+fn a_node_starts_again_from_its_bytes(rt: HostRuntime) -> Result<(), Fail> {
+    let alloc = rt.alloc();
+    let ask = asks(alloc, 1)?;
     let steps = [
         Step::Tick(0),
         Step::Deliver(0),
         Step::Deliver(2),
         Step::Crash(1),
         Step::Reboot(1),
-        Step::In(0, asks(alloc, 1)?),
+        Step::In(0, ask),
         Step::Deliver(5),
         Step::Crash(1),
         Step::Reboot(1),
@@ -108,8 +120,7 @@ fn a_node_starts_again_from_its_bytes(rt: HostRuntime) -> Result<(), Fail> {
         Step::Deliver(8),
         Step::Deliver(10),
     ];
-    let handlers = Wired::new(Saved::new(Raft::new(KvMachine, 3), name), cluster);
-    let trace = seen_where_nodes_stop(alloc, handlers, &steps)?;
+    let trace = seen_in_bytes(alloc, &steps)?;
     let plain = seen_where_nodes_stop(alloc, Raft::new(KvMachine, 3), &steps)?;
     assert!(rt; trace.items().len() == 2);
     assert!(rt; trace.items() == plain.items());
