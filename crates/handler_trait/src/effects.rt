@@ -1,4 +1,5 @@
-ghost use Rattle.std.specs.Prelude.{◌≡◌, ℕ, ◌+◌, ◌<◌, ◌≤◌, [], ◌∷◌, ◌++◌, IfOk, IsOk, IsTrue, OnOk, OnErr, IfSome, IfNone};
+ghost use Rattle.std.specs.Prelude.{◌≡◌, ℕ, ◌+◌, ◌-◌, ◌<◌, ◌≤◌, [], ◌∷◌, ◌++◌, IfOk, IsOk, IsTrue, OnOk, OnErr, IfSome, IfNone};
+ghost use Rattle.std.specs.Prelude.{vec_capacity, vec_len};
 
 use std::alloc::{AllocError, Global};
 use std::marker::Model;
@@ -57,26 +58,31 @@ impl<O: Drop, M: Drop> Effects<O, M> {
     pub fn from_parts(outputs: Vec<O>, sends: Vec<(Node, M)>) -> Self
         ensures outputs { result.outputs ≡ outputs.items }
         ensures sends { result.sends ≡ sends.items }
+        ensures output_places { result.output_places ≡ vec_capacity outputs - vec_len outputs }
+        ensures send_places { result.send_places ≡ vec_capacity sends - vec_len sends }
     {
         Effects { outputs, sends }
     }
 
-    /// Gives up the outputs and the sends, in order.
+    /// Gives up the outputs and the sends, in order, with the room that is left.
     pub fn into_parts(self) -> (Vec<O>, Vec<(Node, M)>)
         ensures outputs { result.0.items ≡ self.outputs }
         ensures sends { result.1.items ≡ self.sends }
+        ensures output_places { vec_capacity result.0 - vec_len result.0 ≡ self.output_places }
+        ensures send_places { vec_capacity result.1 - vec_len result.1 ≡ self.send_places }
     {
         (self.outputs, self.sends)
     }
 
-    /// Lends the outputs to effects for handlers within, which add to them, and which have no sends and room for so many. Until
-    /// they are taken back there are none here. At an `Err` nothing changed.
+    /// Lends the outputs and their room to effects for handlers within, which add to them, and which have no sends and room for so
+    /// many. Until they are taken back there are none here. At an `Err` nothing changed.
     pub fn lend_outputs<N: Drop>(
         &mut self,
         alloc: Global,
         sends: usize,
     ) -> Result<Effects<O, N>, AllocError>
         ensures outputs { IfOk result (λ within. within.outputs ≡ self.old.outputs) }
+        ensures output_places { IfOk result (λ within. within.output_places ≡ self.old.output_places) }
         ensures no_sends { IfOk result (λ within. within.sends ≡ []) }
         ensures room { IfOk result (λ within. sends ≤ within.send_places) }
         ensures lent { OnOk result (self.new.outputs ≡ []) }
@@ -89,9 +95,10 @@ impl<O: Drop, M: Drop> Effects<O, M> {
         Ok(Effects { outputs, sends })
     }
 
-    /// Takes the outputs back from effects that they were lent to, and gives the sends of these, in order.
+    /// Takes the outputs and what is left of their room back from effects that they were lent to, and gives the sends of these, in order.
     pub fn take_back<N: Drop>(&mut self, within: Effects<O, N>) -> Vec<(Node, N)>
         ensures outputs { self.new.outputs ≡ within.outputs }
+        ensures output_places { self.new.output_places ≡ within.output_places }
         ensures given { result.items ≡ within.sends }
         ensures sends { self.new.sends ≡ self.old.sends }
         ensures send_places { self.new.send_places ≡ self.old.send_places }
