@@ -1,12 +1,11 @@
 -- The command set, which words it takes, and what they ask for. The words are texts, the program's name first.
-use Rattle.std.specs.Prelude.{◌≡◌, ◌≢◌, ◌<◌, ◌≤◌, ◌-◌, ◌^◌, ⊤, ℕ, pos, Bool, true, false, List, map, filter, Option, None, Some, codes, option_and_then, option_map, if◌then◌else◌}
+use Rattle.std.specs.Prelude.{◌≢◌, ◌<◌, ◌≤◌, ◌-◌, ◌^◌, ⊤, ℕ, pos, Bool, true, false, List, map, filter, Option, None, Some, codes, option_and_then, option_map, if◌then◌else◌}
 use Rattle.std.specs.Borrow.{Bor}
 use Rattle.std.specs.Option.{option_map_or}
 use Rattle.std.specs.Str.{bytes_eq}
 use Rattle.std.specs.Str.Parse.{digits_value, without_leading_plus}
 use Rattle.clap.specs.ValueTests.{is_unsigned_in}
-use Rattle.clap.specs.Words.{AddsSubcommand, App, Row, Rule, app_of, first_of, new_app, new_rule, one_of, subcommand_of, takes, with_rule, with_subcommand}
-use Rattle.clap.specs.declared.builder.command.Command as clap
+use Rattle.clap.specs.Words.{App, Row, Rule, first_of, new_app, new_rule, one_of, subcommand_of, takes, with_rule, with_subcommand}
 use Rattle.clap.specs.declared.builder.action.ArgAction.TheVariants.{Set, SetTrue}
 use Rattle.clap.specs.declared.builder.value_parser.ValueParser.{ValueParser}
 use Rattle.clap.specs.declared.builder.value_parser.ValueParser.TheVariants.{Names, Signed}
@@ -32,10 +31,6 @@ use Rattle.vst_base.specs.declared.step.TheConstants.{MAX_STEPS}
 -- a command of which a subcommand has to be named
 abbrev pub with_subcommand_required : App → App
 with_subcommand_required app = record app { top = record app.top { subcommand_required = true } }
-
--- a command whose arguments are its own: as a subcommand it adds its shape, and no argument for all of them
-abbrev pub IsLocal : clap.Command → Type 0
-IsLocal command = (old new : clap.Command) → AddsSubcommand old command new → app_of new ≡ with_subcommand (app_of old) (app_of command).top
 
 -- an option that has to be given, with one of these values
 abbrev pub required_option : List ℕ → ValueParser → Rule

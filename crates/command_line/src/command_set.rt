@@ -1,7 +1,7 @@
 ghost use Rattle.std.specs.Prelude.{◌≡◌, IfOk, false, map};
 ghost use Rattle.clap.specs.Words.{app_of, rule_of};
 ghost use Rattle.clap.specs.declared.builder.value_parser.ValueParser.TheVariants.{Names};
-ghost use Rattle.command_line.specs.CommandSet.{IsLocal, carries_packets, check_command, commands_with, directories, flag};
+ghost use Rattle.command_line.specs.CommandSet.{carries_packets, check_command, commands_with, directories, flag};
 ghost use Rattle.command_line.specs.CommandSet.{make_command, node_command, node_numbers, packet_stack_words, required_option};
 ghost use Rattle.command_line.specs.CommandSet.{seeds, stack_words, step_counts, turn_counts};
 
@@ -60,16 +60,14 @@ fn check_command<'a>(
     alloc: Global,
     stacks: ValueParser<'a>,
 ) -> Result<clap::Command<'a>, AllocError>
-    ensures app { IfOk result (λ command. app_of command ≡ check_command stacks.entry) }
-    ensures local { IfOk result IsLocal }
+    ensures { IfOk result (λ command. app_of command ≡ check_command stacks.entry) }
 {
     clap::Command::new(alloc, "check").arg(required_option(alloc, "stack", stacks))
 }
 
 // The command that makes a schedule, for a stack that the parser takes.
 fn make_command<'a>(alloc: Global, stacks: ValueParser<'a>) -> Result<clap::Command<'a>, AllocError>
-    ensures app { IfOk result (λ command. app_of command ≡ make_command stacks.entry) }
-    ensures local { IfOk result IsLocal }
+    ensures { IfOk result (λ command. app_of command ≡ make_command stacks.entry) }
 {
     clap::Command::new(alloc, "make")
         .arg(required_option(alloc, "stack", stacks))?
@@ -80,8 +78,7 @@ fn make_command<'a>(alloc: Global, stacks: ValueParser<'a>) -> Result<clap::Comm
 
 // The command that runs a node.
 fn node_command<'a>(alloc: Global) -> Result<clap::Command<'a>, AllocError>
-    ensures app { IfOk result (λ command. app_of command ≡ node_command) }
-    ensures local { IfOk result IsLocal }
+    ensures { IfOk result (λ command. app_of command ≡ node_command) }
 {
     clap::Command::new(alloc, "node")
         .arg(required_option(alloc, "me", node_numbers()))?

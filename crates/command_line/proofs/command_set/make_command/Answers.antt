@@ -2,11 +2,10 @@ use Rattle.std.proofs.Common.{◌≡◌, ◌∙◌, ap, ap₂, codes}
 use Rattle.std.proofs.lemmas.Result.{IfOk-weaker}
 use Rattle.clap.specs.Words.{rule_of, with_rule}
 use Rattle.command_line.specs.CommandSet.{required_option, seeds, step_counts}
-use Rattle.command_line.proofs.Locals.{neither}
 use Rattle.command_line.proofs.command_set.make_command.Goals as goal
 
-pub returns-clause-app : goal.returns-clause-app
-returns-clause-app c =
+pub returns : goal.returns
+returns c =
     let seed : rule_of c.required_option-2.result ≡ required_option (codes "seed") seeds = c.required_option-2.ensures.rule ∙ ap (required_option (codes "seed")) c.seeds.ensures in
     let steps : rule_of c.required_option-3.result ≡ required_option (codes "steps") step_counts =
     c.required_option-3.ensures.rule ∙ ap (required_option (codes "steps")) c.step_counts.ensures in
@@ -14,10 +13,3 @@ returns-clause-app c =
     let with_seed = c.in_ok-arg-2.ensures.shape c.required_option-2.ensures.local ∙ ap₂ with_rule with_stack seed in
     let with_steps = c.in_ok-arg-3.ensures.shape c.required_option-3.ensures.local ∙ ap₂ with_rule with_seed steps in
     IfOk-weaker c.arg-4.result _ _ (λ command added. added.shape c.flag.ensures.local ∙ ap₂ with_rule with_steps c.flag.ensures.rule) c.arg-4.ensures
-
-pub returns-clause-local : goal.returns-clause-local
-returns-clause-local c =
-    let stack = neither _ _ _ c.in_ok-arg.ensures.globals c.new.ensures.local c.required_option.ensures.local in
-    let seed = neither _ _ _ c.in_ok-arg-2.ensures.globals stack c.required_option-2.ensures.local in
-    let steps = neither _ _ _ c.in_ok-arg-3.ensures.globals seed c.required_option-3.ensures.local in
-    IfOk-weaker c.arg-4.result _ _ (λ command added old new adds. adds.shape (neither _ _ _ added.globals steps c.flag.ensures.local)) c.arg-4.ensures

@@ -2,11 +2,10 @@ use Rattle.std.proofs.Common.{◌≡◌, ◌∙◌, ap, ap₂, codes}
 use Rattle.std.proofs.lemmas.Result.{IfOk-weaker}
 use Rattle.clap.specs.Words.{rule_of, with_rule}
 use Rattle.command_line.specs.CommandSet.{directories, node_numbers, required_option, turn_counts}
-use Rattle.command_line.proofs.Locals.{neither}
 use Rattle.command_line.proofs.command_set.node_command.Goals as goal
 
-pub returns-clause-app : goal.returns-clause-app
-returns-clause-app c =
+pub returns : goal.returns
+returns c =
     let me : rule_of c.required_option.result ≡ required_option (codes "me") node_numbers = c.required_option.ensures.rule ∙ ap (required_option (codes "me")) c.node_numbers.ensures in
     let turns : rule_of c.required_option-2.result ≡ required_option (codes "turns") turn_counts =
     c.required_option-2.ensures.rule ∙ ap (required_option (codes "turns")) c.turn_counts.ensures in
@@ -15,9 +14,3 @@ returns-clause-app c =
     let with_me = c.in_ok-arg.ensures.shape c.required_option.ensures.local ∙ ap₂ with_rule c.new.ensures.app me in
     let with_turns = c.in_ok-arg-2.ensures.shape c.required_option-2.ensures.local ∙ ap₂ with_rule with_me turns in
     IfOk-weaker c.arg-3.result _ _ (λ command added. added.shape c.required_option-3.ensures.local ∙ ap₂ with_rule with_turns state) c.arg-3.ensures
-
-pub returns-clause-local : goal.returns-clause-local
-returns-clause-local c =
-    let me = neither _ _ _ c.in_ok-arg.ensures.globals c.new.ensures.local c.required_option.ensures.local in
-    let turns = neither _ _ _ c.in_ok-arg-2.ensures.globals me c.required_option-2.ensures.local in
-    IfOk-weaker c.arg-3.result _ _ (λ command added old new adds. adds.shape (neither _ _ _ added.globals turns c.required_option-3.ensures.local)) c.arg-3.ensures
