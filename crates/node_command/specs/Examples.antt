@@ -1,4 +1,4 @@
--- Runs of a node for worked rows. Their input tells nothing, and their output and error stream were empty.
+-- Runs of a node for worked rows. Their input tells nothing where no other is named, and their output and error stream were empty.
 use Rattle.std.specs.Prelude.{ℕ, List, [], ◌∷◌, Option, None, Some, Result, codes, replicate}
 use Rattle.command_line.specs.AskedNodes.{NodeWordsView}
 use Rattle.disk.specs.Disk.{settled}
@@ -19,6 +19,10 @@ words = record { me = 0; turns = 3; state = codes "d" }
 
 abbrev pub source : ℕ → SourceSeen
 source faults = record { left = None; faults = faults }
+
+-- an input that has no bytes
+abbrev pub empty : SourceSeen
+empty = record { left = Some []; faults = 0 }
 
 abbrev pub sink : List ℕ → SinkSeen
 sink written = record { written = Some written; faults = 0; wants = 0 }
@@ -52,6 +56,11 @@ alone = config_as stack.KvRaft 0 (node_at 7000 ∷ []) [] 50 300 (replicate 16 0
 abbrev pub begins : ℕ → Faults
 begins n = record { begin = n; receive = 1; store = 1; send = 1 }
 
--- what a node's run comes to where neither its input nor its device tells, and calls had failed so often before it and after it
-abbrev pub comes_to : Faults → Faults → Result (Unit {0}) Trouble → Type 0
-comes_to before after r = Comes words (source 0) (source 0) (device untold before) (device untold after) r
+-- what a node's run comes to in which so many reads failed, where neither its input nor its device tells, and the device's calls had
+-- failed so often before it and after it
+abbrev pub comes_to : ℕ → Faults → Faults → Result (Unit {0}) Trouble → Type 0
+comes_to reads before after r = Comes words (source 0) (source reads) (device untold before) (device untold after) r
+
+-- and what it comes to where its input is empty
+abbrev pub comes_of_nothing : Result (Unit {0}) Trouble → Type 0
+comes_of_nothing r = Comes words empty empty idle idle r

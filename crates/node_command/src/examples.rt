@@ -1,7 +1,7 @@
 ghost use Rattle.std.specs.Prelude.{◌≡◌, [], ◌∷◌, Err, None, Ok, Some, codes};
 ghost use Rattle.disk.specs.Acts.{Now};
 ghost use Rattle.node_command.specs.Complete.{areas_status, configured_status};
-ghost use Rattle.node_command.specs.Examples.{begins, comes_to, complained, device, idle, untouched, words};
+ghost use Rattle.node_command.specs.Examples.{begins, comes_of_nothing, comes_to, complained, device, idle, untouched, words};
 ghost use Rattle.node_command.specs.Lines.{config_line, line_of, state_line, status_of, turns_line};
 ghost use Rattle.node_command.specs.Statuses.{EndsBy, IsConfigRefused, IsNodeStatus, IsOutOfMemory, MaySay};
 ghost use Rattle.node_device.specs.Examples.{counts, sends, tells};
@@ -9,7 +9,7 @@ ghost use Rattle.slots.specs.Opening.{BadSelector};
 
 use crate::Trouble;
 use node_body::Why;
-use node_config::ConfigKey;
+use node_config::{ConfigKey, worked_texts};
 use node_state::Refusal;
 use udp_node::NodeFault;
 
@@ -49,12 +49,24 @@ pub fn worked_statuses()
 
 /// What reading the configuration, beginning and taking turns come to, by the calls that failed.
 pub fn worked_comings()
-    ensures served { comes_to (counts 1 1) (counts 1 1) (Ok tt) }
-    ensures served_though_a_send_failed { comes_to (sends 1) (sends 2) (Ok tt) }
-    ensures not_served_where_a_store_failed { comes_to (counts 1 1) (counts 1 2) (Ok tt) → ⊥ }
-    ensures ended { comes_to (counts 1 1) (counts 2 1) (Err (Trouble.Ended NodeFault.Receive)) }
-    ensures not_ended_uncounted { comes_to (counts 1 1) (counts 1 1) (Err (Trouble.Ended NodeFault.Receive)) → ⊥ }
-    ensures not_ended_by_another { comes_to (counts 1 1) (counts 2 2) (Err (Trouble.Ended NodeFault.Receive)) → ⊥ }
-    ensures unbegun { comes_to (begins 1) (begins 2) (Err Trouble.Begin) }
-    ensures not_unbegun_uncounted { comes_to (begins 1) (begins 1) (Err Trouble.Begin) → ⊥ }
-{}
+    ensures served { comes_to 0 (counts 1 1) (counts 1 1) (Ok tt) }
+    ensures served_though_a_send_failed { comes_to 0 (sends 1) (sends 2) (Ok tt) }
+    ensures not_served_where_a_store_failed { comes_to 0 (counts 1 1) (counts 1 2) (Ok tt) → ⊥ }
+    ensures ended { comes_to 0 (counts 1 1) (counts 2 1) (Err (Trouble.Ended NodeFault.Receive)) }
+    ensures not_ended_uncounted { comes_to 0 (counts 1 1) (counts 1 1) (Err (Trouble.Ended NodeFault.Receive)) → ⊥ }
+    ensures not_ended_by_another { comes_to 0 (counts 1 1) (counts 2 2) (Err (Trouble.Ended NodeFault.Receive)) → ⊥ }
+    ensures unbegun { comes_to 0 (begins 1) (begins 2) (Err Trouble.Begin) }
+    ensures not_unbegun_uncounted { comes_to 0 (begins 1) (begins 1) (Err Trouble.Begin) → ⊥ }
+    ensures refused { comes_of_nothing (Err (Trouble.Config ConfigKey.Stack)) }
+    ensures not_refused_for_another_key { comes_of_nothing (Err (Trouble.Config ConfigKey.Me)) → ⊥ }
+    ensures not_refused_where_a_read_failed { comes_to 1 (counts 1 1) (counts 1 1) (Err (Trouble.Config ConfigKey.Stack)) → ⊥ }
+    ensures not_refused_where_a_receive_failed { comes_to 0 (counts 1 1) (counts 2 1) (Err (Trouble.Config ConfigKey.Stack)) → ⊥ }
+    ensures unread { comes_to 1 (counts 1 1) (counts 1 1) (Err Trouble.Read) }
+    ensures not_unread_uncounted { comes_to 0 (counts 1 1) (counts 1 1) (Err Trouble.Read) → ⊥ }
+    ensures not_unread_where_a_receive_failed { comes_to 1 (counts 1 1) (counts 2 1) (Err Trouble.Read) → ⊥ }
+    ensures wanted { comes_to 0 (counts 1 1) (counts 1 1) (Err Trouble.Memory) }
+    ensures not_wanted_where_a_read_failed { comes_to 1 (counts 1 1) (counts 1 1) (Err Trouble.Memory) → ⊥ }
+    ensures not_wanted_where_a_receive_failed { comes_to 0 (counts 1 1) (counts 2 1) (Err Trouble.Memory) → ⊥ }
+{
+    worked_texts();
+}
