@@ -9,15 +9,21 @@ pub trait Leads: Handlers {
     fn leads_in(&self, state: &Self::State) -> Option<u64>;
 }
 
-impl<M: Machine> Leads for Telling<Raft<M>>
-where
-    M::Cmd: Says,
-{
+impl<M: Machine> Leads for Raft<M> {
     fn leads_in(&self, state: &Self::State) -> Option<u64> {
-        if self.inner().leads(state) {
+        if self.leads(state) {
             Some(state.term())
         } else {
             None
         }
+    }
+}
+
+impl<H: Leads> Leads for Telling<H>
+where
+    H::Msg: Says,
+{
+    fn leads_in(&self, state: &H::State) -> Option<u64> {
+        self.inner().leads_in(state)
     }
 }

@@ -1,4 +1,4 @@
-ghost use Rattle.std.specs.Prelude.{◌<◌};
+ghost use Rattle.std.specs.Prelude.{◌≡◌, ◌<◌};
 
 use crate::keys::key;
 use handler_trait::{Effects, Handlers, MAX_SENDS, Rebootable};
@@ -217,19 +217,24 @@ fn kept_after<H: Rebootable>(
     handlers.keep(alloc, &state)
 }
 
+// A cluster of three nodes of the store, whose states are kept as bytes.
+fn three_nodes() -> Saved<Raft<KvMachine>>
+    ensures { result.inner.nodes ≡ 3 }
+{
+    Saved::new(Raft::new(KvMachine, 3), [0; 16])
+}
+
 // What node 0 of three keeps, which has voted for itself.
 fn first_kept(alloc: Global) -> Result<SavedBytes, Fail> {
-    let cluster = Saved::new(Raft::new(KvMachine, 3), [0; 16]);
     let node = Node::new(0, 3).unwrap();
-    Ok(kept_at_first(alloc, &cluster, node)?)
+    Ok(kept_at_first(alloc, &three_nodes(), node)?)
 }
 
 // What node n of three keeps that starts from these bytes.
 fn kept_from(alloc: Global, n: u8, bytes: &[u8]) -> Result<SavedBytes, Fail> {
-    let cluster = Saved::new(Raft::new(KvMachine, 3), [0; 16]);
     let node = Node::new(n, 3).ok_or("a node of three")?;
     let kept = SavedBytes::new(bytes.to_vec(alloc)?);
-    Ok(kept_after(alloc, &cluster, node, kept)?)
+    Ok(kept_after(alloc, &three_nodes(), node, kept)?)
 }
 
 // Node 0, which has voted for itself, stops. It starts again from its bytes, and node 1 as if it had none.
