@@ -30,7 +30,7 @@ none-behind [] ys e = sym e
 none-behind (x ∷ xs) ys e = cc
 
 pub nothing-left : (new : ReaderView) (left' : Option (List ℕ)) → EndsAll new left' → left' ≡ Some []
-nothing-left new left' ends = ends.left.left_is ∙ ap Some (none-behind new.ahead ends.left.behind ends.left.rest_is)
+nothing-left new left' ends = ends.left.left_is ∙ ap Some (none-behind new.ahead ends.left.unread ends.left.rest_is)
 
 -- what was given, where a reader stands at the byte that decided a line
 given-of : (new : ReaderView) (left' : Option (List ℕ)) (bytes : List ℕ) (n : ℕ) (w : Why) → StandsAt (fresh most_lines) new left' bytes n → LooksAhead left' bytes (fault.Refused n w)
@@ -38,7 +38,7 @@ given-of new left' bytes n w s =
     let all : n - 0 ≡ n = omega arith in
     let decides : length s.used ≡ decided n bytes = s.decides ∙ ap (λ k. decided k bytes) all in (
       s.used ++ new.ahead,
-      (s.left.behind, s.whole ∙ (ap (λ xs. s.used ++ xs) s.left.rest_is ∙ sym (append_assoc s.used new.ahead s.left.behind)), s.left.left_is),
+      (s.left.unread, s.whole ∙ (ap (λ xs. s.used ++ xs) s.left.rest_is ∙ sym (append_assoc s.used new.ahead s.left.unread)), s.left.left_is),
       omega (arith, length-append s.used new.ahead, decides, s.few),
     )
 
@@ -52,7 +52,7 @@ module _ {I O X : Type 0} (f : Form I O X) where
   pub none-so-far : (left : Option (List ℕ)) (bytes : List ℕ) → left ≡ Some bytes → ReadSoFar (fresh most_lines) no_lines left bytes
   none-so-far left bytes has = record {
     used = [];
-    uses = uses-none (fresh most_lines) left bytes (record { behind = bytes; left_is = has; rest_is = refl; at_end = λ e. let both : ◌≡◌ {A = Bool} false true = e in cc });
+    uses = uses-none (fresh most_lines) left bytes (record { unread = bytes; left_is = has; rest_is = refl; at_end = λ e. let both : ◌≡◌ {A = Bool} false true = e in cc });
     goes = λ ls. sym (read-same (claim_of f ls));
   }
 

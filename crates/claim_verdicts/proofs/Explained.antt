@@ -70,7 +70,7 @@ module _ {C O : Type 0} where
         let here : is_wrong_at_backup before (item.Output 1 o) after ≡ false = at-place is_wrong_at_backup [] before (item.Output 1 o) after (subst (NoneWrong is_wrong_at_backup []) whole none) in
         let both : (redirects {C = C} (item.Output 1 o) ≡ true) × (passes is_at_backup (last_of before) ≡ true) = and_parts (redirects {C = C} (item.Output 1 o)) (passes is_at_backup (last_of before)) (not-false (redirects {C = C} (item.Output 1 o) && passes is_at_backup (last_of before)) here) in
         let front = behind-input before both.1 in
-        record { front = front.0; input = front.1; behind = front.2; redirect = redirection-only C 1 o both.0 }
+        record { front = front.0; input = front.1; last_is = front.2; redirect = redirection-only C 1 o both.0 }
 
 -- the outputs for the first commands
 fold-take : {S C O : Type 0} (m : MachineMeaning S C O) (s : S) (k : ℕ) (cs : List C) → outputs_from m s (take k cs) ≡ take k (outputs_from m s cs)
@@ -131,7 +131,7 @@ module _ {S C O : Type 0} (IsO : O → Type 0) (u : O → List ℕ) (apart : (a 
       let all : replies_in (outputs_at 0 items) ≡ k = ap replies_in first ∙ (replies-all (take k F) ∙ (sym (length-map (take k F) told.Reply) ∙ ap (λ os. length os) (sym first))) in
       record {
         outputs = first ∙ ap (λ os. map told.Reply os) (ap (λ n. take n F) (sym all) ∙ sym (fold-take m m.init (replies_in (outputs_at 0 items)) (inputs_at 0 items)));
-        behind = λ before after o whole.
+        answers = λ before after o whole.
             let here : is_wrong_after {C = C} u F (length (inputs_at 0 before)) (length (outputs_at 0 before)) (item.Output 0 o) ≡ false = at-place (is_wrong_answer u F) [] before (item.Output 0 o) after (subst (NoneWrong (is_wrong_answer u F) []) whole answers) in
             let more = (or-false (nat_le (length (inputs_at 0 before)) (length (outputs_at 0 before))) (not (replies_so u (slice_get F (length (outputs_at 0 before))) o)) here).0 in
             grind (arith, nat_tests);
@@ -178,7 +178,7 @@ module _ {S C O : Type 0} (u : O → List ℕ) (m : MachineMeaning S C O) (whole
   answer-right b rest o split =
       let j = length (outputs_at 0 b) in
       let r = replies_in (outputs_at 0 whole) in
-      let more = e.behind b rest o split in
+      let more = e.answers b rest o split in
       let asked : nat_le (length (inputs_at 0 b)) j ≡ false = grind (arith, nat_tests) in
       let outs : outputs_at 0 b ++ o ∷ outputs_at 0 rest ≡ map told.Reply (take r (fold m (inputs_at 0 whole))) =
       sym (ap (outputs_at 0) split ∙ outputs-both b (item.Output 0 o ∷ rest)) ∙ (e.outputs ∙ ap (λ os. map told.Reply os) (fold-take m m.init r (inputs_at 0 whole))) in
@@ -211,5 +211,5 @@ module _ {S C O : Type 0} (u : O → List ℕ) (m : MachineMeaning S C O) (whole
     by false s = rw s refl
     by true s =
         let only = e.nothing_else b rest o (split ∙ ap (λ k. b ++ item.Output k o ∷ rest) (eqb-true n 1 s)) in
-        let last : passes is_at_backup (last_of b) ≡ true = ap (λ xs. passes is_at_backup (last_of xs)) only.behind ∙ ap (passes is_at_backup) (last-pushed only.front (item.Input 1 only.input)) in
+        let last : passes is_at_backup (last_of b) ≡ true = ap (λ xs. passes is_at_backup (last_of xs)) only.last_is ∙ ap (passes is_at_backup) (last-pushed only.front (item.Input 1 only.input)) in
         rw (only.redirect, s, last) refl

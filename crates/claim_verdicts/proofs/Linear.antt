@@ -11,7 +11,7 @@ use Rattle.vst_base.specs.declared.step.Item.TheVariants as item
 use Rattle.raft_types.specs.declared.client.RaftInput.{RaftInput}
 use Rattle.raft_types.specs.declared.client.RaftOut.{RaftOut}
 use Rattle.raft_types.specs.declared.client.RaftOut.TheVariants as told
-use Rattle.linearizability.specs.Linearizable.{AreDistinct, AreInTime, AreOther, Each, HasInput, IsLinearizable, Seen, Told, beside, is_named, told_behind, up_to, with_outputs}
+use Rattle.linearizability.specs.Linearizable.{AreDistinct, AreInTime, AreOther, Each, HasInput, IsLinearizable, Seen, Told, beside, is_named, told_since, up_to, with_outputs}
 use Rattle.schedule_text.specs.Words.{is_text}
 use Rattle.check_text.specs.Claims.{image_line, item_line}
 use Rattle.claim_verdicts.specs.Clusters.{ClusterClaim, answers_one, before_input, cluster_verdict, is_among, is_late, is_other_output, is_unexplained, is_unrequested, puts_in}
@@ -131,7 +131,7 @@ module _ {C O : Type 0} (IsC : C → Type 0) (IsO : O → Type 0) (t : C → Lis
   same-output w o e = rw e (ap not (same-text (u o) (u o) refl))
 
   module _ (order : List (RaftInput C)) (os : List O) (outs : Each IsO os) where
-    outputs-of : (p q seen : Seen C O) → Each (IsSpelledItem IsC IsO) seen → NoneWrong (λ before x after. is_unexplained u (zip order os) x) q seen → Each (λ x. beside x.client x.request (zip order os) ≡ Some x.output) (told_behind p seen)
+    outputs-of : (p q seen : Seen C O) → Each (IsSpelledItem IsC IsO) seen → NoneWrong (λ before x after. is_unexplained u (zip order os) x) q seen → Each (λ x. beside x.client x.request (zip order os) ≡ Some x.output) (told_since p seen)
     outputs-of p q [] spelled none = tt
     outputs-of p q (item.Input n i ∷ rest) spelled none = outputs-of (p ++ item.Input n i ∷ []) (q ++ item.Input n i ∷ []) rest spelled.1 none.1
     outputs-of p q (item.Output n (told.Reply c r o) ∷ rest) spelled none = (
@@ -141,7 +141,7 @@ module _ {C O : Type 0} (IsC : C → Type 0) (IsO : O → Type 0) (t : C → Lis
     outputs-of p q (item.Output n (told.NotLeader c r) ∷ rest) spelled none = outputs-of (p ++ item.Output n (told.NotLeader c r) ∷ []) (q ++ item.Output n (told.NotLeader c r) ∷ []) rest spelled.1 none.1
     outputs-of p q (item.Output n (told.Full c r) ∷ rest) spelled none = outputs-of (p ++ item.Output n (told.Full c r) ∷ []) (q ++ item.Output n (told.Full c r) ∷ []) rest spelled.1 none.1
 
-    none-unexplained : (p q seen : Seen C O) → Each (λ x. beside x.client x.request (zip order os) ≡ Some x.output) (told_behind p seen) → NoneWrong (λ before x after. is_unexplained u (zip order os) x) q seen
+    none-unexplained : (p q seen : Seen C O) → Each (λ x. beside x.client x.request (zip order os) ≡ Some x.output) (told_since p seen) → NoneWrong (λ before x after. is_unexplained u (zip order os) x) q seen
     none-unexplained p q [] right = tt
     none-unexplained p q (item.Input n i ∷ rest) right = (refl, none-unexplained (p ++ item.Input n i ∷ []) (q ++ item.Input n i ∷ []) rest right)
     none-unexplained p q (item.Output n (told.Reply c r o) ∷ rest) right = (
@@ -184,8 +184,8 @@ module _ {C O : Type 0} (IsC : C → Type 0) (IsO : O → Type 0) (t : C → Lis
     push-spelled (y ∷ ys) x each one = (each.0, push-spelled ys x each.1 one)
 
     module _ (order : List (RaftInput C)) (is : Each (λ r. IsC r.cmd) order) (none : NoneWrong (is_late t all) [] order) where
-      in-time-of : (p seen : Seen C O) → all ≡ p ++ seen → Each (IsSpelledItem IsC IsO) p → Each (IsSpelledItem IsC IsO) seen → Each (λ x. is_among order x.client x.request ≡ true) (told_behind p seen)
-          → Each (λ x. Each (HasInput x.before) (up_to x.client x.request order)) (told_behind p seen)
+      in-time-of : (p seen : Seen C O) → all ≡ p ++ seen → Each (IsSpelledItem IsC IsO) p → Each (IsSpelledItem IsC IsO) seen → Each (λ x. is_among order x.client x.request ≡ true) (told_since p seen)
+          → Each (λ x. Each (HasInput x.before) (up_to x.client x.request order)) (told_since p seen)
       in-time-of p [] whole sp ss among = tt
       in-time-of p (item.Input n i ∷ rest) whole sp ss among = in-time-of (p ++ item.Input n i ∷ []) rest (whole ∙ sym (append_assoc p (item.Input n i ∷ []) rest)) (push-spelled p (item.Input n i) sp ss.0) ss.1 among
       in-time-of p (item.Output n (told.Reply c q o) ∷ rest) whole sp ss among = (
@@ -195,8 +195,8 @@ module _ {C O : Type 0} (IsC : C → Type 0) (IsO : O → Type 0) (t : C → Lis
       in-time-of p (item.Output n (told.NotLeader c q) ∷ rest) whole sp ss among = in-time-of (p ++ item.Output n (told.NotLeader c q) ∷ []) rest (whole ∙ sym (append_assoc p (item.Output n (told.NotLeader c q) ∷ []) rest)) (push-spelled p (item.Output n (told.NotLeader c q)) sp ss.0) ss.1 among
       in-time-of p (item.Output n (told.Full c q) ∷ rest) whole sp ss among = in-time-of (p ++ item.Output n (told.Full c q) ∷ []) rest (whole ∙ sym (append_assoc p (item.Output n (told.Full c q) ∷ []) rest)) (push-spelled p (item.Output n (told.Full c q)) sp ss.0) ss.1 among
 
-  all-among : (order : List (RaftInput C)) (os : List O) (p seen : Seen C O) → Each (λ x. beside x.client x.request (zip order os) ≡ Some x.output) (told_behind p seen) → Each (λ x. is_among order x.client x.request ≡ true) (told_behind p seen)
-  all-among order os p seen right = over (told_behind p seen) right where
+  all-among : (order : List (RaftInput C)) (os : List O) (p seen : Seen C O) → Each (λ x. beside x.client x.request (zip order os) ≡ Some x.output) (told_since p seen) → Each (λ x. is_among order x.client x.request ≡ true) (told_since p seen)
+  all-among order os p seen right = over (told_since p seen) right where
     over : (xs : List (Told C O)) → Each (λ x. beside x.client x.request (zip order os) ≡ Some x.output) xs → Each (λ x. is_among order x.client x.request ≡ true) xs
     over [] right = tt
     over (x ∷ xs) right = (beside-among x.client x.request order os x.output right.0, over xs right.1)
@@ -234,12 +234,12 @@ module _ {C O : Type 0} (IsC : C → Type 0) (IsO : O → Type 0) (t : C → Lis
       by false e = refl
       by true e = absurd (never (list_any (puts_in t r) p) (found-input p r (reaches c q (HasInput p) before r after (among-before c q before (r ∷ after) distinct e) has)) none)
 
-    not-late : (p seen : Seen C O) → list_any (puts_in t r) p ≡ false → Each (λ x. Each (HasInput x.before) (up_to x.client x.request (before ++ r ∷ after))) (told_behind p seen)
+    not-late : (p seen : Seen C O) → list_any (puts_in t r) p ≡ false → Each (λ x. Each (HasInput x.before) (up_to x.client x.request (before ++ r ∷ after))) (told_since p seen)
         → list_any (answers_one (r ∷ after)) (before_input t r seen) ≡ false
     not-late p [] none in_time = refl
     not-late p (item.Input n i ∷ rest) none in_time = by (puts_in {O = O} t r (item.Input n i)) refl (not-late (p ++ item.Input n i ∷ []) rest) where
       by : (w : Bool) → puts_in {O = O} t r (item.Input n i) ≡ w
-          → (list_any (puts_in t r) (p ++ item.Input n i ∷ []) ≡ false → Each (λ x. Each (HasInput x.before) (up_to x.client x.request (before ++ r ∷ after))) (told_behind (p ++ item.Input n i ∷ []) rest) → list_any (answers_one (r ∷ after)) (before_input t r rest) ≡ false)
+          → (list_any (puts_in t r) (p ++ item.Input n i ∷ []) ≡ false → Each (λ x. Each (HasInput x.before) (up_to x.client x.request (before ++ r ∷ after))) (told_since (p ++ item.Input n i ∷ []) rest) → list_any (answers_one (r ∷ after)) (before_input t r rest) ≡ false)
           → list_any (answers_one (r ∷ after)) (cond w [] (item.Input n i ∷ before_input t r rest)) ≡ false
       by true e later = refl
       by false e later = later (one-more p (item.Input n i) none e) in_time

@@ -29,7 +29,7 @@ record OneLine (rest line used rest' : List ℕ) : Type 0 where
   lines : lines_of rest ≡ lines_of used ++ lines_of rest'
   one : lines_of used ≡ line ∷ []
   size : first_size rest ≡ length used
-  behind : rest' ≡ after_lines 1 rest
+  advanced : rest' ≡ after_lines 1 rest
 
 behind-size : (rest used rest' : List ℕ) → rest ≡ used ++ rest' → first_size rest ≡ length used → rest' ≡ after_lines 1 rest
 behind-size rest used rest' whole size = sym (ap (λ xs. drop (first_size rest) xs) whole ∙ drop-front used rest' (first_size rest) size)
@@ -44,7 +44,7 @@ with-newline rest line rest' plain is =
       lines = ap lines_of is ∙ (lines-line line rest' plain ∙ ap (λ ls. ls ++ lines_of rest') (sym one));
       one = one;
       size = size;
-      behind = behind-size rest (line ++ 10 ∷ []) rest' whole size;
+      advanced = behind-size rest (line ++ 10 ∷ []) rest' whole size;
     }
 
 without-newline : (rest line : List ℕ) → cut_at 10 line ≡ None → 0 < length line → rest ≡ line → OneLine rest line line []
@@ -57,7 +57,7 @@ without-newline rest line plain some is =
       lines = ap lines_of is ∙ sym (append-nil (lines_of line));
       one = one;
       size = size;
-      behind = behind-size rest line [] whole size;
+      advanced = behind-size rest line [] whole size;
     }
 
 -- the byte that decides a line that is short enough is its last
@@ -96,7 +96,7 @@ ends-line A old r new left' rest used rest' (Ok x) one left closed short fits st
     let line : new.line ≡ r.line = ap (λ (v : ReaderView). v.line) same in
     let ends : new.ended ≡ r.ended = ap (λ (v : ReaderView). v.ended) same in
     let ahead : new.ahead ≡ r.ahead = ap (λ (v : ReaderView). v.ahead) same in
-    let left_new : HasRest new left' rest' = record { behind = left.behind; left_is = left.left_is; rest_is = left.rest_is ∙ ap (λ xs. xs ++ left.behind) (sym ahead); at_end = λ is. left.at_end (sym ends ∙ is) } in (
+    let left_new : HasRest new left' rest' = record { unread = left.unread; left_is = left.left_is; rest_is = left.rest_is ∙ ap (λ xs. xs ++ left.unread) (sym ahead); at_end = λ is. left.at_end (sym ends ∙ is) } in (
       used,
       record {
         rest' = rest';
@@ -104,7 +104,7 @@ ends-line A old r new left' rest used rest' (Ok x) one left closed short fits st
         whole = one.whole;
         lines = one.lines;
         closed = λ is. closed (sym ends ∙ is);
-        behind = one.behind ∙ ap (λ ls. after_lines (length ls) rest) (sym one.one);
+        advanced = one.advanced ∙ ap (λ ls. after_lines (length ls) rest) (sym one.one);
         number = counted ∙ (ap (λ n. n + 1) number ∙ ap (λ ls. old.number + length ls) (sym one.one));
         stays = λ is. ends ∙ stays is;
       },
@@ -155,13 +155,13 @@ pub by-newline : (A : Type 0) (old r r' new : ReaderView) (left' : Option (List 
     → r'.ended ≡ r.ended → (old.ended ≡ true → r.ended ≡ true) → r'.number ≡ old.number → r'.most ≡ old.most → EndsLine {A = A} r' new result → ReadsLine old new left' rest result
 by-newline A old r r' new left' rest result begun plain (part, taken, plain_part, line) short ended stays number most ends =
     let left = begun.left_is in
-    let rest' = r'.ahead ++ left.behind in
-    let later : begun.later ≡ part ++ 10 ∷ rest' = left.rest_is ∙ (ap (λ xs. xs ++ left.behind) taken ∙ append_assoc part (10 ∷ r'.ahead) left.behind) in
+    let rest' = r'.ahead ++ left.unread in
+    let later : begun.later ≡ part ++ 10 ∷ rest' = left.rest_is ∙ (ap (λ xs. xs ++ left.unread) taken ∙ append_assoc part (10 ∷ r'.ahead) left.unread) in
     let whole : rest ≡ r'.line ++ 10 ∷ rest' = begun.whole ∙ (ap (λ xs. r.line ++ xs) later ∙ (sym (append_assoc r.line part (10 ∷ rest')) ∙ ap (λ xs. xs ++ 10 ∷ rest') (sym line))) in
     let plain_line : cut_at 10 r'.line ≡ None = ap (cut_at 10) line ∙ none-append 10 r.line part plain plain_part in
     ends-line A old r' new left' rest (r'.line ++ 10 ∷ []) rest' result
     (with-newline rest r'.line rest' plain_line whole)
-    (record { behind = left.behind; left_is = left.left_is; rest_is = refl; at_end = λ is. absurd (not-nothing part rest' 10 (sym later ∙ left.at_end (sym ended ∙ is))) })
+    (record { unread = left.unread; left_is = left.left_is; rest_is = refl; at_end = λ is. absurd (not-nothing part rest' 10 (sym later ∙ left.at_end (sym ended ∙ is))) })
     (λ is. ap (λ (s : List (List ℕ) × List ℕ). s.1) (split-line r'.line [] plain_line))
     short
     (omega (arith, short, length-append r'.line (10 ∷ [])))
@@ -195,7 +195,7 @@ pub by-read : (A : Type 0) (old r' : ReaderView) (left' : Option (List ℕ)) (re
 by-read A old r' left' rest begun plain short none =
     let left = begun.left_is in (
       r'.line,
-      record { rest' = left.behind; left_is = left.left_is; whole = begun.whole ∙ ap (λ xs. r'.line ++ xs) (left.rest_is ∙ ap (λ xs. xs ++ left.behind) none); short = subst (λ (xs : List ℕ). length xs ≤ 4096) (sym (ap (λ (s : List (List ℕ) × List ℕ). s.1) (split-plain r'.line plain))) short },
+      record { rest' = left.unread; left_is = left.left_is; whole = begun.whole ∙ ap (λ xs. r'.line ++ xs) (left.rest_is ∙ ap (λ xs. xs ++ left.unread) none); short = subst (λ (xs : List ℕ). length xs ≤ 4096) (sym (ap (λ (s : List (List ℕ) × List ℕ). s.1) (split-plain r'.line plain))) short },
       whole-plain r'.line plain,
     )
 
@@ -229,8 +229,8 @@ pub by-length : (A : Type 0) (old r r' : ReaderView) (left' : Option (List ℕ))
     → ReadsLine {A = A} old r' left' rest (Err (fault.Refused (r'.number + 1) why.LineTooLong))
 by-length A old r r' left' rest begun plain (part, taken, plain_part, size) ended number few =
     let left = begun.left_is in
-    let rest' = r'.ahead ++ left.behind in
-    let later : begun.later ≡ part ++ rest' = left.rest_is ∙ (ap (λ xs. xs ++ left.behind) taken ∙ append_assoc part r'.ahead left.behind) in
+    let rest' = r'.ahead ++ left.unread in
+    let later : begun.later ≡ part ++ rest' = left.rest_is ∙ (ap (λ xs. xs ++ left.unread) taken ∙ append_assoc part r'.ahead left.unread) in
     let front = r.line ++ part in
     let whole : rest ≡ front ++ rest' = begun.whole ∙ (ap (λ xs. r.line ++ xs) later ∙ sym (append_assoc r.line part rest')) in
     let long : length front ≡ 4097 = length-append r.line part ∙ size in
@@ -241,7 +241,7 @@ by-length A old r r' left' rest begun plain (part, taken, plain_part, size) ende
     let sized = ap first_size whole ∙ size-plain front rest' plain_front in (
       record {
         rest' = rest';
-        left = record { behind = left.behind; left_is = left.left_is; rest_is = refl; at_end = λ is. nothing-in-front part rest' (sym later ∙ left.at_end (sym ended ∙ is)) };
+        left = record { unread = left.unread; left_is = left.left_is; rest_is = refl; at_end = λ is. nothing-in-front part rest' (sym later ∙ left.at_end (sym ended ∙ is)) };
         used = front;
         whole = whole;
         later = omega (arith, next);
@@ -262,7 +262,7 @@ begins old new left rest same has =
     let ended : new.ended ≡ old.ended = ap (λ (v : ReaderView). v.ended) same in
     record {
       later = rest;
-      left_is = record { behind = has.behind; left_is = has.left_is; rest_is = has.rest_is ∙ ap (λ xs. xs ++ has.behind) (sym ahead); at_end = λ is. has.at_end (sym ended ∙ is) };
+      left_is = record { unread = has.unread; left_is = has.left_is; rest_is = has.rest_is ∙ ap (λ xs. xs ++ has.unread) (sym ahead); at_end = λ is. has.at_end (sym ended ∙ is) };
       whole = ap (λ xs. xs ++ rest) (sym (ap (λ (v : ReaderView). v.line) same));
     }
 
@@ -277,9 +277,9 @@ pub goes-on : (r r' : ReaderView) (left : Option (List ℕ)) (rest : List ℕ) �
 goes-on r r' left rest (none, plain, line) ended begun =
     let has = begun.left_is in
     record {
-      later = has.behind;
-      left_is = record { behind = has.behind; left_is = has.left_is; rest_is = ap (λ xs. xs ++ has.behind) (sym none); at_end = λ is. nothing-in-front r.ahead has.behind (sym has.rest_is ∙ has.at_end (sym ended ∙ is)) };
-      whole = begun.whole ∙ (ap (λ xs. r.line ++ xs) has.rest_is ∙ (sym (append_assoc r.line r.ahead has.behind) ∙ ap (λ xs. xs ++ has.behind) (sym line)));
+      later = has.unread;
+      left_is = record { unread = has.unread; left_is = has.left_is; rest_is = ap (λ xs. xs ++ has.unread) (sym none); at_end = λ is. nothing-in-front r.ahead has.unread (sym has.rest_is ∙ has.at_end (sym ended ∙ is)) };
+      whole = begun.whole ∙ (ap (λ xs. r.line ++ xs) has.rest_is ∙ (sym (append_assoc r.line r.ahead has.unread) ∙ ap (λ xs. xs ++ has.unread) (sym line)));
     }
 
 -- the front of what was read ahead that makes a line too long

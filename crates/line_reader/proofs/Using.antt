@@ -15,7 +15,7 @@ uses-none r left rest has = record {
   whole = refl;
   lines = refl;
   closed = λ is. refl;
-  behind = refl;
+  advanced = refl;
   number = omega arith;
   stays = λ is. is;
 }
@@ -55,7 +55,7 @@ uses-more a b c left left' rest used used' u v =
       closed = λ is.
           let before = not-both b.ended (λ over. true-not-false c.ended (v.stays over) is) in
           closed-append used used' (u.closed before) (v.closed is);
-      behind = v.behind ∙ (ap (λ xs. after_lines (length (lines_of used')) xs) u.behind ∙ (sym (after_lines-add (length (lines_of used)) (length (lines_of used')) rest) ∙ ap (λ n. after_lines n rest) (sym many)));
+      advanced = v.advanced ∙ (ap (λ xs. after_lines (length (lines_of used')) xs) u.advanced ∙ (sym (after_lines-add (length (lines_of used)) (length (lines_of used')) rest) ∙ ap (λ n. after_lines n rest) (sym many)));
       number = v.number ∙ (ap (λ n. n + length (lines_of used')) u.number ∙ omega (arith, many));
       stays = λ is. v.stays (u.stays is);
     }
@@ -93,14 +93,14 @@ stands-after a b c left left' rest used number u v =
       left = v.left;
       used = used ++ v.used;
       whole = u.whole ∙ (ap (λ xs. used ++ xs) v.whole ∙ sym (append_assoc used v.used v.rest'));
-      decides = length-append used v.used ∙ (omega (arith, size, v.decides) ∙ sym (ap (λ n. decided n rest) there ∙ decided-after k j rest u.rest' u.behind (omega (arith, v.later))));
+      decides = length-append used v.used ∙ (omega (arith, size, v.decides) ∙ sym (ap (λ n. decided n rest) there ∙ decided-after k j rest u.rest' u.advanced (omega (arith, v.later))));
       later = omega (arith, v.later, u.number);
       few = v.few;
     }
 
 -- where nothing is left, the end decides the line after the last
 nothing-ahead : (r : ReaderView) (left : Option (List ℕ)) → HasRest r left [] → length r.ahead ≤ 4096
-nothing-ahead r left has = omega (arith, ap length (no-front r.ahead has.behind (sym has.rest_is)))
+nothing-ahead r left has = omega (arith, ap length (no-front r.ahead has.unread (sym has.rest_is)))
 
 pub stands-at-end : (a b c : ReaderView) (left left' : Option (List ℕ)) (rest used : List ℕ) (u : Uses a b left rest used) (number : ℕ)
     → u.rest' ≡ [] → HasRest c left' [] → number ≡ b.number + 1 → StandsAt a c left' rest number
@@ -115,7 +115,7 @@ stands-at-end a b c left left' rest used u number none has is =
       used = used;
       whole = whole;
       later = omega (arith, is, u.number);
-      decides = omega (arith, size) ∙ sym (ap (λ n. decided n rest) there ∙ (decided-after k 1 rest u.rest' u.behind (omega arith) ∙ ap (λ xs. (length rest - length xs) + decided 1 xs) none));
+      decides = omega (arith, size) ∙ sym (ap (λ n. decided n rest) there ∙ (decided-after k 1 rest u.rest' u.advanced (omega arith) ∙ ap (λ xs. (length rest - length xs) + decided 1 xs) none));
       few = nothing-ahead c left' has;
     }
 

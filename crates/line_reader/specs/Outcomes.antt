@@ -20,7 +20,7 @@ pub record Uses (old new : ReaderView) (left' : Option (List ℕ)) (rest used : 
   pub whole : rest ≡ used ++ rest'
   pub lines : lines_of rest ≡ lines_of used ++ lines_of rest'
   pub closed : new.ended ≡ false → (split_lines used).1 ≡ []
-  pub behind : rest' ≡ after_lines (length (lines_of used)) rest
+  pub advanced : rest' ≡ after_lines (length (lines_of used)) rest
   pub number : new.number ≡ old.number + length (lines_of used)
   pub stays : old.ended ≡ true → new.ended ≡ true
 

@@ -18,7 +18,7 @@ fresh most = record { ahead = []; line = []; number = 0; most = most; events = 0
 -- what a reader has before it, where its source tells: what was read ahead and what the source has left together, and
 -- nothing once the end was met
 pub record HasRest (r : ReaderView) (left : Option (List ℕ)) (rest : List ℕ) : Type 0 where
-  pub behind : List ℕ
-  pub left_is : left ≡ Some behind
-  pub rest_is : rest ≡ r.ahead ++ behind
+  pub unread : List ℕ
+  pub left_is : left ≡ Some unread
+  pub rest_is : rest ≡ r.ahead ++ unread
   pub at_end : r.ended ≡ true → rest ≡ []

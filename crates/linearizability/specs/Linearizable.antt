@@ -57,9 +57,9 @@ module _ {C O : Type 0} where
       record { client = client; request = request; output = output; before = before } ∷ []
 
   -- each output that a client is told after the items before
-  abbrev pub told_behind : Seen C O → Seen C O → List (Told C O)
-  told_behind before [] = []
-  told_behind before (x ∷ rest) = told_by before x ++ told_behind (before ++ x ∷ []) rest
+  abbrev pub told_since : Seen C O → Seen C O → List (Told C O)
+  told_since before [] = []
+  told_since before (x ∷ rest) = told_by before x ++ told_since (before ++ x ∷ []) rest
 
   -- what stands beside the request of this name
   abbrev pub beside : ℕ → ℕ → List (RaftInput C × O) → Option O
@@ -77,12 +77,12 @@ module _ {C O : Type 0} where
 
   -- each output that clients are told is the machine's
   abbrev pub AreOutputs : {S : Type 0} → MachineMeaning S C O → List (RaftInput C) → Seen C O → Type 0
-  AreOutputs m order seen = Each (λ t. beside t.client t.request (with_outputs m order) ≡ Some t.output) (told_behind [] seen)
+  AreOutputs m order seen = Each (λ t. beside t.client t.request (with_outputs m order) ≡ Some t.output) (told_since [] seen)
 
   -- no client is told an output before the request, and each that stands before it in the order, was put in: so a
   -- request that is first put in after another was answered stands after it (the real-time order of Herlihy and Wing)
   abbrev pub AreInTime : List (RaftInput C) → Seen C O → Type 0
-  AreInTime order seen = Each (λ t. Each (HasInput t.before) (up_to t.client t.request order)) (told_behind [] seen)
+  AreInTime order seen = Each (λ t. Each (HasInput t.before) (up_to t.client t.request order)) (told_since [] seen)
 
   -- one machine that takes the requests in this order explains what clients see. Its parts are to be taken together: for
   -- an output of a request that is not in the order `up_to` gives the whole order, and with a request that is there twice

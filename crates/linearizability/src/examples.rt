@@ -1,6 +1,6 @@
 ghost use Rattle.std.specs.Prelude.{◌≡◌, [], ◌∷◌, Some};
 ghost use Rattle.linearizability.specs.Examples.{asks, put, put_at, say_full, tell, tell_at, turn_away};
-ghost use Rattle.linearizability.specs.Linearizable.{IsLinearizable, beside, told_behind, up_to, with_outputs};
+ghost use Rattle.linearizability.specs.Linearizable.{IsLinearizable, beside, told_since, up_to, with_outputs};
 ghost use Rattle.vst_base.specs.Examples.{counter};
 
 /// What one machine that adds, and answers with the sum before, explains, and what it doesn't.
@@ -37,7 +37,7 @@ pub fn worked_orders()
 
 /// The parts that it is made of.
 pub fn worked_parts()
-    ensures told_with_what_was_before { told_behind [] (put (asks 7 1 5) ∷ tell 7 1 0 ∷ turn_away 9 1 ∷ []) ≡ record { client = 7; request = 1; output = 0; before = put (asks 7 1 5) ∷ [] } ∷ [] }
+    ensures told_with_what_was_before { told_since [] (put (asks 7 1 5) ∷ tell 7 1 0 ∷ turn_away 9 1 ∷ []) ≡ record { client = 7; request = 1; output = 0; before = put (asks 7 1 5) ∷ [] } ∷ [] }
     ensures up_to_a_request { up_to 7 1 (asks 9 1 3 ∷ asks 7 1 5 ∷ asks 9 2 1 ∷ []) ≡ asks 9 1 3 ∷ asks 7 1 5 ∷ [] }
     ensures outputs { with_outputs counter (asks 9 1 3 ∷ asks 7 1 5 ∷ asks 9 2 1 ∷ []) ≡ (asks 9 1 3, 0) ∷ (asks 7 1 5, 3) ∷ (asks 9 2 1, 8) ∷ [] }
     ensures by_client_and_request { beside 9 2 (with_outputs counter (asks 9 1 3 ∷ asks 7 1 5 ∷ asks 9 2 1 ∷ [])) ≡ Some 8 }

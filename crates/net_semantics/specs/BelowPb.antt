@@ -40,7 +40,7 @@ module _ {C O : Type 0} where
   pub record Redirects (before : List (Item C (PbOut O))) (o : PbOut O) : Type 0 where
     pub front : List (Item C (PbOut O))
     pub input : C
-    pub behind : before ≡ front ++ item.Input 1 input ∷ []
+    pub last_is : before ≡ front ++ item.Input 1 input ∷ []
     pub redirect : o ≡ told.Redirect
 
   -- and nothing else comes from there
@@ -50,6 +50,6 @@ module _ {C O : Type 0} where
   -- a trace is explained by a machine: the primary's outputs are the machine's, over the image
   pub record IsExplainedBy {S : Type 0} (m : MachineMeaning S C O) (items : List (Item C (PbOut O))) : Type 0 where
     pub outputs : outputs_at 0 items ≡ map told.Reply (fold m (below_pb items))
-    pub behind : AnswersInputs items
+    pub answers : AnswersInputs items
     pub redirected : RedirectsAtOnce items
     pub nothing_else : OnlyRedirects items

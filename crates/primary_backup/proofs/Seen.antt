@@ -27,7 +27,7 @@ module _ {C O : Type 0} where
   redirected_past x later other h (y ∷ ys) after c e = let f : later ≡ ys ++ item.Input 1 c ∷ after = cc in h ys after c f
 
   redirects_past : (x : Item C (PbOut O)) (before : List (Item C (PbOut O))) (o : PbOut O) → Redirects before o → Redirects (x ∷ before) o
-  redirects_past x before o h = record { front = x ∷ h.front; input = h.input; behind = ap (λ zs. x ∷ zs) h.behind; redirect = h.redirect }
+  redirects_past x before o h = record { front = x ∷ h.front; input = h.input; last_is = ap (λ zs. x ∷ zs) h.last_is; redirect = h.redirect }
 
   nothing_past : (x : Item C (PbOut O)) (later : List (Item C (PbOut O))) → ((o : PbOut O) → x ≡ item.Output 1 o → ⊥) → OnlyRedirects later → OnlyRedirects (x ∷ later)
   nothing_past x later other h [] after o e = let f : x ≡ item.Output 1 o = cc in absurd (other o f)
@@ -47,7 +47,7 @@ module _ {C O : Type 0} where
   nothing_but_redirect c later h (y ∷ []) after o e =
       let f : y ≡ item.Input 1 c = cc in
       let g : o ≡ told.Redirect = cc in
-      record { front = []; input = c; behind = ap (λ z. z ∷ []) f; redirect = g }
+      record { front = []; input = c; last_is = ap (λ z. z ∷ []) f; redirect = g }
   nothing_but_redirect c later h (y ∷ z ∷ zs) after o e =
       let f : later ≡ zs ++ item.Output 1 o ∷ after = cc in
       redirects_past y (z ∷ zs) o (redirects_past z zs o (h zs after o f))
@@ -141,7 +141,7 @@ module _ {S C O : Type 0} (m : MachineMeaning S C O) where
   pub explained : (items : List (Item C (PbOut O))) (p b : S) → MaySee m.init [] items p b → IsExplainedBy m items
   explained items p b h = record {
     outputs = h.outputs;
-    behind = λ before after o e. let f = h.behind before after o e in omega arith;
+    answers = λ before after o e. let f = h.behind before after o e in omega arith;
     redirected = h.redirected;
     nothing_else = h.nothing_else;
   }

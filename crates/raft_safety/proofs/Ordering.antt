@@ -11,7 +11,7 @@ use Rattle.raft_free.specs.Events.{In}
 use Rattle.raft_types.specs.declared.client.RaftInput.{RaftInput}
 use Rattle.raft_safety.specs.Applied.{applied_by}
 use Rattle.raft_safety.specs.Runs.{seen}
-use Rattle.linearizability.specs.Linearizable.{AreDistinct, AreOther, Each, HasInput, Seen, Told, beside, is_named, told_behind, up_to, with_outputs}
+use Rattle.linearizability.specs.Linearizable.{AreDistinct, AreOther, Each, HasInput, Seen, Told, beside, is_named, told_since, up_to, with_outputs}
 use Rattle.raft_safety.specs.Safety.{RunsAreLinearizable}
 use Rattle.raft_safety.proofs.Explaining.{IsExplained, in_executed, in_requests}
 use Rattle.raft_safety.proofs.Growing.{whole}
@@ -114,6 +114,6 @@ runs_are_linearizable S C O m n ss r =
         once = distinct (executed rs) (executed-rises rs);
         put_in = each_from (HasInput s) (executed rs) (λ x h. all_put_in s es w.sofar.put_in x (in_executed x rs h));
       };
-      outputs = each_from _ (told_behind [] s) (λ t h. its_output m rs t (w.sofar.told t h));
-      in_time = each_from _ (told_behind [] s) (λ t h. its_time m rs t (w.sofar.told t h));
+      outputs = each_from _ (told_since [] s) (λ t h. its_output m rs t (w.sofar.told t h));
+      in_time = each_from _ (told_since [] s) (λ t h. its_time m rs t (w.sofar.told t h));
     }

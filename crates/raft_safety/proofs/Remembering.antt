@@ -33,7 +33,7 @@ use Rattle.raft_xform.specs.Nodes.{RaftView}
 use Rattle.raft_xform.specs.Raft.{raft, raft_recovery}
 use Rattle.raft_safety.specs.Applied.{applied_list, applied_lists, longest, longest_from}
 use Rattle.raft_safety.specs.Runs.{RaftWorld, seen}
-use Rattle.linearizability.specs.Linearizable.{HasInput, Seen, Told, told_behind}
+use Rattle.linearizability.specs.Linearizable.{HasInput, Seen, Told, told_since}
 use Rattle.raft_safety.specs.Mirrors.{Mirrors}
 use Rattle.raft_safety.proofs.Acting.{Proposes}
 use Rattle.raft_safety.proofs.Advancing.{Tells, news}
@@ -43,7 +43,7 @@ use Rattle.raft_safety.proofs.Freed.{node_is}
 use Rattle.raft_safety.proofs.Listing.{all_in, got_in, in_take}
 use Rattle.raft_safety.proofs.Longest.{Best, WasApplied, longest_is_best, was_later}
 use Rattle.raft_safety.proofs.Mirroring.{AreTaken, Goes, asked_more, first_mirror, first_stands, first_taken, proposes_weaker, puts, run_then, step_goes}
-use Rattle.raft_safety.proofs.Told.{IsTold, told_behind-append, told_outputs}
+use Rattle.raft_safety.proofs.Told.{IsTold, told_since-append, told_outputs}
 use Rattle.raft_safety.proofs.Turning.{IsTaken, Stands, Turn, WasAsked, WasPutIn, turn}
 
 -- of a cluster after what clients have seen, where this is the longest list that was applied
@@ -58,7 +58,7 @@ pub record Sofar {S C O : Type 0} (m : MachineMeaning S C O) (n : ℕ) (w : Raft
   pub each : (i : ℕ) → i < n → Front (applied_list (w.state i)) best
   pub computes : (i : ℕ) → Computes m (w.state i)
   pub put_in : (x : Entry C) → In x best → WasPutIn seen x
-  pub told : (t : Told C O) → In t (told_behind [] seen) → IsExplained m (requests best) t
+  pub told : (t : Told C O) → In t (told_since [] seen) → IsExplained m (requests best) t
 
 -- the same later, where what was applied has only grown
 pub record Further {S C O : Type 0} (m : MachineMeaning S C O) (n : ℕ) (w : RaftWorld S C O) (seen : Seen C O) (old new : List (Entry C)) : Type 0 where
@@ -116,7 +116,7 @@ module _ {S C O : Type 0} (m : MachineMeaning S C O) (n : ℕ) where
       (s (omega arith) le).0.1
 
   sofar_on : {w v : RaftWorld S C O} {seen : Seen C O} {best : List (Entry C)} (more : Seen C O) (sf : Sofar m n w seen best) (g : Goes m n sf.world v (seen ++ more)) →
-      ((i : ℕ) → Computes m (v.state i)) → ((t : Told C O) → In t (told_behind seen more) → IsExplainedAt m n v t) → Further m n v (seen ++ more) best (longest n (applied_lists v) best)
+      ((i : ℕ) → Computes m (v.state i)) → ((t : Told C O) → In t (told_since seen more) → IsExplainedAt m n v t) → Further m n v (seen ++ more) best (longest n (applied_lists v) best)
   sofar_on {w = w} {v = v} {seen = seen} {best = best} more sf g computes explained = record {
     sofar = record {
       world = g.world;
@@ -129,7 +129,7 @@ module _ {S C O : Type 0} (m : MachineMeaning S C O) (n : ℕ) where
       each = b.each;
       computes = computes;
       put_in = b.all (λ x h. asked_more seen more (request_of x) (sf.put_in x h)) (λ i x h. from_log more sf g i x (in_take x (v.state i).applied (v.state i).log h));
-      told = λ t h. elim (in_append t (told_behind [] seen) (told_behind seen more) (rw (told_behind-append [] seen more) at h)) [
+      told = λ t h. elim (in_append t (told_since [] seen) (told_since seen more) (rw (told_since-append [] seen more) at h)) [
         | inl q ↦ explained_more m (requests best) (requests (longest n (applied_lists v) best)) t (requests_front b.front) (sf.told t q)
         | inr q ↦ (let x = explained t q in explained_more m (requests (applied_list (v.state x.node))) (requests (longest n (applied_lists v) best)) t (requests_front (b.each x.node x.below)) x.explained)
       ];
@@ -140,7 +140,7 @@ module _ {S C O : Type 0} (m : MachineMeaning S C O) (n : ℕ) where
       b : Best (WasPutIn (seen ++ more)) n v g.world n best (longest n (applied_lists v) best)
       b = longest_is_best (WasPutIn (seen ++ more)) n v g.world g.mirrors best (was_later g.late g.run sf.was) n
 
-  told_input : (before : Seen C O) (node : ℕ) (i : Option (RaftInput C)) (t : Told C O) → In t (told_behind before (input_item node i)) → ⊥
+  told_input : (before : Seen C O) (node : ℕ) (i : Option (RaftInput C)) (t : Told C O) → In t (told_since before (input_item node i)) → ⊥
   told_input before node None t h = h
   told_input before node (Some i) t h = h
 
@@ -169,9 +169,9 @@ module _ {S C O : Type 0} (m : MachineMeaning S C O) (n : ℕ) where
       outputs : Seen C O
       outputs = map (λ o. item.Output i o) e.effect.outputs
 
-      told_now : (x : Told C O) → In x (told_behind seen (items_of_event (Some e))) → IsTold (seen ++ input_item i e.input) e.effect.outputs x
+      told_now : (x : Told C O) → In x (told_since seen (items_of_event (Some e))) → IsTold (seen ++ input_item i e.input) e.effect.outputs x
       told_now x h =
-          elim (in_append x (told_behind seen (input_item i e.input)) (told_behind (seen ++ input_item i e.input) outputs) (rw (told_behind-append seen (input_item i e.input) outputs) at h))
+          elim (in_append x (told_since seen (input_item i e.input)) (told_since (seen ++ input_item i e.input) outputs) (rw (told_since-append seen (input_item i e.input) outputs) at h))
           [ inl q ↦ absurd (told_input seen i e.input x q) | inr q ↦ told_outputs (seen ++ input_item i e.input) i e.effect.outputs x q ]
 
       was_put_in : (x : Entry C) → In x e.effect.state.log → WasPutIn (seen ++ input_item i e.input) x

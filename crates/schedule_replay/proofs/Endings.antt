@@ -42,8 +42,8 @@ pub given-of : (old new : ReaderView) (left' : Option (List ℕ)) (rest : List �
 given-of old new left' rest n s = (
   s.used ++ new.ahead,
   record {
-    others = s.left.behind;
-    whole = s.whole ∙ (ap (λ xs. s.used ++ xs) s.left.rest_is ∙ sym (append_assoc s.used new.ahead s.left.behind));
+    others = s.left.unread;
+    whole = s.whole ∙ (ap (λ xs. s.used ++ xs) s.left.rest_is ∙ sym (append_assoc s.used new.ahead s.left.unread));
     left_is = s.left.left_is;
   },
   omega (arith, length-append s.used new.ahead, s.decides, s.few),

@@ -119,7 +119,7 @@ module _ (h : Header) (r : ReaderView) (most : r.most ≡ most_lines) (events : 
         let j = n - r.number in
         let there : n - 0 ≡ k + j = omega (arith, a.later, u.number) in
         let size = ap length u.whole ∙ length-append used u.rest' in
-        let decides = ap (λ i. decided i bytes) there ∙ decided-after k j bytes u.rest' u.behind (omega (arith, a.later)) in
+        let decides = ap (λ i. decided i bytes) there ∙ decided-after k j bytes u.rest' u.advanced (omega (arith, a.later)) in
         record {
           refused = ap (λ (x : Replayed). x.refused) whole-same ∙ a.refused;
           written = subst (λ (x : Replayed). Gained out out' x.out) (sym whole-same) a.written;
@@ -134,7 +134,7 @@ module _ (h : Header) (r : ReaderView) (most : r.most ≡ most_lines) (events : 
 -- a reader that has read nothing has the whole text before it
 pub fresh-rest : (r : ReaderView) (left : Option (List ℕ)) (bytes : List ℕ) → r ≡ fresh most_lines → left ≡ Some bytes → HasRest r left bytes
 fresh-rest r left bytes is told = record {
-  behind = bytes;
+  unread = bytes;
   left_is = told;
   rest_is = ap (λ (v : ReaderView). v.ahead ++ bytes) (sym is);
   at_end = λ over. let both : ◌≡◌ {A = Bool} false true = sym (ap (λ (v : ReaderView). v.ended) is) ∙ over in cc;

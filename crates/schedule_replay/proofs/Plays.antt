@@ -227,7 +227,7 @@ module _ {I : Type 0} {f : List ℕ → Option I} {old now : ReaderView} {left' 
         )
 
 nothing-left : (new : ReaderView) (left : Option (List ℕ)) → HasRest new left [] → left ≡ Some []
-nothing-left new left has = has.left_is ∙ ap Some (nothing-after new.ahead has.behind (sym has.rest_is)) where
+nothing-left new left has = has.left_is ∙ ap Some (nothing-after new.ahead has.unread (sym has.rest_is)) where
   nothing-after : (xs ys : List ℕ) → xs ++ ys ≡ [] → ys ≡ []
   nothing-after [] ys e = e
   nothing-after (x ∷ xs) ys e = cc

@@ -222,16 +222,16 @@ module _ {I : Type 0} (f : List ℕ → Option I) (old mid new : ReaderView) (le
 pub stands-counted : (old r r' : ReaderView) (left' : Option (List ℕ)) (rest : List ℕ) (n k : ℕ) → r' ≡ record r { events = k } → StandsAt old r left' rest n → StandsAt old r' left' rest n
 stands-counted old r r' left' rest n k same s = rw same (record { rest' = s.rest'; left = has-counted s.left; used = s.used; whole = s.whole; later = s.later; decides = s.decides; few = s.few }) where
   has-counted : {xs : List ℕ} → HasRest r left' xs → HasRest (record r { events = k }) left' xs
-  has-counted h = record { behind = h.behind; left_is = h.left_is; rest_is = h.rest_is; at_end = h.at_end }
+  has-counted h = record { unread = h.unread; left_is = h.left_is; rest_is = h.rest_is; at_end = h.at_end }
 
 pub uses-counted : (old r r' : ReaderView) (left' : Option (List ℕ)) (rest used : List ℕ) (k : ℕ) → r' ≡ record r { events = k } → Uses old r left' rest used → Uses old r' left' rest used
 uses-counted old r r' left' rest used k same u = rw same (record {
   rest' = u.rest';
-  left = record { behind = u.left.behind; left_is = u.left.left_is; rest_is = u.left.rest_is; at_end = u.left.at_end };
+  left = record { unread = u.left.unread; left_is = u.left.left_is; rest_is = u.left.rest_is; at_end = u.left.at_end };
   whole = u.whole;
   lines = u.lines;
   closed = u.closed;
-  behind = u.behind;
+  advanced = u.advanced;
   number = u.number;
   stays = u.stays;
 })

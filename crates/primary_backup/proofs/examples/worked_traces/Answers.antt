@@ -16,7 +16,7 @@ returns-clause-one_reply c =
     explained adder (item.Input 0 5 ∷ item.Input 0 7 ∷ item.Output 0 (told.Reply 0) ∷ []) 5 5 first
 
 pub returns-clause-reply_before_its_input : goal.returns-clause-reply_before_its_input
-returns-clause-reply_before_its_input c h = let f = h.behind [] (item.Input 0 5 ∷ []) (told.Reply 0) refl in omega arith
+returns-clause-reply_before_its_input c h = let f = h.answers [] (item.Input 0 5 ∷ []) (told.Reply 0) refl in omega arith
 
 pub returns-clause-not_redirected : goal.returns-clause-not_redirected
 returns-clause-not_redirected c h = let f = (h.redirected [] [] 4 refl).1 in cc
@@ -30,7 +30,7 @@ returns-clause-reply_of_the_backup c h = let f = (h.redirected [] (item.Output 1
 pub returns-clause-redirect_of_nothing : goal.returns-clause-redirect_of_nothing
 returns-clause-redirect_of_nothing c h =
     let found = h.nothing_else [] [] told.Redirect refl in
-    no_cut found.front [] (item.Input 1 found.input) found.behind
+    no_cut found.front [] (item.Input 1 found.input) found.last_is
 
 -- the last of two items
 last_of_two : {X : Type 0} (x y z : X) (front : List X) → x ∷ y ∷ [] ≡ front ++ z ∷ [] → y ≡ z
@@ -41,5 +41,5 @@ last_of_two x y z (a ∷ b ∷ front) e = let f : [] ≡ front ++ z ∷ [] = cc 
 pub returns-clause-redirected_twice : goal.returns-clause-redirected_twice
 returns-clause-redirected_twice c h =
     let found = h.nothing_else (item.Input 1 4 ∷ item.Output 1 told.Redirect ∷ []) [] told.Redirect refl in
-    let f = last_of_two (item.Input 1 4) (item.Output 1 told.Redirect) (item.Input 1 found.input) found.front found.behind in
+    let f = last_of_two (item.Input 1 4) (item.Output 1 told.Redirect) (item.Input 1 found.input) found.front found.last_is in
     cc
