@@ -1,5 +1,5 @@
 -- The lock server as functions.
-use Rattle.std.specs.Prelude.{◌≡◌, ℕ, ◌<◌, ◌≤◌, Bool, true, false, List, [], ◌∷◌, ◌++◌, drop, nat_lt, All, if◌then◌else◌}
+use Rattle.std.specs.Prelude.{◌≡◌, ℕ, ◌<◌, Bool, true, false, List, [], ◌∷◌, ◌++◌, drop, nat_lt, All, if◌then◌else◌}
 use Rattle.handler_trait.specs.Handling.{Effect, Meaning}
 use Rattle.vst_base.specs.declared.lock.LockInput.{LockInput}
 use Rattle.vst_base.specs.declared.lock.LockInput.TheVariants as ask

@@ -3,13 +3,12 @@ use Rattle.std.proofs.Common.{◌≡◌, ℕ, zero, suc, ◌+◌, ◌-◌, ◌<�
 use Rattle.outside.specs.Wholes.{Gained, GainedFront}
 use Rattle.net_semantics.specs.RunLaws.{place_and_why-none, run_from-append}
 use Rattle.net_semantics.specs.Runs.{first_refused_from}
-use Rattle.net_semantics.specs.Steps.{next, refusal_of}
+use Rattle.net_semantics.specs.Steps.{next}
 use Rattle.net_semantics.specs.Worlds.{first_world}
 use Rattle.rand_pcg.specs.Lcg.{Lcg}
 use Rattle.schedule_make.specs.Made.{Inputs, after_words, made_from}
 use Rattle.schedule_make.specs.Making.{CanStep, HasMade, MakingView, step_after}
 use Rattle.schedule_text.specs.Printing.{as_line, step_text, steps_text}
-use Rattle.vst_base.specs.declared.step.Item.{Item}
 use Rattle.vst_base.specs.declared.step.Step.{Step}
 use Rattle.xform_stack.specs.Running.{Progress, System, world_of}
 use Rattle.line_reader.specs.declared.fault.LineFault.{LineFault}

@@ -8,10 +8,10 @@ use Rattle.vst_base.specs.declared.stack.StackRow.{StackRow}
 use Rattle.schedule_text.specs.Headers.{header_text}
 use Rattle.schedule_text.specs.Printing.{as_line, steps_text}
 use Rattle.schedule_text.specs.declared.header.Header.{Header}
-use Rattle.schedule_replay.specs.Replaying.{Replayed, counts_of, no_counts, image_lines, trace_lines}
+use Rattle.schedule_replay.specs.Replaying.{counts_of, no_counts}
 use Rattle.schedule_replay.specs.declared.done.Done.{Done}
 use Rattle.stacks.specs.Kinds.{header_on}
-use Rattle.stacks.specs.Stack.{AnyStack, Entry, Stack, found_or}
+use Rattle.stacks.specs.Stack.{AnyStack, Stack, found_or}
 use Rattle.stacks.specs.Table.{stack_at}
 
 -- four nodes, five where they crash, so that a majority can outlive two, or as many as the stack can have

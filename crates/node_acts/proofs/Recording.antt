@@ -1,5 +1,5 @@
 -- A record is written after the last gate, and then the gate is opened.
-use Rattle.std.proofs.Common.{◌≡◌, ◌≢◌, ℕ, suc, ◌+◌, ◌-◌, ◌<◌, ◌≤◌, true, false, nat_le, List, [], ◌∷◌, ◌++◌, length, take, drop, Result, Ok, refl, sym, ap, subst, ◌∙◌, ◌⊎◌, inl, inr, arith, append_assoc, length-append, take-append-drop}
+use Rattle.std.proofs.Common.{◌≡◌, ℕ, suc, ◌+◌, ◌-◌, ◌<◌, List, [], ◌∷◌, ◌++◌, length, take, drop, Ok, refl, sym, ap, subst, ◌∙◌, ◌⊎◌, inl, inr, arith, append_assoc, length-append, take-append-drop}
 use Rattle.std.proofs.lemmas.Bool.{le-leb}
 use Rattle.disk.specs.Acts.{Act}
 use Rattle.disk.specs.Areas.{area_at}
@@ -16,7 +16,7 @@ use Rattle.vst_base.specs.declared.stack.StackId.{StackId}
 use Rattle.wire_fields.specs.Formats.{Format, IsFormat}
 use Rattle.wire_messages.specs.EntryBytes.{entry}
 use Rattle.node_body.specs.Bodies.{entry_in}
-use Rattle.node_body.specs.FoundLaws.{StandsAtGate, Follows, agrees, harmless, either, open_adds}
+use Rattle.node_body.specs.FoundLaws.{Follows, harmless, either, open_adds}
 use Rattle.node_body.specs.GateLaws.{GateStands, gate_stands}
 use Rattle.node_body.specs.Journals.{change, patched, spell_change}
 use Rattle.node_body.specs.SlotLaws.{change_in, held_with}
@@ -24,10 +24,9 @@ use Rattle.node_body.specs.Slots.{slot_found, state_of}
 use Rattle.node_body.specs.VoteLaws.{owner_nodes}
 use Rattle.node_body.specs.declared.records.Record.{Record}
 use Rattle.node_body.specs.declared.slot.Held.{Held}
-use Rattle.node_body.specs.declared.version.Version.TheVariants.{Two}
 use Rattle.node_acts.specs.Stores.{StoreView, store_of, Holds, Continues, found_of, found_by, stays}
 use Rattle.node_acts.specs.StateActs.{record_to, record_bytes, append_acts}
-use Rattle.node_acts.proofs.Helds.{IsSlot, holds_is, holds_rests, holds_slot, kept_same, stays_few}
+use Rattle.node_acts.proofs.Helds.{IsSlot, holds_rests, holds_slot, kept_same, stays_few}
 use Rattle.node_acts.proofs.Overs.{over_front, over_all, take_front, take_before, drop_front}
 use Rattle.node_acts.proofs.Resting.{as_bytes, bytes_rest, resting_bytes, after_patch}
 

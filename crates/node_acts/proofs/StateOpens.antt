@@ -1,15 +1,15 @@
 -- An opening, by what it finds.
-use Rattle.std.proofs.Common.{◌≡◌, ◌≢◌, ℕ, zero, suc, ◌+◌, ◌-◌, ◌<◌, ◌≤◌, true, List, [], ◌∷◌, ◌++◌, length, take, Result, Ok, Err, refl, sym, ap, subst, ◌∙◌, ◌⊎◌, inl, inr, arith, length-append}
+use Rattle.std.proofs.Common.{◌≡◌, ℕ, zero, suc, ◌+◌, ◌-◌, ◌<◌, ◌≤◌, true, List, [], ◌∷◌, ◌++◌, length, take, Result, Ok, Err, refl, sym, ap, subst, ◌∙◌, ◌⊎◌, inl, inr, arith, length-append}
 use Rattle.std.proofs.lemmas.Bool.{cases_lt}
 use Rattle.std.proofs.lemmas.List.{take_all}
 use Rattle.disk.specs.Acts.{Act}
 use Rattle.disk.specs.Areas.{area_at, each}
-use Rattle.disk.specs.Disk.{Disk, Image, NothingPending, contents, synced, after, may_leave}
+use Rattle.disk.specs.Disk.{Disk, Image, contents, synced, after, may_leave}
 use Rattle.disk.specs.DiskLaws.{IsCutShort}
 use Rattle.disk.proofs.Disks.{settled_stays}
 use Rattle.raft_types.specs.Keeping.{KeptView}
-use Rattle.slots.specs.Opening.{Is, Fresh, Held, named, opening, OpensAs}
-use Rattle.slots.specs.Saving.{next, save_acts, sync_acts, fresh_acts, open_acts, move_acts}
+use Rattle.slots.specs.Opening.{Held, named, opening}
+use Rattle.slots.specs.Saving.{sync_acts, fresh_acts, open_acts}
 use Rattle.slots.specs.SavingLaws.{Rests}
 use Rattle.slots.proofs.Images.{held_from, contents_at}
 use Rattle.slots.proofs.Opens.{calm, opens, moves}
@@ -17,7 +17,7 @@ use Rattle.slots.proofs.Turning.{shorts}
 use Rattle.vst_base.specs.declared.stack.StackId.{StackId}
 use Rattle.wire_fields.specs.Formats.{Format, IsFormat}
 use Rattle.node_body.specs.Bodies.{body, body_of}
-use Rattle.node_body.specs.GateLaws.{GateStands, gate_stands}
+use Rattle.node_body.specs.GateLaws.{gate_stands}
 use Rattle.node_body.specs.Slots.{base_of, slot_found, state_of}
 use Rattle.node_body.specs.declared.commands.TheConstants.{MAX_COMMAND}
 use Rattle.node_body.specs.declared.slot.Held as slot
@@ -25,11 +25,11 @@ use Rattle.node_body.specs.declared.version.Version.{Version}
 use Rattle.node_body.specs.declared.version.Version.TheVariants.{One, Two}
 use Rattle.node_body.specs.declared.who.Who.{Who}
 use Rattle.node_body.specs.declared.why.Why.{Why}
-use Rattle.node_acts.specs.Stores.{StoreView, store_of, Holds, found_of, found_by}
+use Rattle.node_acts.specs.Stores.{store_of, Holds, found_of, found_by}
 use Rattle.node_acts.specs.StateActs.{first_kept, store_at_base, store_found, renewing_acts, acts_on_slot, acts_by_selector, opening_acts}
 use Rattle.node_acts.specs.StateLaws.{IsAsFound, OpeningFits}
 use Rattle.node_acts.proofs.Helds.{IsSlot, holds_slot}
-use Rattle.node_acts.proofs.Resting.{as_bytes, bytes_rest, after_save}
+use Rattle.node_acts.proofs.Resting.{as_bytes, bytes_rest}
 use Rattle.node_acts.proofs.StateSaves.{base_found, base_is, holds_base}
 
 -- after three syncs each area is as it reads

@@ -1,12 +1,11 @@
 -- A save, by what it does: nothing, a base, or a record.
-use Rattle.std.proofs.Common.{◌≡◌, ◌≢◌, ℕ, zero, suc, ◌+◌, ◌-◌, ◌≤◌, Bool, true, false, ◌==◌, nat_eq, List, [], ◌∷◌, ◌++◌, length, Ok, refl, sym, ap, subst, ◌∙◌, inr, arith, if◌then◌else◌, eqb-true, length-append}
+use Rattle.std.proofs.Common.{◌≡◌, ◌≢◌, ℕ, zero, suc, ◌+◌, ◌-◌, ◌≤◌, Bool, true, false, nat_eq, List, [], ◌∷◌, length, refl, sym, ap, subst, ◌∙◌, inr, arith, if◌then◌else◌, eqb-true, length-append}
 use Rattle.std.proofs.lemmas.Bool.{eq-eqb, false≢true}
 use Rattle.disk.specs.Acts.{Act}
 use Rattle.disk.specs.Disk.{Disk, NothingPending, after}
 use Rattle.raft_types.specs.Keeping.{KeptView}
 use Rattle.slots.specs.Opening.{Is, named}
 use Rattle.slots.specs.Saving.{next, save_acts}
-use Rattle.slots.specs.SavingLaws.{Rests}
 use Rattle.slots.specs.TurnLaws.{Keeps}
 use Rattle.slots.proofs.Turning.{save_is_such, nothing_is_such}
 use Rattle.vst_base.specs.declared.stack.StackId.{StackId}
@@ -20,11 +19,11 @@ use Rattle.node_body.specs.declared.journal.TheConstants.{MAX_RECORDS}
 use Rattle.node_body.specs.declared.version.Version.TheVariants.{Two}
 use Rattle.node_body.specs.declared.who.Who.{Who}
 use Rattle.node_acts.specs.Stores.{StoreView, store_of, Holds, Continues, found_of, found_by, is_held}
-use Rattle.node_acts.specs.StateActs.{record_bytes, append_acts, gate_of_base, store_at_base, state_acts, store_after}
+use Rattle.node_acts.specs.StateActs.{record_bytes, append_acts, store_at_base}
 use Rattle.node_acts.specs.StateLaws.{HasBytes, StateSaved}
 use Rattle.node_acts.proofs.Helds.{IsSlot, holds_rests, holds_slot, held_same}
 use Rattle.node_acts.proofs.Recording.{keeps_append, holds_append}
-use Rattle.node_acts.proofs.Resting.{as_bytes, after_save}
+use Rattle.node_acts.proofs.Resting.{after_save}
 
 module _ {C D : Type 0} (s : StackId) (f : Format C) (t : StackId) (g : Format D) (is_f : IsFormat f) (short : (c : C) → f.Fits c → length (f.spell c) ≤ MAX_COMMAND) where
   -- a base is found to be the state that it was made of, with room for all records

@@ -1,5 +1,5 @@
 -- Node 0 of three of the key-value stack, on slots whose bytes were worked out by hand.
-use Rattle.std.specs.Prelude.{ℕ, Option, List, [], ◌∷◌, ◌++◌, length}
+use Rattle.std.specs.Prelude.{ℕ, Option, List, [], ◌∷◌, length}
 use Rattle.disk.specs.Acts.{Act, Wrote, Cut, Synced}
 use Rattle.kv_machine.specs.declared.cmd.KvCmd.{KvCmd}
 use Rattle.raft_types.specs.Keeping.{KeptView}

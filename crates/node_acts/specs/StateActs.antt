@@ -1,5 +1,5 @@
 -- The acts that save a node's state, and those that open its areas.
-use Rattle.std.specs.Prelude.{ℕ, suc, ◌+◌, ◌-◌, ◌==◌, List, [], ◌∷◌, ◌++◌, length, drop, Option, None, Some, Result, Ok, Err, if◌then◌else◌}
+use Rattle.std.specs.Prelude.{ℕ, suc, ◌+◌, ◌-◌, ◌==◌, List, [], ◌∷◌, ◌++◌, length, drop, None, Result, Ok, Err, if◌then◌else◌}
 use Rattle.disk.specs.Acts.{Act}
 use Rattle.disk.specs.Areas.{area_at}
 use Rattle.disk.specs.Disk.{Image}
@@ -20,7 +20,7 @@ use Rattle.node_body.specs.declared.version.Version.{Version}
 use Rattle.node_body.specs.declared.version.Version.TheVariants.{One, Two}
 use Rattle.node_body.specs.declared.who.Who.{Who}
 use Rattle.node_body.specs.declared.why.Why.{Why}
-use Rattle.node_acts.specs.Stores.{StoreView, store_of, terms_of, stays, is_held}
+use Rattle.node_acts.specs.Stores.{StoreView, store_of, stays, is_held}
 
 -- The first state of a node.
 abbrev pub first_kept : {C : Type 0} → KeptView C

@@ -1,5 +1,5 @@
 -- What a crash leaves at each moment of a save, and of an opening; and that the areas are then as the node knows.
-use Rattle.std.specs.Prelude.{◌≡◌, ◌≢◌, ℕ, ◌<◌, true, false, List, [], ◌∷◌, length, take, Result, Ok, ◌⊎◌}
+use Rattle.std.specs.Prelude.{◌≡◌, ◌≢◌, ℕ, true, false, List, [], ◌∷◌, length, take, Ok, ◌⊎◌}
 use Rattle.disk.specs.Acts.{Act}
 use Rattle.disk.specs.Areas.{area_at}
 use Rattle.disk.specs.Disk.{Disk, Image, contents, after, may_leave}

@@ -3,7 +3,7 @@ use Rattle.std.proofs.Common.{◌≡◌, ℕ, zero, suc, ◌-◌, ◌≤◌, nat
 use Rattle.raft_types.specs.Keeping.{KeptView}
 use Rattle.wire_fields.specs.FormatLaws.{both_read, same_answer}
 use Rattle.wire_fields.specs.Formats.{Format, IsFormat, and_then}
-use Rattle.node_body.specs.GatedRecords.{AreGated, HoldsRecords, IsGated, RecordsAlone, RecordsAreFound, patched_by, spell_gated}
+use Rattle.node_body.specs.GatedRecords.{AreGated, HoldsRecords, RecordsAlone, RecordsAreFound, patched_by, spell_gated}
 use Rattle.node_body.specs.JournalLaws.{gate_closed, gate_missing, gate_open, gate_past}
 use Rattle.node_body.specs.Journals.{from_gate, go_on, is_closed, journal_as, next_state, patched}
 use Rattle.node_body.specs.declared.journal.Journal.{Journal}

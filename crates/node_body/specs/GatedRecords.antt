@@ -1,5 +1,5 @@
 -- A journal by the list of its records: each after an open gate, and then a closed gate, which hides what stands after it.
-use Rattle.std.specs.Prelude.{◌≡◌, ℕ, ◌-◌, ◌≤◌, nat_le, true, false, List, [], ◌∷◌, ◌++◌, length, Option, Some}
+use Rattle.std.specs.Prelude.{◌≡◌, ℕ, ◌-◌, ◌≤◌, nat_le, true, false, List, [], ◌∷◌, ◌++◌, length, Some}
 use Rattle.raft_types.specs.Keeping.{KeptView}
 use Rattle.wire_fields.specs.Formats.{Format}
 use Rattle.node_body.specs.Journals.{from_gate, is_closed, journal_as, patched}

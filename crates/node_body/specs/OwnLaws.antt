@@ -10,7 +10,7 @@ use Rattle.node_body.specs.Bodies.{body, entry_in, label, owner_as}
 use Rattle.node_body.specs.BodyLaws.{body_is_format, whole_one}
 use Rattle.node_body.specs.FoundLaws.{agrees}
 use Rattle.node_body.specs.Journals.{change, read_journal}
-use Rattle.node_body.specs.Slots.{difference, held_as, of_body, of_other, of_own, of_parts, other_name, read_slot, sized, slot_found, unless_differs, with_journal}
+use Rattle.node_body.specs.Slots.{difference, held_as, of_body, of_own, of_parts, other_name, read_slot, sized, slot_found, unless_differs, with_journal}
 use Rattle.node_body.specs.declared.body.Body.{Body}
 use Rattle.node_body.specs.declared.journal.Journal.{Journal}
 use Rattle.node_body.specs.declared.slot.Held.{Held}

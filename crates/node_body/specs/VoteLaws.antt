@@ -1,5 +1,5 @@
 -- A state that is found was kept by a node of a cluster, whose vote is for one of its nodes.
-use Rattle.std.proofs.Common.{◌≡◌, ◌<◌, ℕ, zero, suc, Bool, true, false, IsTrue, nat_eq, nat_le, List, [], ◌∷◌, length, Option, None, Some, Result, Ok, Err, IfOk, IfSome, if◌then◌else◌, refl, sym, ap, subst, ◌∙◌}
+use Rattle.std.proofs.Common.{◌≡◌, ◌<◌, ℕ, zero, suc, Bool, true, false, IsTrue, nat_eq, nat_le, List, [], ◌∷◌, length, Option, None, Some, Result, Ok, Err, IfOk, IfSome, if◌then◌else◌, refl, sym, subst, ◌∙◌}
 use Rattle.std.proofs.lemmas.Bool.{eqb-true, ltb-true}
 use Rattle.raft_types.specs.Keeping.{KeptView}
 use Rattle.raft_types.specs.Ranges.{IsClusterSize}
@@ -13,7 +13,7 @@ use Rattle.node_body.specs.BodyLaws.{body_is_format, body_one, entry_in_is_forma
 use Rattle.node_body.specs.FoundLaws.{agrees}
 use Rattle.node_body.specs.JournalLaws.{change_is_format, gate_closed, gate_missing, gate_open, gate_past}
 use Rattle.node_body.specs.Journals.{change, from_gate, go_on, is_closed, journal_as, next_state, patched, read_journal}
-use Rattle.node_body.specs.Slots.{difference, held_as, of_body, of_parts, other_name, read_slot, sized, slot_found, with_journal}
+use Rattle.node_body.specs.Slots.{held_as, of_body, of_parts, other_name, read_slot, sized, slot_found, with_journal}
 use Rattle.node_body.specs.declared.body.Body.{Body}
 use Rattle.node_body.specs.declared.journal.Journal.{Journal}
 use Rattle.node_body.specs.declared.journal.TheConstants.{MAX_RECORDS}

@@ -1,11 +1,10 @@
 -- What a node may say of its state once it starts, and once it has taken an event.
-use Rattle.std.proofs.Common.{◌≡◌, ◌≤◌, ℕ, length, refl, sym, ap, subst, ◌∙◌}
+use Rattle.std.proofs.Common.{◌≡◌, ◌≤◌, ℕ, length, sym, ap, subst, ◌∙◌}
 use Rattle.raft_xform.specs.Nodes.{RaftView}
 use Rattle.raft_xform.specs.Sound.{IsSoundNode}
 use Rattle.vst_base.specs.Machines.{MachineMeaning}
 use Rattle.wire_fields.specs.Formats.{Format}
 use Rattle.node_acts.specs.Stores.{StoreView, Knows, Continues, common, terms_of}
-use Rattle.node_body.specs.declared.who.Who.{Who}
 use Rattle.node_config.specs.declared.config.Config.{Config}
 use Rattle.node_datagrams.specs.Configured.{settings_of}
 use Rattle.node_growth.specs.Growth.{left_by}

@@ -1,5 +1,5 @@
 -- What a node has between its calls, and what a turn makes of it.
-use Rattle.std.specs.Prelude.{◌≡◌, ℕ, ◌≤◌, List, ◌++◌, length}
+use Rattle.std.specs.Prelude.{ℕ, ◌≤◌, List, ◌++◌, length}
 use Rattle.node_acts.specs.Stores.{StoreView, Knows, common}
 use Rattle.node_body.specs.declared.who.Who.{Who}
 use Rattle.node_config.specs.declared.config.Config.{Config}

@@ -3,7 +3,7 @@ use Rattle.std.proofs.Common.{◌≡◌, List, [], ◌∷◌, ◌++◌, Option, 
 use Rattle.disk.specs.Acts.{Act}
 use Rattle.disk.specs.Disk.{Disk, contents, effect, after}
 use Rattle.disk.specs.Images.{Trail, started, follow, followed, image_by_word}
-use Rattle.node_device.specs.Telling.{Told, Did, told_after}
+use Rattle.node_device.specs.Telling.{Told, Did}
 use Rattle.node_device_mem.specs.Devices.{AreasFollow}
 
 after_both : (disk : Disk) (xs ys : List Act) → after disk (xs ++ ys) ≡ after (after disk xs) ys

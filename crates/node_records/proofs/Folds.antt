@@ -1,5 +1,5 @@
 -- What is folded over acts, or over events, that stand one after the other.
-use Rattle.std.proofs.Common.{◌≡◌, ℕ, ◌+◌, List, [], ◌∷◌, ◌++◌, refl, sym, ap, ◌∙◌, append_assoc, arith}
+use Rattle.std.proofs.Common.{◌≡◌, ◌+◌, List, [], ◌∷◌, ◌++◌, refl, sym, ap, ◌∙◌, append_assoc, arith}
 use Rattle.disk.specs.Acts.{Act}
 use Rattle.disk.specs.Disk.{Disk}
 use Rattle.raft_types.specs.Keeping.{KeptView}

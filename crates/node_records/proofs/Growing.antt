@@ -1,16 +1,14 @@
 -- Records one after the other.
-use Rattle.std.proofs.Common.{◌≡◌, ℕ, ◌+◌, ◌≤◌, List, [], ◌∷◌, ◌++◌, refl, sym, ap, subst, ◌∙◌, append_assoc, arith}
+use Rattle.std.proofs.Common.{◌≡◌, ℕ, ◌+◌, List, [], ◌++◌, sym, ap, subst, ◌∙◌, append_assoc, arith}
 use Rattle.std.proofs.lemmas.List.{append-nil}
-use Rattle.outside.specs.declared.device.Address.{Address}
 use Rattle.disk.specs.Acts.{Act}
 use Rattle.disk.specs.DiskLaws.{IsCutShort}
 use Rattle.slots.specs.Turns.{datagrams}
-use Rattle.slots.specs.TurnLaws.{IsFront}
 use Rattle.slots.proofs.Elsewhere.{every_append}
 use Rattle.vst_base.specs.Machines.{MachineMeaning}
 use Rattle.wire_fields.specs.Formats.{Format}
 use Rattle.node_acts.specs.Stores.{StoreView}
-use Rattle.node_run.specs.Runs.{Done, Stage, done_in, said_in, stage_after, turns_in}
+use Rattle.node_run.specs.Runs.{Done, Stage, done_in, said_in, stage_after}
 use Rattle.node_run.specs.Settings.{Settings}
 use Rattle.node_records.specs.Records.{AreRecord, IsNoFault, IsStopped, saves_of, store_acts, store_by}
 use Rattle.node_records.proofs.ActKinds.{cut_short_behind, datagrams_append, whole, store_acts_append}

@@ -12,7 +12,7 @@ use Rattle.slots.specs.Opening.{Found, OpensAs}
 use Rattle.slots.specs.SavingLaws.{Rests}
 use Rattle.slots.specs.Turns.{Hears, Says, OnAreas, datagrams}
 use Rattle.slots.specs.TurnLaws.{IsFront, Keeps}
-use Rattle.slots.proofs.Elsewhere.{after_append, every_append, every_take, take_both}
+use Rattle.slots.proofs.Elsewhere.{after_append, every_take, take_both}
 use Rattle.slots.proofs.Turning.{rests_opens}
 use Rattle.vst_base.specs.Machines.{MachineMeaning}
 use Rattle.wire_fields.specs.Formats.{Format}

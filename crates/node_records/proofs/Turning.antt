@@ -1,10 +1,8 @@
 -- One turn: what was heard, and then store acts and what was said, by which a node between two turns does not move.
-use Rattle.std.proofs.Common.{◌≡◌, ℕ, ◌+◌, ◌≤◌, List, [], ◌∷◌, ◌++◌, Option, Some, None, refl, sym, ap, subst, ◌∙◌, arith, ◌⊎◌, inl, inr}
+use Rattle.std.proofs.Common.{◌≡◌, ℕ, ◌+◌, List, [], ◌∷◌, ◌++◌, refl, sym, ap, subst, ◌∙◌, arith, ◌⊎◌, inl, inr}
 use Rattle.std.proofs.lemmas.List.{append-nil}
-use Rattle.outside.specs.declared.device.Address.{Address}
-use Rattle.disk.specs.Acts.{Act, Began, BeginFailed, Now, Took, Quiet, ReceiveFailed, Sent, SendFailed, Wrote, Cut, Synced, StoreFailed}
+use Rattle.disk.specs.Acts.{Act, Now, Took, Quiet, ReceiveFailed, Sent, SendFailed, Wrote, Cut, Synced, StoreFailed}
 use Rattle.disk.specs.DiskLaws.{Every, IsCutShort}
-use Rattle.raft_types.specs.Keeping.{KeptView}
 use Rattle.slots.specs.Turns.{Hears, Says, OnAreas, datagrams}
 use Rattle.slots.specs.TurnLaws.{IsFront}
 use Rattle.slots.proofs.Elsewhere.{every_append}
@@ -12,12 +10,10 @@ use Rattle.vst_base.specs.Machines.{MachineMeaning}
 use Rattle.wire_fields.specs.Formats.{Format}
 use Rattle.node_acts.specs.StateActs.{state_acts}
 use Rattle.node_acts.specs.Stores.{StoreView}
-use Rattle.node_run.specs.Events.{event_of}
 use Rattle.node_run.specs.Runs.{Done, NodeView, Stage, Starting, Between, Waiting, Broken, Step, AreOrderly, IsOrderly, begins, done_in, goes_to, passes, said_in, stage_after, step, takes, takes_if, turns_in}
 use Rattle.node_run.specs.Settings.{Settings, due}
 use Rattle.node_run.specs.declared.due.Due.{Due}
 use Rattle.node_run.specs.declared.due.Due.TheVariants.{Timeout, Wait}
-use Rattle.node_run.specs.declared.event.Event.{Event}
 use Rattle.node_run.specs.declared.event.Event.TheVariants.{Tick}
 use Rattle.node_records.specs.Records.{Stores, IsNoFault, AreRecord, IsStopped, HearsAs, saves_of, store_acts}
 use Rattle.node_records.specs.RecordLaws.{Turns}

@@ -1,6 +1,6 @@
 -- The turns of node 0 by which it votes for node 1, with the save of the vote and its answer.
-use Rattle.std.specs.Prelude.{◌≡◌, ℕ, List, [], ◌∷◌, ◌++◌, Option, Some, None}
-use Rattle.disk.specs.Acts.{Act, Now, Took, Quiet, Sent, SendFailed, Wrote, Cut, Synced, StoreFailed, Sync}
+use Rattle.std.specs.Prelude.{ℕ, List, [], ◌∷◌, ◌++◌, Some, None}
+use Rattle.disk.specs.Acts.{Act, Now, Took, Sent, Wrote, Synced}
 use Rattle.disk.specs.Disk.{Disk, Image, settled}
 use Rattle.kv_machine.specs.Kv.{kv}
 use Rattle.kv_machine.specs.declared.cmd.KvCmd.{KvCmd}
@@ -10,7 +10,7 @@ use Rattle.wire_messages.specs.KvBytes.{kv_command, kv_output}
 use Rattle.node_body.specs.Examples.{vote_record}
 use Rattle.node_acts.specs.Examples.{knowing}
 use Rattle.node_acts.specs.Stores.{StoreView}
-use Rattle.node_run.specs.Examples.{at_port, candidate, datagram, done, kept_as, number_of_eight, put_a_x, settings, three_turns, votes}
+use Rattle.node_run.specs.Examples.{at_port, candidate, datagram, done, kept_as, number_of_eight, put_a_x, settings, votes}
 use Rattle.node_run.specs.Runs.{Done, Starting}
 use Rattle.node_run.specs.declared.event.Event.TheVariants.{Tick}
 use Rattle.node_records.specs.Records.{AreRecord, IsStopped, saves_of, store_by}

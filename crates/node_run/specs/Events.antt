@@ -1,8 +1,7 @@
 -- Which datagrams are events of a node, and which datagrams an event sends.
-use Rattle.std.specs.Prelude.{◌≡◌, ℕ, ◌==◌, Bool, true, false, ◌&&◌, not, List, [], ◌∷◌, ◌++◌, Option, Some, None, bytes_eq, slice_get, if◌then◌else◌}
+use Rattle.std.specs.Prelude.{ℕ, ◌==◌, Bool, false, ◌&&◌, not, List, [], ◌∷◌, ◌++◌, Option, Some, None, bytes_eq, slice_get, if◌then◌else◌}
 use Rattle.outside.specs.declared.device.Address.{Address}
 use Rattle.handler_trait.specs.Handling.{Effect}
-use Rattle.raft_types.specs.declared.client.RaftInput.{RaftInput}
 use Rattle.raft_types.specs.declared.client.RaftOut.{RaftOut}
 use Rattle.raft_types.specs.declared.client.RaftOut.TheVariants as out
 use Rattle.raft_types.specs.declared.msg.RaftMsg.{RaftMsg}
@@ -14,7 +13,6 @@ use Rattle.wire_fields.specs.Formats.{Format}
 use Rattle.wire_messages.specs.ClientBytes.{client_reply, client_request}
 use Rattle.wire_messages.specs.RaftBytes.{raft_message}
 use Rattle.wire_messages.specs.Wires.{read_whole}
-use Rattle.wire_messages.specs.declared.client.Answer.{Answer}
 use Rattle.wire_messages.specs.declared.client.Answer.TheVariants as answer
 use Rattle.wire_messages.specs.declared.client.ClientReply.{ClientReply}
 use Rattle.wire_messages.specs.declared.client.ClientRequest.{ClientRequest}

@@ -1,10 +1,9 @@
 -- Node 0 of a cluster of three of the key-value stack, whose datagrams were worked out by hand.
-use Rattle.std.specs.Prelude.{ℕ, List, [], ◌∷◌, ◌++◌, Option, Some, None, codes, map, true}
-use Rattle.disk.specs.Acts.{Act, Now, Took, Quiet, Synced}
-use Rattle.kv_machine.specs.Kv.{Store, kv}
+use Rattle.std.specs.Prelude.{ℕ, List, [], ◌∷◌, ◌++◌, Option, None, codes, map, true}
+use Rattle.disk.specs.Acts.{Act, Now, Took}
+use Rattle.kv_machine.specs.Kv.{kv}
 use Rattle.kv_machine.specs.declared.cmd.KvCmd.{KvCmd}
 use Rattle.kv_machine.specs.declared.cmd.KvCmd.TheVariants as command
-use Rattle.kv_machine.specs.declared.out.KvOut.{KvOut}
 use Rattle.outside.specs.declared.device.Address.{Address}
 use Rattle.raft_types.specs.Keeping.{KeptView}
 use Rattle.raft_types.specs.declared.msg.RaftMsg.TheVariants as msg

@@ -1,11 +1,8 @@
 -- A node's run, read off the acts of its device: each event, with what the node keeps after it and the datagrams that it sends.
-use Rattle.std.specs.Prelude.{◌≡◌, ℕ, ◌+◌, List, [], ◌∷◌, ◌++◌, length, Option, Some, None, if◌then◌else◌}
+use Rattle.std.specs.Prelude.{◌≡◌, ℕ, ◌+◌, List, [], ◌∷◌, ◌++◌, length, Option, Some, None}
 use Rattle.outside.specs.declared.device.Address.{Address}
 use Rattle.disk.specs.Acts.{Act, Now, Took, Quiet, ReceiveFailed}
-use Rattle.handler_trait.specs.Handling.{Effect}
 use Rattle.raft_types.specs.Keeping.{KeptView}
-use Rattle.raft_types.specs.declared.client.RaftOut.{RaftOut}
-use Rattle.raft_types.specs.declared.msg.RaftMsg.{RaftMsg}
 use Rattle.raft_xform.specs.Nodes.{RaftView, RaftEffect, is_leader}
 use Rattle.raft_xform.specs.Raft.{raft, raft_recovery}
 use Rattle.vst_base.specs.Machines.{MachineMeaning}

@@ -1,5 +1,5 @@
 -- What a save of a change comes to, by how many entries stay.
-use Rattle.std.proofs.Common.{◌≡◌, ℕ, suc, ◌+◌, ◌-◌, ◌≤◌, Bool, true, false, ◌&&◌, ◌==◌, nat_eq, List, [], ◌∷◌, ◌++◌, length, map, take, drop, Option, refl, sym, ap, subst, ◌∙◌, ◌⊎◌, inl, inr, if◌then◌else◌, eqb-true, take-append-drop}
+use Rattle.std.proofs.Common.{◌≡◌, ℕ, suc, ◌+◌, ◌-◌, Bool, true, false, ◌&&◌, ◌==◌, nat_eq, List, [], ◌∷◌, ◌++◌, length, take, drop, Option, refl, sym, ap, subst, ◌∙◌, inl, inr, if◌then◌else◌, eqb-true, take-append-drop}
 use Rattle.disk.specs.Acts.{Act}
 use Rattle.raft_types.specs.Keeping.{KeptView}
 use Rattle.vst_base.specs.Entries.{EntryView}
@@ -8,7 +8,6 @@ use Rattle.wire_fields.specs.Formats.{Format}
 use Rattle.node_acts.specs.StateActs.{state_acts, store_after, store_at_base}
 use Rattle.node_acts.specs.StateLaws.{HasBytes}
 use Rattle.node_acts.specs.Stores.{StoreView, store_of, common, is_held, same_vote, stays, terms_of}
-use Rattle.node_body.specs.declared.who.Who.{Who}
 use Rattle.node_device.specs.Telling.{Told, Did, StoppedIn}
 use Rattle.node_state.specs.Crashes.{StoppedWith}
 use Rattle.node_state.specs.Ends.{NewFits, bytes_keeping, end_of, end_of_base, new_acts, new_end}

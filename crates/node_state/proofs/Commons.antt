@@ -1,5 +1,5 @@
 -- How many terms two logs have in common.
-use Rattle.std.proofs.Common.{◌≡◌, ℕ, zero, suc, ◌+◌, ◌<◌, ◌≤◌, Bool, true, false, nat_eq, List, [], ◌∷◌, length, drop, refl, ap, arith, if◌then◌else◌}
+use Rattle.std.proofs.Common.{◌≡◌, ℕ, zero, suc, ◌+◌, ◌≤◌, Bool, true, false, nat_eq, List, [], ◌∷◌, length, drop, refl, arith, if◌then◌else◌}
 use Rattle.vst_base.specs.Entries.{EntryView}
 use Rattle.node_acts.specs.Stores.{common}
 

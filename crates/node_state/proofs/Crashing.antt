@@ -1,5 +1,5 @@
 -- What a crash leaves during a save that is told.
-use Rattle.std.proofs.Common.{◌≡◌, ℕ, zero, suc, ◌≤◌, true, false, List, [], ◌∷◌, ◌++◌, length, take, Option, Some, None, IfSome, Result, Ok, Err, OnOk, OnErr, refl, sym, ap, subst, ◌∙◌, ◌⊎◌, inl, inr}
+use Rattle.std.proofs.Common.{◌≡◌, ◌≤◌, true, false, List, [], ◌++◌, length, take, Option, Some, None, IfSome, Result, Ok, Err, OnOk, OnErr, refl, sym, subst, inl, inr}
 use Rattle.disk.specs.Acts.{Act}
 use Rattle.disk.specs.Disk.{may_leave}
 use Rattle.disk.proofs.CutShort.{fronts_are_cut_short}

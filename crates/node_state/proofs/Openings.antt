@@ -1,5 +1,5 @@
 -- What is known of an opening that is told.
-use Rattle.std.proofs.Common.{◌≡◌, ℕ, zero, suc, ◌<◌, ◌≤◌, true, arith, slice_index_or, List, [], ◌∷◌, ◌++◌, length, take, Option, Some, None, IfSome, Result, Ok, Err, IfOk, OnOk, OnErr, refl, sym, ap, subst, ◌∙◌, ◌⊎◌, inl, inr}
+use Rattle.std.proofs.Common.{◌≡◌, ℕ, ◌<◌, ◌≤◌, arith, slice_index_or, List, [], ◌∷◌, ◌++◌, length, take, Option, Some, None, IfSome, Result, Ok, Err, IfOk, OnOk, OnErr, refl, sym, ap, subst, ◌∙◌, inl, inr}
 use Rattle.disk.specs.Acts.{Act}
 use Rattle.disk.specs.Areas.{area_at}
 use Rattle.disk.specs.Disk.{contents}
@@ -21,8 +21,7 @@ use Rattle.node_body.specs.Bodies.{body, body_of}
 use Rattle.node_body.specs.Slots.{slot_found}
 use Rattle.node_body.specs.declared.commands.TheConstants.{MAX_COMMAND}
 use Rattle.node_body.specs.declared.slot.Held as slot
-use Rattle.node_body.specs.declared.version.Version.{Version}
-use Rattle.node_body.specs.declared.version.Version.TheVariants.{One, Two}
+use Rattle.node_body.specs.declared.version.Version.TheVariants.{One}
 use Rattle.node_body.specs.declared.who.Who.{Who}
 use Rattle.node_body.specs.declared.why.Why.{Why}
 use Rattle.node_device.specs.Telling.{Told, told_after, Did, WhereTold, StoppedIn}

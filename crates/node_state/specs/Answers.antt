@@ -2,7 +2,7 @@
 use Rattle.std.specs.Prelude.{◌≡◌, ℕ, List, [], ◌∷◌, length, Option, Some, None, Result, Ok, Err}
 use Rattle.disk.specs.Acts.{Act}
 use Rattle.disk.specs.Areas.{area_at}
-use Rattle.disk.specs.Disk.{Disk, contents}
+use Rattle.disk.specs.Disk.{contents}
 use Rattle.raft_types.specs.Keeping.{KeptView}
 use Rattle.slots.specs.Opening.{Opening, Fresh, Held, BadSelector, named}
 use Rattle.slots.specs.Opening as area

@@ -1,5 +1,5 @@
 -- What calls on a node's state need, and what they do to the counts of faults.
-use Rattle.std.specs.Prelude.{◌≡◌, ℕ, ◌<◌, Result, Ok, Err}
+use Rattle.std.specs.Prelude.{◌≡◌, ◌<◌, Result, Ok, Err}
 use Rattle.raft_types.specs.Ranges.{IsClusterSize}
 use Rattle.vst_base.specs.declared.stack.StackId.{StackId}
 use Rattle.node_body.specs.declared.who.Who.{Who}

@@ -3,7 +3,7 @@ use Rattle.std.specs.Prelude.{◌≡◌, ℕ, true, List, ◌++◌, take, Option
 use Rattle.disk.specs.Acts.{Act}
 use Rattle.disk.specs.Disk.{Image, may_leave}
 use Rattle.raft_types.specs.Keeping.{KeptView}
-use Rattle.slots.specs.Opening.{Found, OpensAs}
+use Rattle.slots.specs.Opening.{OpensAs}
 use Rattle.slots.specs.Saving.{sync_acts}
 use Rattle.vst_base.specs.declared.stack.StackId.{StackId}
 use Rattle.wire_fields.specs.Formats.{Format}

@@ -1,5 +1,5 @@
 -- The table of named locks is spelled: what it answers to commands that have texts has a text, since each owner in it is a key.
-use Rattle.std.specs.Prelude.{◌≡◌, ℕ, Bool, ◌≤◌, true, false, is_some, List, length, Option, Some, None, IsTrue, refl}
+use Rattle.std.specs.Prelude.{◌≡◌, ℕ, Bool, ◌≤◌, true, false, is_some, List, length, Some, None, IsTrue}
 use Rattle.std.specs.Cmp.Lexicographic.{nat_list_cmp_total, slice_cmp}
 use Rattle.std.specs.FinMap.{get}
 use Rattle.std.specs.Ordering.{nat_cmp}
@@ -15,7 +15,7 @@ use Rattle.lock_table.specs.declared.cmd.TableCmd.TheVariants.{Acquire, Release,
 use Rattle.lock_table.specs.declared.out.TableOut.{TableOut}
 use Rattle.stacks.specs.Table.{lock_table, table_texts}
 use Rattle.permitted_claims.specs.Spelled.{IsSpelledMachine, most_bytes}
-use Rattle.permitted_claims.proofs.Eaches.{IfThere, either}
+use Rattle.permitted_claims.proofs.Eaches.{either}
 use Rattle.permitted_claims.proofs.Machines.{AreShortTexts, MachineKeeps, machine-spelled}
 use Rattle.permitted_claims.proofs.Maps.{EachValue, each-empty, each-insert, each-remove}
 use Rattle.permitted_claims.proofs.Words.{joined-length, optional-length, optional-token, token-length}

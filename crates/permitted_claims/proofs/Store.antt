@@ -1,5 +1,5 @@
 -- The key-value machine is spelled: what it answers to commands that have texts has a text, since each value in its store is one.
-use Rattle.std.specs.Prelude.{◌≡◌, ℕ, ◌≤◌, true, ◌&&◌, List, length, Option, Some, None, IsTrue, refl}
+use Rattle.std.specs.Prelude.{◌≡◌, ℕ, ◌≤◌, true, ◌&&◌, List, length, Some, IsTrue, refl}
 use Rattle.std.specs.Cmp.Lexicographic.{nat_list_cmp_total, slice_cmp}
 use Rattle.std.specs.FinMap.{get}
 use Rattle.std.specs.Ordering.{nat_cmp}
@@ -15,7 +15,7 @@ use Rattle.kv_machine.specs.declared.cmd.KvCmd.TheVariants.{Get, Put, Del, Cas, 
 use Rattle.kv_machine.specs.declared.out.KvOut.{KvOut}
 use Rattle.stacks.specs.Table.{kv_texts, store}
 use Rattle.permitted_claims.specs.Spelled.{IsSpelledMachine, most_bytes}
-use Rattle.permitted_claims.proofs.Eaches.{IfThere, either}
+use Rattle.permitted_claims.proofs.Eaches.{either}
 use Rattle.permitted_claims.proofs.Machines.{AreShortTexts, MachineKeeps, machine-spelled}
 use Rattle.permitted_claims.proofs.Maps.{EachValue, each-empty, each-insert, each-remove}
 use Rattle.permitted_claims.proofs.Words.{joined-length, optional-length, optional-token, token-length}

@@ -1,10 +1,10 @@
 -- What the number of entries that agree tells of conflicts, and of the log that takes the others.
-use Rattle.std.proofs.Common.{◌≡◌, ℕ, zero, suc, ◌+◌, ◌-◌, ◌<◌, ◌≤◌, Bool, true, false, not, ◌&&◌, ◌||◌, List, [], ◌∷◌, ◌++◌, length, take, drop, refl, sym, ap, ◌∙◌, arith, eqb, cond, leb, append_assoc, length-drop}
+use Rattle.std.proofs.Common.{◌≡◌, ℕ, suc, ◌+◌, ◌-◌, ◌<◌, ◌≤◌, Bool, true, false, not, ◌&&◌, ◌||◌, List, [], ◌∷◌, ◌++◌, length, take, drop, refl, sym, ap, ◌∙◌, arith, eqb, cond, leb, append_assoc, length-drop}
 use Rattle.std.proofs.Math.Seq.{take-add, take-length}
 use Rattle.std.proofs.lemmas.Bool.{le-leb, lt-leb}
 use Rattle.std.proofs.lemmas.List.{take-append-drop}
 use Rattle.vst_base.specs.declared.entry.Entry.{Entry}
-use Rattle.vst_base.specs.Logs.{accepted, has_conflict, merged, term_at}
+use Rattle.vst_base.specs.Logs.{accepted, has_conflict, merged}
 use Rattle.vst_base.proofs.LogTerms.{rest_behind, term_behind}
 use Rattle.raft_log.specs.declared.accept.Accept.{Accept}
 use Rattle.raft_log.specs.declared.accept.Accept.TheVariants.{Taken, Below}

@@ -1,12 +1,12 @@
 -- An event of Raft sends few packets, each to a node of the cluster, tells clients at most one thing an entry of its log, and uses
 -- nothing up.
-use Rattle.std.specs.Prelude.{◌≡◌, ℕ, zero, suc, ◌-◌, ◌<◌, ◌≤◌, max, Bool, true, false, not, ◌&&◌, ◌==◌, List, [], ◌∷◌, ◌++◌, length, take, drop, Option, Some, None, nat_lt, cond}
+use Rattle.std.specs.Prelude.{◌≡◌, ℕ, zero, suc, ◌-◌, ◌<◌, ◌≤◌, max, Bool, true, false, not, ◌&&◌, ◌==◌, List, [], ◌∷◌, ◌++◌, length, drop, Option, Some, None, nat_lt, cond}
 use Rattle.std.proofs.Common.{arith, length-append, length-drop, refl}
 use Rattle.std.proofs.lemmas.List.{length-take}
 use Rattle.std.proofs.lemmas.Bool.{eqb-false}
 use Rattle.handler_trait.specs.Handling.{AreSentBelow, IsModest}
 use Rattle.vst_base.specs.Machines.{MachineMeaning}
-use Rattle.handler_trait.specs.declared.handlers.TheConstants.{MAX_OUTPUTS, MAX_SENDS}
+use Rattle.handler_trait.specs.declared.handlers.TheConstants.{MAX_SENDS}
 use Rattle.vst_base.specs.declared.entry.Entry.{Entry}
 use Rattle.vst_base.specs.declared.node.TheConstants.{MAX_NODES}
 use Rattle.vst_base.specs.declared.what.What.{What}
@@ -18,7 +18,6 @@ use Rattle.raft_election.specs.Ballots.{grants, may_start}
 use Rattle.raft_types.specs.Messages.{AppendView, VoteView}
 use Rattle.raft_types.specs.Terms.{term_of}
 use Rattle.raft_types.specs.declared.client.RaftInput.{RaftInput}
-use Rattle.raft_types.specs.declared.client.RaftOut.{RaftOut}
 use Rattle.raft_types.specs.declared.client.RaftOut.TheVariants as told
 use Rattle.raft_types.specs.declared.limits.TheConstants.{MAX_INDEX}
 use Rattle.raft_types.specs.declared.msg.RaftMsg.{RaftMsg}

@@ -1,5 +1,5 @@
 -- What the definitions are computed on.
-use Rattle.std.specs.Prelude.{ℕ, Bool, true, false, List, [], ◌∷◌, Option}
+use Rattle.std.specs.Prelude.{ℕ, Bool, true, List, [], ◌∷◌, Option}
 use Rattle.flight_index.specs.Flights.{Flights}
 use Rattle.net_semantics.specs.Echo.{echo_after}
 use Rattle.net_semantics.specs.Worlds.{World}

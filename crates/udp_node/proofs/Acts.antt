@@ -1,11 +1,10 @@
 -- Taking an event, saving the state after it and saying what it sends, as the device tells them.
-use Rattle.std.proofs.Common.{◌≡◌, ℕ, true, List, ◌++◌, take, Option, Some, None, IfSome, refl, sym, ap, subst, ◌∙◌, ◌⊎◌, inl, inr}
+use Rattle.std.proofs.Common.{◌≡◌, ℕ, List, ◌++◌, Option, Some, None, IfSome, sym, ap, subst, ◌∙◌, ◌⊎◌, inl, inr}
 use Rattle.std.proofs.lemmas.List.{append_cancel_left}
 use Rattle.disk.specs.Acts.{Act}
-use Rattle.disk.specs.Disk.{Disk, Image, after, may_leave}
+use Rattle.disk.specs.Disk.{Disk}
 use Rattle.disk.specs.DiskLaws.{Every, IsCutShort}
 use Rattle.node_acts.specs.StateActs.{state_acts}
-use Rattle.node_acts.specs.StateLaws.{StateSaved}
 use Rattle.node_acts.specs.Stores.{StoreView, Holds, Continues, found_by}
 use Rattle.node_body.specs.declared.who.Who.{Who}
 use Rattle.node_config.specs.declared.config.Config.{Config}
@@ -26,7 +25,7 @@ use Rattle.slots.specs.Turns.{Says, datagrams}
 use Rattle.vst_base.specs.Machines.{MachineMeaning}
 use Rattle.vst_base.specs.declared.stack.StackId.{StackId}
 use Rattle.wire_fields.specs.Formats.{Format}
-use Rattle.udp_node.specs.Acting.{Acted, ActedInPart, SavedAndSaid, SavedInPart, SaidInPart, kept_then, says, saves}
+use Rattle.udp_node.specs.Acting.{Acted, ActedInPart, SavedAndSaid, SavedInPart, kept_then, says, saves}
 use Rattle.udp_node.proofs.Telling.{told_is}
 
 -- what is said leaves the areas as they are

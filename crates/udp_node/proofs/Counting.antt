@@ -1,5 +1,5 @@
 -- Counts of faults, call after call.
-use Rattle.std.proofs.Common.{◌≡◌, ◌≤◌, ◌+◌, ◌-◌, ℕ, arith, refl, sym, ap, subst, ◌∙◌, Result, Ok, Err, IsErrAnd}
+use Rattle.std.proofs.Common.{◌≡◌, arith, refl, sym, subst, ◌∙◌, Result, Ok, Err, IsErrAnd}
 use Rattle.outside.specs.Counting.{Rose}
 use Rattle.node_datagrams.specs.Saying.{SendsOnly}
 use Rattle.node_device.specs.Faults.{Faults}

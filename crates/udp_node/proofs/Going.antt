@@ -1,26 +1,22 @@
 -- One turn of a node: what it heard, and what it did with the event that this was.
-use Rattle.std.proofs.Common.{◌≡◌, ◌≤◌, ◌+◌, ◌-◌, ℕ, suc, true, List, [], ◌∷◌, ◌++◌, length, take, Option, Some, None, IfSome, IfOk, OnOk, OnErr, Result, Ok, Err, arith, refl, sym, ap, subst, ◌∙◌, ◌⊎◌, inl, inr}
+use Rattle.std.proofs.Common.{◌≡◌, ℕ, List, [], ◌∷◌, Option, Some, None, IfSome, IfOk, OnOk, OnErr, Result, Ok, Err, arith, sym, ap, subst, ◌∙◌, inl, inr}
 use Rattle.disk.specs.Acts.{Act}
 use Rattle.disk.specs.Disk.{Disk}
 use Rattle.disk.specs.DiskLaws.{Every}
-use Rattle.node_acts.specs.StateActs.{store_after}
-use Rattle.node_acts.specs.Stores.{StoreView, Holds}
+use Rattle.node_acts.specs.Stores.{Holds}
 use Rattle.node_config.specs.declared.config.Config.{Config}
-use Rattle.node_core.specs.Replicas.{IsReady, after_event, effect_on, kept_of, view_of, who_of}
+use Rattle.node_core.specs.Replicas.{IsReady, effect_on, kept_of, view_of, who_of}
 use Rattle.node_core.specs.declared.replica.Replica.{Replica}
 use Rattle.node_core.specs.declared.shipped.Shipped.{Shipped}
 use Rattle.node_datagrams.specs.Configured.{settings_of}
 use Rattle.node_device.specs.Telling.{Told, told_after, WhereTold}
-use Rattle.node_progress.specs.Progress.{Goes, Halts}
 use Rattle.node_progress.proofs.Going.{who_after}
 use Rattle.node_progress.proofs.Halting.{heard_halts, save_halts, say_halts}
 use Rattle.node_progress.proofs.Turns.{event_goes, quiet_goes}
-use Rattle.node_records.specs.Records.{HearsAs, IsStopped}
 use Rattle.node_records.proofs.ActKinds.{hears_after}
 use Rattle.node_run.specs.Events.{said_by}
-use Rattle.node_run.specs.Runs.{Done, Between, takes}
+use Rattle.node_run.specs.Runs.{Done, Between}
 use Rattle.node_run.specs.declared.event.Event.{Event}
-use Rattle.raft_types.specs.Keeping.{KeptView}
 use Rattle.slots.specs.Turns.{Hears as Heeds}
 use Rattle.vst_base.specs.Machines.{MachineMeaning}
 use Rattle.vst_base.specs.declared.stack.StackId.{StackId}

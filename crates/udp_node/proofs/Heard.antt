@@ -1,5 +1,5 @@
 -- What a node heard, as its device tells it.
-use Rattle.std.proofs.Common.{◌≡◌, ◌≤◌, ℕ, List, [], ◌∷◌, ◌++◌, Option, Some, None, Result, Ok, Err, IfOk, OnErr, OnSome, arith, refl, sym, subst, ◌∙◌}
+use Rattle.std.proofs.Common.{◌≡◌, ℕ, List, [], ◌∷◌, Option, Some, None, Result, Ok, Err, IfOk, OnErr, OnSome, arith, refl, sym, subst, ◌∙◌}
 use Rattle.disk.specs.Acts.{Act, Began, BeginFailed, Now, Took, Quiet, ReceiveFailed, Sent, SendFailed, Wrote, Cut, Synced, StoreFailed}
 use Rattle.node_device.specs.Telling.{Told, told_after, Did, WhereTold}
 use Rattle.node_progress.proofs.Going.{told_twice}
@@ -8,7 +8,7 @@ use Rattle.node_records.proofs.Turning.{turns_hear}
 use Rattle.node_run.specs.Events.{event_of}
 use Rattle.node_run.specs.Runs.{NodeView}
 use Rattle.node_run.specs.Settings.{Settings, due}
-use Rattle.node_run.specs.declared.due.Due.TheVariants.{Timeout, Wait}
+use Rattle.node_run.specs.declared.due.Due.TheVariants.{Wait}
 use Rattle.node_run.specs.declared.event.Event.{Event}
 use Rattle.outside.specs.declared.device.Address.{Address}
 use Rattle.vst_base.specs.Machines.{MachineMeaning}

@@ -1,7 +1,7 @@
 -- A node's run: its opening, and then turn after turn.
-use Rattle.std.proofs.Common.{◌≡◌, ◌≤◌, ◌+◌, ◌-◌, ℕ, suc, List, [], ◌∷◌, ◌++◌, Option, Some, None, IfSome, OnSome, OnErr, Result, Ok, Err, IfErr, arith, refl, sym, ap, subst, ◌∙◌, ◌⊎◌, inl, inr}
+use Rattle.std.proofs.Common.{◌≡◌, ◌≤◌, ◌+◌, ◌-◌, ℕ, suc, [], ◌∷◌, Option, Some, None, IfSome, OnSome, arith, refl, sym, subst, inl, inr}
 use Rattle.std.proofs.lemmas.List.{append-nil}
-use Rattle.disk.specs.Acts.{Act, Now}
+use Rattle.disk.specs.Acts.{Now}
 use Rattle.node_acts.specs.Stores.{StoreView, Holds}
 use Rattle.node_config.specs.Held.{on_a_node}
 use Rattle.node_config.specs.declared.config.Config.{Config}

@@ -1,5 +1,5 @@
 -- What a device tells, call after call.
-use Rattle.std.proofs.Common.{◌≡◌, List, ◌++◌, Option, Some, None, IfSome, OnSome, refl}
+use Rattle.std.proofs.Common.{◌≡◌, List, Option, Some, None, IfSome, OnSome}
 use Rattle.disk.specs.Acts.{Act}
 use Rattle.node_device.specs.Telling.{Told, told_after, Did, WhereTold}
 use Rattle.udp_node.specs.Serving.{StillTold}

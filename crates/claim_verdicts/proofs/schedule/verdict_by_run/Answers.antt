@@ -1,4 +1,4 @@
-use Rattle.std.proofs.Common.{◌≡◌, ◌<◌, ◌≤◌, ℕ, List, [], ◌++◌, ◌∷◌, ◌+◌, get_or, length, length-take, map, take, drop, Err, Some, None, sym, ap, ◌∙◌, subst, refl, arith}
+use Rattle.std.proofs.Common.{◌≡◌, ◌<◌, ℕ, List, [], ◌++◌, ◌∷◌, ◌+◌, get_or, length, length-take, map, take, drop, Err, Some, None, sym, ap, ◌∙◌, subst, refl, arith}
 use Rattle.std.proofs.lemmas.List.{append-nil, length-map, map-append, take_more, take_all}
 use Rattle.vst_base.specs.declared.step.Step.{Step}
 use Rattle.vst_base.specs.declared.step.Item.{Item}

@@ -1,4 +1,4 @@
-use Rattle.std.proofs.Common.{◌≡◌, [], ◌++◌, ap, subst, ◌∙◌}
+use Rattle.std.proofs.Common.{[], ◌++◌, ap, subst, ◌∙◌}
 use Rattle.std.specs.Prelude.{OnErr}
 use Rattle.outside.specs.Wholes.{Gained, GainedFront}
 use Rattle.schedule_text.specs.declared.header.Header.{Header}

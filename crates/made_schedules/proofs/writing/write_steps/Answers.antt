@@ -1,6 +1,5 @@
-use Rattle.std.proofs.Common.{◌≡◌, ◌+◌, ◌-◌, ◌++◌, ◌∷◌, [], suc, List, ℕ, sym, ap, subst, ◌∙◌, arith}
+use Rattle.std.proofs.Common.{◌≡◌, ◌+◌, ◌-◌, ◌++◌, ◌∷◌, [], suc, sym, ap, subst, ◌∙◌, arith}
 use Rattle.std.proofs.lemmas.Result.{err_from_is_err_and}
-use Rattle.vst_base.specs.declared.step.Step.{Step}
 use Rattle.xform_stack.specs.Running.{System}
 use Rattle.schedule_make.specs.Making.{CanStep, HasMade, step_after}
 use Rattle.made_schedules.proofs.Written.{can-step, front-line, front-so-far, written-more}

@@ -1,5 +1,5 @@
 -- Moments of turns, by what they leave.
-use Rattle.std.proofs.Common.{◌≡◌, ℕ, [], ◌∷◌, ◌++◌, rules, refl, inr}
+use Rattle.std.proofs.Common.{[], ◌∷◌, ◌++◌, rules, refl, inr}
 use Rattle.disk.specs.Acts.{Now, Sent, Took}
 use Rattle.kv_machine.specs.Kv.{kv}
 use Rattle.slots.specs.SavingLaws.{Rests}

@@ -1,4 +1,4 @@
-use Rattle.std.proofs.Common.{◌≡◌, ◌≤◌, arith, drop, length-drop}
+use Rattle.std.proofs.Common.{arith, drop, length-drop}
 use Rattle.node_state.proofs.Commons.{common_few, common_from, common_with_no_entries}
 use Rattle.node_state.proofs.common.common.Goals as goal
 

@@ -1,4 +1,3 @@
-use Rattle.std.proofs.Common.{[], ◌∷◌, ◌≡◌, refl, rules, ap, sym, subst, ◌∙◌}
 use Rattle.node_state.proofs.Stopping.{on_err, on_fault}
 use Rattle.node_state.proofs.Openings.{areas_did, areas_opened, areas_refused, areas_stopped, names_read}
 use Rattle.node_state.proofs.opening.open_areas.Goals as goal

@@ -1,4 +1,3 @@
-use Rattle.std.proofs.Common.{◌<◌, Result, Ok, Err, length, arith}
 use Rattle.node_state.proofs.Fronts.{all_read_any}
 use Rattle.node_state.proofs.reading.read_area.Goals as goal
 

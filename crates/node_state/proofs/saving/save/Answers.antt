@@ -1,5 +1,4 @@
 use Rattle.std.proofs.Common.{IfSome, OnOk, subst}
-use Rattle.raft_types.specs.Keeping.{KeptView}
 use Rattle.node_acts.proofs.Helds.{kept_same}
 use Rattle.node_body.specs.Bodies.{kept_as}
 use Rattle.node_state.specs.Crashes.{Saves}

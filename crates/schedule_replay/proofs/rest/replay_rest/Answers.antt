@@ -1,11 +1,11 @@
-use Rattle.std.proofs.Common.{◌≡◌, ℕ, List, Option, subst, arith}
+use Rattle.std.proofs.Common.{◌≡◌, ℕ, List, Option, subst}
 use Rattle.vst_base.specs.declared.step.Step.{Step}
 use Rattle.schedule_text.specs.declared.header.Header.{Header}
 use Rattle.xform_stack.specs.Running.{System}
 use Rattle.schedule_replay.specs.Replays.{stack_so_far, stack_whole}
 use Rattle.stacks.specs.Stack.{ImageTexts, image_of, play_of, texts_of}
 use Rattle.check_text.specs.declared.image_line.ImageLine.{ImageLine}
-use Rattle.schedule_replay.proofs.Endings.{rest-read, rest-refused, rest-finishing, rest-done, rest-fails, fails-cause}
+use Rattle.schedule_replay.proofs.Endings.{rest-read, rest-refused, rest-finishing, rest-done, rest-fails}
 use Rattle.schedule_replay.proofs.rest.replay_rest.Given as given
 use Rattle.schedule_replay.proofs.rest.replay_rest.Goals as goal
 

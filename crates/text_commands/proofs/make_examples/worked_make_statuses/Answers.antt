@@ -1,5 +1,5 @@
 -- These print numbers, whose digits have to be computed.
-use Rattle.std.proofs.Common.{◌≡◌, ℕ, zero, suc, [], List, Option, None, Some, ap, arith, codes, inl, lit≤, refl}
+use Rattle.std.proofs.Common.{◌≡◌, ℕ, zero, suc, List, Option, None, Some, ap, arith, codes, inl, lit≤, refl}
 use Rattle.std.specs.Prelude.{get_or, length, take}
 use Rattle.std.specs.Fmt.{digits}
 use Rattle.text_commands.specs.Examples.{one_tick, one_tick_text}

@@ -1,4 +1,4 @@
-use Rattle.std.proofs.Common.{◌≡◌, ap, sym}
+use Rattle.std.proofs.Common.{ap, sym}
 use Rattle.node_core.specs.Replicas.{view_of}
 use Rattle.node_datagrams.specs.Configured.{settings_of}
 use Rattle.udp_node.proofs.Heard.{heard_told, stopped_told}

@@ -1,5 +1,4 @@
 use Rattle.node_state.proofs.Stopping.{on_fault}
-use Rattle.udp_node.specs.Serving.{EndsWith, StillTold}
 use Rattle.udp_node.specs.declared.fault.NodeFault.TheVariants as fault
 use Rattle.udp_node.proofs.Served.{told_started, told_wanting}
 use Rattle.udp_node.proofs.serving.start.Goals as goal

@@ -1,6 +1,5 @@
-use Rattle.std.proofs.Common.{◌≡◌, ap, ◌∙◌}
+use Rattle.std.proofs.Common.{ap, ◌∙◌}
 use Rattle.node_state.proofs.Stopping.{on_err}
-use Rattle.node_core.specs.Replicas.{effect_on, said_of}
 use Rattle.udp_node.proofs.Acts.{acted, held_before, holds_after_saying, said_in_part, saved_in_part}
 use Rattle.udp_node.proofs.turning.act.Goals as goal
 

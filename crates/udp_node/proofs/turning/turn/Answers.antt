@@ -1,4 +1,4 @@
-use Rattle.std.proofs.Common.{◌≡◌, ap, sym, ◌∙◌}
+use Rattle.std.proofs.Common.{ap, sym, ◌∙◌}
 use Rattle.node_state.proofs.Stopping.{on_err}
 use Rattle.udp_node.proofs.Going.{ready_at, turn_halts, turn_halts_hearing, turn_holds, turn_quiet, turn_went, who_stays}
 use Rattle.udp_node.proofs.turning.turn.Goals as goal

@@ -1,4 +1,4 @@
-use Rattle.std.proofs.Common.{◌≡◌, ap, length}
+use Rattle.std.proofs.Common.{ap, length}
 use Rattle.node_core.proofs.Taking.{continues_then, left_is_held}
 use Rattle.node_core.proofs.shipped.Shipped.take.Goals as goal
 

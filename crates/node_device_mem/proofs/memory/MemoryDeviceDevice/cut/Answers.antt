@@ -1,4 +1,4 @@
-use Rattle.std.proofs.Common.{◌≡◌, [], ◌∷◌, rules}
+use Rattle.std.proofs.Common.{[], ◌∷◌, rules}
 use Rattle.disk.specs.Acts.{CutTo, StoreFailed}
 use Rattle.disk.specs.Disk.{cut}
 use Rattle.node_device.specs.Telling.{Did}

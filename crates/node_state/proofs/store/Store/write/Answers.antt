@@ -1,10 +1,9 @@
-use Rattle.std.proofs.Common.{◌≡◌, ℕ, List, [], take, inl, refl, sym, ap, subst, ◌∙◌, OnErr, OnOk}
-use Rattle.node_acts.specs.Stores.{StoreView, common, terms_of}
+use Rattle.std.proofs.Common.{◌≡◌, ℕ, List, [], take, inl, refl, sym, ap, subst, ◌∙◌}
+use Rattle.node_acts.specs.Stores.{StoreView, common}
 use Rattle.node_body.specs.Bodies.{kept_as}
 use Rattle.node_device.specs.Telling.{Did}
 use Rattle.node_state.specs.Crashes.{StoppedWith}
 use Rattle.node_state.specs.Ends.{NewFits, end_of, new_acts, new_end}
-use Rattle.node_state.specs.declared.store.JournalEnd.{JournalEnd}
 use Rattle.node_state.proofs.Changes.{did_new, fits_new, knows_new, not_held, stopped_new, terms_new}
 use Rattle.node_state.proofs.Ends.{slice_after}
 use Rattle.node_state.proofs.Stopping.{on_err, stopped_before}
