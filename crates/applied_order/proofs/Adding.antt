@@ -1,55 +1,31 @@
 -- One more entry after those that there are.
-use Rattle.std.proofs.Common.{◌≡◌, ℕ, suc, ◌+◌, Bool, true, false, cond, List, [], ◌∷◌, ◌++◌, length, map, Option, None, Some, refl, ap, sym, subst, ◌∙◌, arith}
-use Rattle.std.proofs.lemmas.List.{append-nil, length-append, map-append}
+use Rattle.std.proofs.Common.{◌≡◌, ℕ, ◌+◌, Bool, true, false, cond, List, [], ◌∷◌, ◌++◌, length, Option, None, Some, refl, ap, sym, subst, ◌∙◌, arith}
+use Rattle.std.proofs.lemmas.List.{append-nil, length-append}
 use Rattle.std.proofs.lemmas.List.Elements.{filter_map-append}
 use Rattle.std.specs.FinMap.{empty, get}
-use Rattle.std.specs.List.{cons_option, enumerate_from, filter_map}
+use Rattle.std.specs.List.{cons_option}
 use Rattle.std.specs.Option.{option_to_list}
 use Rattle.vst_base.specs.declared.entry.Entry.{Entry}
 use Rattle.raft_clients.proofs.Known.{Knows, knows_kept, knows_none, knows_passed}
-use Rattle.raft_clients.proofs.Listed.{executed-append, executed_after-append}
-use Rattle.raft_clients.specs.Executed.{executed, executed_after, executed_places, is_executed}
+use Rattle.raft_clients.proofs.Listed.{executed-append}
+use Rattle.raft_clients.specs.Executed.{executed, is_executed}
 use Rattle.raft_clients.specs.Requests.{request_of, requests}
 use Rattle.raft_clients.specs.Sessions.{is_new}
 use Rattle.raft_types.specs.declared.client.RaftInput.{RaftInput}
 use Rattle.applied_order.specs.Orders.{HasFollowed, OrderView, counted, with_executed, with_entry}
 
-pub followed_none : {C : Type 0} → HasFollowed {C = C} (record { entries = 0; sessions = empty; requests = []; indexes = [] }) []
+pub followed_none : {C : Type 0} → HasFollowed {C = C} (record { entries = 0; sessions = empty; requests = [] }) []
 followed_none {C = C} =
     let none : Knows {C = C} {O = Unit {0}} empty [] = knows_none in
-    record { entries = refl; sessions = λ client request. sym (none.tells client request); requests = refl; indexes = refl }
-
-enumerate_from-append : {A : Type 0} (n k : ℕ) (xs ys : List A) → n + length xs ≡ k →
-    enumerate_from n (xs ++ ys) ≡ enumerate_from n xs ++ enumerate_from k ys
-enumerate_from-append n k [] ys at = let same : n ≡ k = omega (arith, at) in ap (λ i. enumerate_from i ys) same
-enumerate_from-append n k (x ∷ xs) ys at = ap (λ ps. (n, x) ∷ ps) (enumerate_from-append (n + 1) k xs ys (omega (arith, at)))
+    record { entries = refl; sessions = λ client request. sym (none.tells client request); requests = refl }
 
 module _ {C : Type 0} where
-  requests-enumerated : (n : ℕ) (es : List (Entry C)) → filter_map (λ p. request_of p.1) (enumerate_from n es) ≡ requests es
-  requests-enumerated n [] = refl
-  requests-enumerated n (e ∷ es) = ap (λ rs. cons_option (request_of e) rs) (requests-enumerated (n + 1) es)
-
   option_alone : (o : Option (RaftInput C)) → cons_option o [] ≡ option_to_list o
   option_alone None = refl
   option_alone (Some r) = refl
 
   requests-more : (es : List (Entry C)) (e : Entry C) → requests (es ++ e ∷ []) ≡ requests es ++ option_to_list (request_of e)
   requests-more es e = filter_map-append request_of es (e ∷ []) ∙ ap (λ rs. requests es ++ rs) (option_alone (request_of e))
-
-  chosen_place : (b : Bool) (p : ℕ × Entry C) → map (λ p. p.0) (cond b (p ∷ []) []) ≡ cond b (p.0 ∷ []) []
-  chosen_place true p = refl
-  chosen_place false p = refl
-
-  -- the next place is that of the entry, where it executes a request
-  executed_places-more : (es : List (Entry C)) (e : Entry C) →
-      executed_places (es ++ e ∷ []) ≡ executed_places es ++ cond (is_executed (requests es) (request_of e)) (length es ∷ []) []
-  executed_places-more es e =
-      let asks : ℕ × Entry C → Option (RaftInput C) = λ p. request_of p.1 in
-      ap (λ ps. map (λ p. p.0) (executed_after asks [] ps)) (enumerate_from-append 0 (length es) es (e ∷ []) (omega arith))
-      ∙ ap (map (λ p. p.0)) (executed_after-append asks [] (enumerate_from 0 es) ((length es, e) ∷ []))
-      ∙ map-append (λ p. p.0) (executed_after asks [] (enumerate_from 0 es)) _
-      ∙ ap (λ rs. executed_places es ++ map (λ p. p.0) (executed_after asks rs ((length es, e) ∷ []))) (requests-enumerated 0 es)
-      ∙ ap (λ ps. executed_places es ++ ps) (chosen_place (is_executed (requests es) (request_of e)) (length es, e))
 
 module _ {C : Type 0} (o : OrderView C) (es : List (Entry C)) (e : Entry C) (had : HasFollowed o es) where
   knows : Knows o.sessions (requests es)
@@ -58,14 +34,9 @@ module _ {C : Type 0} (o : OrderView C) (es : List (Entry C)) (e : Entry C) (had
   longer_by_one : o.entries + 1 ≡ length (es ++ e ∷ [])
   longer_by_one = omega (arith, had.entries, length-append es (e ∷ []))
 
-  -- the requests, the places and the executed requests, by what the entry holds and whether that is executed
+  -- the requests and the executed requests, by what the entry holds and whether that is executed
   requests_now : (a : Option (RaftInput C)) → request_of e ≡ a → requests (es ++ e ∷ []) ≡ requests es ++ option_to_list a
   requests_now a by = requests-more es e ∙ ap (λ a. requests es ++ option_to_list a) by
-
-  places_now : (a : Option (RaftInput C)) → request_of e ≡ a → (b : Bool) → is_executed (requests es) a ≡ b →
-      executed_places (es ++ e ∷ []) ≡ executed_places es ++ cond b (length es ∷ []) []
-  places_now a by b t =
-      executed_places-more es e ∙ ap (λ c. executed_places es ++ cond c (length es ∷ []) []) (ap (is_executed (requests es)) by ∙ t)
 
   executed_now : (r : RaftInput C) → request_of e ≡ Some r → (b : Bool) → is_executed (requests es) (Some r) ≡ b →
       executed (requests (es ++ e ∷ [])) ≡ executed (requests es) ++ cond b (r ∷ []) []
@@ -80,21 +51,17 @@ module _ {C : Type 0} (o : OrderView C) (es : List (Entry C)) (e : Entry C) (had
         entries = longer_by_one;
         sessions = rw same had.sessions;
         requests = had.requests ∙ ap executed (sym same);
-        indexes = had.indexes ∙ ap (map suc) (sym (places_now None by false refl ∙ append-nil (executed_places es)));
       }
 
   pub followed_executed : (r : RaftInput C) → request_of e ≡ Some r → is_new (get o.sessions r.client) r.request ≡ true →
       HasFollowed (with_executed o r) (es ++ e ∷ [])
   followed_executed r by new =
       let exceeds : is_executed (requests es) (Some r) ≡ true = sym (had.sessions r.client r.request) ∙ new in
-      let place : o.entries + 1 ≡ suc (length es) = omega (arith, had.entries) in
       let now = knows_kept o.sessions (requests es) r knows tt new in
       record {
         entries = longer_by_one;
         sessions = rw (requests_now (Some r) by) (λ client request. sym (now.tells client request));
         requests = ap (λ rs. rs ++ r ∷ []) had.requests ∙ sym (executed_now r by true exceeds);
-        indexes = (λ i. had.indexes i ++ place i ∷ []) ∙ sym (map-append suc (executed_places es) (length es ∷ []))
-            ∙ ap (map suc) (sym (places_now (Some r) by true exceeds));
       }
 
   pub followed_passed : (r : RaftInput C) → request_of e ≡ Some r → is_new (get o.sessions r.client) r.request ≡ false →
@@ -106,7 +73,6 @@ module _ {C : Type 0} (o : OrderView C) (es : List (Entry C)) (e : Entry C) (had
         entries = longer_by_one;
         sessions = rw (requests_now (Some r) by) (λ client request. sym (now.tells client request));
         requests = had.requests ∙ sym (executed_now r by false exceeds ∙ append-nil (executed (requests es)));
-        indexes = had.indexes ∙ ap (map suc) (sym (places_now (Some r) by false exceeds ∙ append-nil (executed_places es)));
       }
 
   -- what is kept of the entry, whatever it holds

@@ -1,5 +1,5 @@
 -- What is kept of what a cluster has applied, as it grows.
-use Rattle.std.specs.Prelude.{◌≡◌, ℕ, suc, ◌+◌, ◌<◌, Bool, false, List, [], ◌∷◌, ◌++◌, length, map, Option, Some, None, IfSome, if◌then◌else◌, refl}
+use Rattle.std.specs.Prelude.{◌≡◌, ℕ, suc, ◌+◌, ◌<◌, Bool, false, List, [], ◌∷◌, ◌++◌, length, Option, Some, None, IfSome, if◌then◌else◌, refl}
 use base.Stored.{coded_unit}
 use Rattle.std.specs.Coded.{Coded, code_by, coded×, coded_list, coded_ℕ}
 use Rattle.std.specs.FinMap.{get, insert}
@@ -8,7 +8,7 @@ use Rattle.net_semantics.specs.ShownFail.{FailView, IsSoundFail, ShowsFail}
 use Rattle.vst_base.specs.Machines.{MachineMeaning}
 use Rattle.vst_base.specs.declared.entry.Entry.{Entry}
 use Rattle.vst_base.specs.declared.step.Step.{Step}
-use Rattle.raft_clients.specs.Executed.{exceeds, executed, executed_places}
+use Rattle.raft_clients.specs.Executed.{exceeds, executed}
 use Rattle.raft_clients.specs.Requests.{requests as asked}
 use Rattle.raft_clients.specs.Sessions.{Sessions, is_new, sessions_code}
 use Rattle.raft_safety.specs.Applied.{applied_by}
@@ -21,13 +21,12 @@ use Rattle.raft_xform.specs.Nodes.{RaftView}
 use Rattle.raft_xform.specs.Raft.{raft, raft_recovery}
 use Rattle.raft_xform.specs.Sound.{IsSoundNode}
 
--- how many entries there are, the last request of each client that was executed, as a session with no output, the
--- executed requests in order, and the index of the entry of each
+-- how many entries there are, the last request of each client that was executed, as a session with no output, and the
+-- executed requests in order
 pub record OrderView (C : Type 0) : Type 0 where
   pub entries : ℕ
   pub sessions : Sessions (Unit {0})
   pub requests : List (RaftInput C)
-  pub indexes : List ℕ
 
 abbrev request_code : {C : Type 0} → Coded C → Coded (RaftInput C)
 request_code {C} cmd =
@@ -36,17 +35,16 @@ request_code {C} cmd =
 
 abbrev pub order_code : {C : Type 0} → Coded C → Coded (OrderView C)
 order_code {C} cmd =
-    code_by (ℕ × (Sessions (Unit {0}) × (List (RaftInput C) × List ℕ)))
-    (coded× coded_ℕ (coded× (sessions_code coded_unit) (coded× (coded_list (request_code cmd)) (coded_list coded_ℕ))))
-    (λ o. (o.entries, (o.sessions, (o.requests, o.indexes))))
-    (λ p. record { entries = p.0; sessions = p.1.0; requests = p.1.1.0; indexes = p.1.1.1 }) (λ _. refl)
+    code_by (ℕ × (Sessions (Unit {0}) × List (RaftInput C)))
+    (coded× coded_ℕ (coded× (sessions_code coded_unit) (coded_list (request_code cmd))))
+    (λ o. (o.entries, (o.sessions, o.requests)))
+    (λ p. record { entries = p.0; sessions = p.1.0; requests = p.1.1 }) (λ _. refl)
 
 -- it is what is kept of these entries: it tells of each further request whether its number exceeds all of its client
 pub record HasFollowed {C : Type 0} (o : OrderView C) (es : List (Entry C)) : Type 0 where
   pub entries : o.entries ≡ length es
   pub sessions : (client request : ℕ) → is_new (get o.sessions client) request ≡ exceeds (asked es) client request
   pub requests : o.requests ≡ executed (asked es)
-  pub indexes : o.indexes ≡ map suc (executed_places es)
 
 -- whether the next entry executes a request, by what is kept of its client. Where it holds none, none is
 abbrev pub is_executed_by : {C : Type 0} → Sessions (Unit {0}) → Option (RaftInput C) → Bool
@@ -63,7 +61,6 @@ with_executed o r = record {
   entries = o.entries + 1;
   sessions = insert o.sessions r.client (record { request = r.request; output = tt });
   requests = o.requests ++ r ∷ [];
-  indexes = o.indexes ++ (o.entries + 1) ∷ [];
 }
 
 -- what is kept once there is a next entry, by its request, if it holds one

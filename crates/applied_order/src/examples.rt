@@ -6,7 +6,7 @@ ghost use Rattle.applied_order.specs.Orders.{HasFollowed, is_executed_by, with_e
 
 /// What is kept of no entry, of five and of six, and what is not: each entry is counted, a no-op too, but a
 /// no-op is no request; a client's number is the greatest and not the last; a request that comes again is not
-/// there twice; requests have an order, and each the index of its entry, from 1.
+/// there twice; requests have an order.
 pub fn worked_orders()
     ensures none { HasFollowed nothing [] }
     ensures five { HasFollowed kept_of_five five_entries }
@@ -25,8 +25,6 @@ pub fn worked_orders()
         five_entries }
     ensures not_in_another_order { ¬ HasFollowed (record kept_of_five { requests = asked 9 5 1 ∷ asked 7 0 3 ∷ asked 7 2 5 ∷ [] })
         five_entries }
-    ensures not_an_index_of_another_entry { ¬ HasFollowed (record kept_of_five { indexes = 1 ∷ 3 ∷ 5 ∷ [] }) five_entries }
-    ensures not_from_0 { ¬ HasFollowed (record kept_of_five { indexes = 0 ∷ 3 ∷ 4 ∷ [] }) five_entries }
     ensures one_more_is_late { with_entry kept_of_five (Some (asked 9 4 8)) ≡ kept_of_six }
     ensures one_more_is_a_noop { with_entry kept_of_five None ≡ kept_of_six }
     ensures one_more_is_new { with_entry kept_of_five (Some (asked 9 6 2)) ≡ kept_of_another }
@@ -34,5 +32,4 @@ pub fn worked_orders()
     ensures a_noop_is_not_executed { is_executed_by {C = ℕ} kept_of_five.sessions None ≡ false }
     ensures new_is_executed { is_executed_by kept_of_five.sessions (Some (asked 9 6 2)) ≡ true }
     ensures a_first_one_is_executed { is_executed_by kept_of_five.sessions (Some (asked 8 0 1)) ≡ true }
-    ensures not_the_place_among_requests { ¬ HasFollowed (record kept_of_five { indexes = 1 ∷ 2 ∷ 3 ∷ [] }) five_entries }
 {}

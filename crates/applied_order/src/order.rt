@@ -10,14 +10,13 @@ use std::marker::Model;
 use vst_base::{Entry, Machine, What};
 
 /// What a cluster has applied so far, the longest list of entries that one of its nodes had applied at any
-/// moment: how many entries, each client's last request in them that was executed, these requests in order,
-/// and beside each the index of its entry, from 1. Contracts see the record of these.
+/// moment: how many entries, each client's last request in them that was executed, and the executed requests
+/// in order. Contracts see the record of these.
 #[derive(Drop)]
 pub struct AppliedOrder<C> {
     entries: u32,
     sessions: Sessions<()>,
     requests: Vec<RaftInput<C>>,
-    indexes: Vec<u32>,
 }
 
 impl<C> Model for AppliedOrder<C> {
@@ -31,7 +30,6 @@ impl<C> Model for AppliedOrder<C> {
       entries = o.entries;
       sessions = o.sessions;
       requests = o.requests.items;
-      indexes = o.indexes.items;
     } };
 }
 
@@ -44,7 +42,6 @@ impl<C: Drop> AppliedOrder<C> {
             entries: 0,
             sessions: Sessions::new(alloc),
             requests: Vec::new(alloc),
-            indexes: Vec::new(alloc),
         }
     }
 
@@ -73,7 +70,6 @@ impl<C: Drop> AppliedOrder<C> {
                         request: *request,
                         cmd: machine.copy_cmd(alloc, cmd)?,
                     })?;
-                    self.indexes.push(self.entries + 1)?;
                 }
             }
         }
@@ -111,13 +107,6 @@ impl<C: Drop> AppliedOrder<C> {
         ensures { result.now ≡ self.now.requests }
     {
         &self.requests
-    }
-
-    /// The index of each one's entry, from 1.
-    pub fn indexes(&self) -> &[u32]
-        ensures { result.now ≡ self.now.indexes }
-    {
-        &self.indexes
     }
 
     /// Gives up the order for the executed requests.

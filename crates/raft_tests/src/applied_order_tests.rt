@@ -46,19 +46,19 @@ fn is_of(alloc: Global, request: &RaftInput<KvCmd>, row: Row) -> Result<bool, Fa
     Ok(*request == asks(alloc, row)?)
 }
 
-// Whether the first so many rows, the index of an entry and its request, are what was executed, in order.
+// Whether the requests of the first so many rows are what was executed, in order.
 fn are_first(
     alloc: Global,
     order: &AppliedOrder<KvCmd>,
     count: usize,
-    rows: &[(u32, Row)],
+    rows: &[Row],
 ) -> Result<bool, Fail> {
-    let (requests, indexes) = (order.requests(), order.indexes());
-    if requests.len() != count || indexes.len() != count || count > rows.len() {
+    let requests = order.requests();
+    if requests.len() != count || count > rows.len() {
         return Ok(false);
     }
-    for ((request, index), (at, row)) in requests.iter().zip(indexes).zip(rows) {
-        if index != at || !is_of(alloc, request, *row)? {
+    for (request, row) in requests.iter().zip(rows) {
+        if !is_of(alloc, request, *row)? {
             return Ok(false);
         }
     }
@@ -70,12 +70,12 @@ fn a_request_over_all_of_its_client_is_executed(rt: HostRuntime) -> Result<(), F
     let alloc = rt.alloc();
     let mut order = AppliedOrder::new(alloc);
     let executed = [
-        (2, (7, 0, b'a')),
-        (4, (9, 5, b'c')),
-        (6, (7, 2, b'd')),
-        (9, (9, u64::MAX, b'g')),
-        (11, (8, 6, b'i')),
-        (12, (0, 0, b'j')),
+        (7, 0, b'a'),
+        (9, 5, b'c'),
+        (7, 2, b'd'),
+        (9, u64::MAX, b'g'),
+        (8, 6, b'i'),
+        (0, 0, b'j'),
     ];
     for (row, count) in [
         (None, 0),
@@ -156,7 +156,7 @@ fn executes(
     nodes: u8,
     rows: &[Step<Row>],
     by_then: &[usize],
-    executed: &[(u32, Row)],
+    executed: &[Row],
 ) -> Result<bool, Fail>
     requires { IsClusterSize nodes }
 {
@@ -196,7 +196,7 @@ fn the_requests_of_two_leaders_stand_in_one_order(rt: HostRuntime) -> Result<(),
     let by_then = [
         0, 0, 0, 0, 0, 0, 2, 2, 2, 2, 2, 2, 2, 2, 2, 2, 2, 2, 2, 2, 3,
     ];
-    let executed = [(2, (7, 1, b'a')), (3, (9, 1, b'b')), (6, (7, 2, b'c'))];
+    let executed = [(7, 1, b'a'), (9, 1, b'b'), (7, 2, b'c')];
     assert!(rt; executes(rt.alloc(), 3, &rows, &by_then, &executed)?);
     Ok(())
 }
@@ -215,7 +215,7 @@ fn what_was_applied_before_a_stop_still_counts(rt: HostRuntime) -> Result<(), Fa
         Step::In(0, (7, 1, b'c')),
     ];
     let by_then = [0, 1, 1, 1, 1, 1, 2];
-    let executed = [(2, (7, 0, b'a')), (5, (7, 1, b'c'))];
+    let executed = [(7, 0, b'a'), (7, 1, b'c')];
     assert!(rt; executes(rt.alloc(), 1, &rows, &by_then, &executed)?);
     Ok(())
 }
