@@ -12,7 +12,7 @@ use Rattle.wire_fields.specs.Formats.{Format}
 use Rattle.node_body.specs.Slots.{base_of}
 use Rattle.node_acts.specs.StateActs.{append_acts, record_bytes, state_acts}
 use Rattle.node_acts.specs.Stores.{StoreView, is_held}
-use Rattle.node_records.specs.Records.{Stores, IsNoFault, store_acts}
+use Rattle.node_records.specs.Records.{Stores, IsNoFault, IsOfTurns, store_acts}
 
 pub every_as : {T : Type 0} (P Q : T → Type 0) (xs : List T) → ((x : T) → P x → Q x) → Every P xs → Every Q xs
 every_as P Q [] so h = tt
@@ -24,12 +24,13 @@ pub record IsHearing (act : Act) : Type 0 where
   pub effect : (disk : Disk) → effect act disk ≡ disk
   pub silent : (acts : List Act) → datagrams (act ∷ acts) ≡ datagrams acts
   pub stores : (acts : List Act) → store_acts (act ∷ acts) ≡ store_acts acts
+  pub of_turns : IsOfTurns act
 
 hears_one : (act : Act) → Hears act → IsHearing act
-hears_one (Now ms) h = record { effect = λ d. refl; silent = λ a. refl; stores = λ a. refl }
-hears_one (Took wait from bytes) h = record { effect = λ d. refl; silent = λ a. refl; stores = λ a. refl }
-hears_one (Quiet wait) h = record { effect = λ d. refl; silent = λ a. refl; stores = λ a. refl }
-hears_one (ReceiveFailed wait) h = record { effect = λ d. refl; silent = λ a. refl; stores = λ a. refl }
+hears_one (Now ms) h = record { effect = λ d. refl; silent = λ a. refl; stores = λ a. refl; of_turns = tt }
+hears_one (Took wait from bytes) h = record { effect = λ d. refl; silent = λ a. refl; stores = λ a. refl; of_turns = tt }
+hears_one (Quiet wait) h = record { effect = λ d. refl; silent = λ a. refl; stores = λ a. refl; of_turns = tt }
+hears_one (ReceiveFailed wait) h = record { effect = λ d. refl; silent = λ a. refl; stores = λ a. refl; of_turns = tt }
 hears_one act h = absurd h
 
 pub hears_after : (acts : List Act) (disk : Disk) → Every Hears acts → after disk acts ≡ disk
@@ -44,16 +45,20 @@ pub hears_store : (acts : List Act) → Every Hears acts → store_acts acts ≡
 hears_store [] h = refl
 hears_store (act ∷ acts) h = (hears_one act h.0).stores acts ∙ hears_store acts h.1
 
+pub hears_of_turns : (acts : List Act) → Every Hears acts → Every IsOfTurns acts
+hears_of_turns acts h = every_as Hears IsOfTurns acts (λ act s. (hears_one act s).of_turns) h
+
 -- acts that say
 
 pub record IsSaying (act : Act) : Type 0 where
   pub effect : (disk : Disk) → effect act disk ≡ disk
   pub stores : (acts : List Act) → store_acts (act ∷ acts) ≡ store_acts acts
   pub faultless : IsNoFault act
+  pub of_turns : IsOfTurns act
 
 says_one : (act : Act) → Says act → IsSaying act
-says_one (Sent to bytes) h = record { effect = λ d. refl; stores = λ a. refl; faultless = tt }
-says_one (SendFailed to bytes) h = record { effect = λ d. refl; stores = λ a. refl; faultless = tt }
+says_one (Sent to bytes) h = record { effect = λ d. refl; stores = λ a. refl; faultless = tt; of_turns = tt }
+says_one (SendFailed to bytes) h = record { effect = λ d. refl; stores = λ a. refl; faultless = tt; of_turns = tt }
 says_one act h = absurd h
 
 pub says_after : (acts : List Act) (disk : Disk) → Every Says acts → after disk acts ≡ disk
@@ -67,17 +72,21 @@ says_store (act ∷ acts) h = (says_one act h.0).stores acts ∙ says_store acts
 pub says_faultless : (acts : List Act) → Every Says acts → Every IsNoFault acts
 says_faultless acts h = every_as Says IsNoFault acts (λ act s. (says_one act s).faultless) h
 
+pub says_of_turns : (acts : List Act) → Every Says acts → Every IsOfTurns acts
+says_of_turns acts h = every_as Says IsOfTurns acts (λ act s. (says_one act s).of_turns) h
+
 -- acts that store
 
 pub record IsStoring (act : Act) : Type 0 where
   pub silent : (acts : List Act) → datagrams (act ∷ acts) ≡ datagrams acts
   pub stores : (acts : List Act) → store_acts (act ∷ acts) ≡ act ∷ store_acts acts
+  pub of_turns : IsOfTurns act
 
 stores_one : (act : Act) → Stores act → IsStoring act
-stores_one (Wrote area at bytes) h = record { silent = λ a. refl; stores = λ a. refl }
-stores_one (Cut area len) h = record { silent = λ a. refl; stores = λ a. refl }
-stores_one (Synced area) h = record { silent = λ a. refl; stores = λ a. refl }
-stores_one (StoreFailed call) h = record { silent = λ a. refl; stores = λ a. refl }
+stores_one (Wrote area at bytes) h = record { silent = λ a. refl; stores = λ a. refl; of_turns = tt }
+stores_one (Cut area len) h = record { silent = λ a. refl; stores = λ a. refl; of_turns = tt }
+stores_one (Synced area) h = record { silent = λ a. refl; stores = λ a. refl; of_turns = tt }
+stores_one (StoreFailed call) h = record { silent = λ a. refl; stores = λ a. refl; of_turns = tt }
 stores_one act h = absurd h
 
 pub stores_silent : (acts : List Act) → Every Stores acts → datagrams acts ≡ []
@@ -87,6 +96,9 @@ stores_silent (act ∷ acts) h = (stores_one act h.0).silent acts ∙ stores_sil
 pub stores_store : (acts : List Act) → Every Stores acts → store_acts acts ≡ acts
 stores_store [] h = refl
 stores_store (act ∷ acts) h = (stores_one act h.0).stores acts ∙ ap (λ r. act ∷ r) (stores_store acts h.1)
+
+pub stores_of_turns : (acts : List Act) → Every Stores acts → Every IsOfTurns acts
+stores_of_turns acts h = every_as Stores IsOfTurns acts (λ act s. (stores_one act s).of_turns) h
 
 pub areas_store : (act : Act) → OnAreas act → Stores act
 areas_store (Wrote area at bytes) h = tt

@@ -10,7 +10,7 @@ use Rattle.wire_fields.specs.Formats.{Format}
 use Rattle.node_acts.specs.Stores.{StoreView}
 use Rattle.node_run.specs.Runs.{Done, Stage, done_in, said_in, stage_after}
 use Rattle.node_run.specs.Settings.{Settings}
-use Rattle.node_records.specs.Records.{AreRecord, IsNoFault, IsStopped, saves_of, store_acts, store_by}
+use Rattle.node_records.specs.Records.{AreRecord, IsNoFault, IsOfTurns, IsStopped, saves_of, store_acts, store_by}
 use Rattle.node_records.proofs.ActKinds.{cut_short_behind, datagrams_append, whole, store_acts_append}
 use Rattle.node_records.proofs.Folds.{done_append, orderly_append, said_append, saves_append, turns_append}
 
@@ -45,6 +45,7 @@ module _ {S C O : Type 0} (settings : Settings) (m : MachineMeaning S C O) (f : 
   pub records_grow : (stage : Stage S C O) (store : StoreView) (a b : ℕ) (xs ys : List Act) → AreRecord settings m f g stage store a xs →
       AreRecord settings m f g (stands stage xs) (store_by settings.stack f store (decides stage xs)) b ys → AreRecord settings m f g stage store (a + b) (xs ++ ys)
   records_grow stage store a b xs ys x y = record {
+    of_turns = every_append IsOfTurns xs ys x.of_turns y.of_turns;
     orderly = orderly_append settings m f g stage xs ys x.orderly y.orderly;
     turns = let e = turns_append settings m f g stage xs ys in let p = x.turns in let q = y.turns in omega arith;
     stored = stored_first stage store a xs ys x
@@ -57,6 +58,7 @@ module _ {S C O : Type 0} (settings : Settings) (m : MachineMeaning S C O) (f : 
       IsStopped settings m f g (stands stage xs) (store_by settings.stack f store (decides stage xs)) b ys →
       IsStopped settings m f g stage store (a + b) (xs ++ ys)
   stops_grow stage store a b xs ys x y = record {
+    of_turns = every_append IsOfTurns xs ys x.of_turns y.of_turns;
     orderly = orderly_append settings m f g stage xs ys x.orderly y.orderly;
     turns = let e = turns_append settings m f g stage xs ys in let p = x.turns in let q = y.turns in omega arith;
     stored = subst (λ (r : List Act). IsCutShort (saves_of settings.stack f store (decides stage (xs ++ ys))) r)
@@ -75,6 +77,7 @@ module _ {S C O : Type 0} (settings : Settings) (m : MachineMeaning S C O) (f : 
   pub record_stops : (stage : Stage S C O) (store : StoreView) (count : ℕ) (acts : List Act) → AreRecord settings m f g stage store count acts →
       IsStopped settings m f g stage store count acts
   record_stops stage store count acts x = record {
+    of_turns = x.of_turns;
     orderly = x.orderly;
     turns = let e = x.turns in omega arith;
     stored = subst (λ (r : List Act). IsCutShort (saves_of settings.stack f store (decides stage acts)) r) (sym x.stored)

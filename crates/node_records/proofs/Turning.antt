@@ -15,9 +15,9 @@ use Rattle.node_run.specs.Settings.{Settings, due}
 use Rattle.node_run.specs.declared.due.Due.{Due}
 use Rattle.node_run.specs.declared.due.Due.TheVariants.{Timeout, Wait}
 use Rattle.node_run.specs.declared.event.Event.TheVariants.{Tick}
-use Rattle.node_records.specs.Records.{Stores, IsNoFault, AreRecord, IsStopped, HearsAs, saves_of, store_acts}
+use Rattle.node_records.specs.Records.{Stores, IsNoFault, IsOfTurns, AreRecord, IsStopped, HearsAs, saves_of, store_acts}
 use Rattle.node_records.specs.RecordLaws.{Turns}
-use Rattle.node_records.proofs.ActKinds.{every_as, areas_faultless, areas_store, datagrams_append, hears_silent, hears_store, save_on_areas, says_faultless, says_store, short_stores, store_acts_append, stores_silent, stores_store}
+use Rattle.node_records.proofs.ActKinds.{every_as, areas_faultless, areas_store, datagrams_append, hears_of_turns, hears_silent, hears_store, save_on_areas, says_faultless, says_of_turns, says_store, short_stores, store_acts_append, stores_of_turns, stores_silent, stores_store}
 use Rattle.node_records.proofs.Folds.{done_append, orderly_append, stage_append, turns_append}
 
 -- an act that follows what was heard
@@ -27,6 +27,11 @@ Follows act = Stores act ⊎ Says act
 pub turn_follows : (saves said : List Act) → Every Stores saves → Every Says said → Every Follows (saves ++ said)
 turn_follows saves said s q =
     every_append Follows saves said (every_as Stores Follows saves (λ act h. inl h) s) (every_as Says Follows said (λ act h. inr h) q)
+
+-- what was heard, and then such acts, are of turns
+pub turn_of_turns : (hs saves said : List Act) → Every Hears hs → Every Stores saves → Every Says said → Every IsOfTurns (hs ++ (saves ++ said))
+turn_of_turns hs saves said h s q =
+    every_append IsOfTurns hs (saves ++ said) (hears_of_turns hs h) (every_append IsOfTurns saves said (stores_of_turns saves s) (says_of_turns said q))
 
 -- only a datagram among them is sent
 pub turn_said : (saves said : List Act) → Every Stores saves → datagrams (saves ++ said) ≡ datagrams said
@@ -121,11 +126,12 @@ module _ {S C O : Type 0} (settings : Settings) (m : MachineMeaning S C O) (f : 
   -- a whole turn
 
   pub nothing : (stage : Stage S C O) (store : StoreView) → AreRecord settings m f g stage store 0 []
-  nothing stage store = record { orderly = tt; turns = refl; stored = refl; said = refl; faultless = tt }
+  nothing stage store = record { of_turns = tt; orderly = tt; turns = refl; stored = refl; said = refl; faultless = tt }
 
   pub quiet_turn : (stage : Stage S C O) (store : StoreView) (count : ℕ) (node : NodeView S C O) (hs : List Act) →
       HearsAs settings m f g stage hs [] count (Between node) → AreRecord settings m f g stage store count hs
   quiet_turn stage store count node hs h = record {
+    of_turns = hears_of_turns hs h.hears;
     orderly = h.orderly;
     turns = h.turns;
     stored = hears_store hs h.hears ∙ sym (ap (λ r. saves_of settings.stack f store r) h.events);
@@ -152,6 +158,7 @@ module _ {S C O : Type 0} (settings : Settings) (m : MachineMeaning S C O) (f : 
       let st : Every Stores saves = every_as OnAreas Stores saves areas_store on in
       let t = turn stage (d ∷ []) count node hs (saves ++ said) h (turn_follows saves said st q) in
       record {
+        of_turns = turn_of_turns hs saves said h.hears st q;
         orderly = t.orderly;
         turns = t.turns;
         stored = stored_in_turn hs saves said h.hears st q
@@ -166,6 +173,7 @@ module _ {S C O : Type 0} (settings : Settings) (m : MachineMeaning S C O) (f : 
   pub heard_stops : (stage : Stage S C O) (store : StoreView) (done : List (Done C)) (count : ℕ) (next : Stage S C O) (hs : List Act) →
       HearsAs settings m f g stage hs done count next → IsStopped settings m f g stage store count hs
   heard_stops stage store done count next hs h = record {
+    of_turns = hears_of_turns hs h.hears;
     orderly = h.orderly;
     turns = let e = h.turns in omega arith;
     stored = subst (λ (r : List Act). IsCutShort (saves_of settings.stack f store (decides stage hs)) r) (sym (hears_store hs h.hears)) tt;
@@ -183,6 +191,7 @@ module _ {S C O : Type 0} (settings : Settings) (m : MachineMeaning S C O) (f : 
       let owed : saves_of settings.stack f store (decides stage all) ≡ whole_save =
       ap (λ r. saves_of settings.stack f store r) t.events ∙ append-nil whole_save in
       record {
+        of_turns = turn_of_turns hs saves said h.hears st q;
         orderly = t.orderly;
         turns = let e = t.turns in omega arith;
         stored = subst (λ (r : List Act). IsCutShort (saves_of settings.stack f store (decides stage all)) r)

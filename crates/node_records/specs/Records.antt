@@ -1,6 +1,6 @@
 -- What the whole record of a node's device is: turn after turn what was heard, the save of each event, and then what it says.
 use Rattle.std.specs.Prelude.{◌≡◌, ℕ, ◌≤◌, List, [], ◌∷◌, ◌++◌}
-use Rattle.disk.specs.Acts.{Act, BeginFailed, ReceiveFailed, Wrote, Cut, Synced, StoreFailed}
+use Rattle.disk.specs.Acts.{Act, Began, BeginFailed, ReceiveFailed, Wrote, Cut, Synced, StoreFailed}
 use Rattle.disk.specs.DiskLaws.{Every, IsCutShort}
 use Rattle.raft_types.specs.Keeping.{KeptView}
 use Rattle.slots.specs.Turns.{Hears, datagrams}
@@ -44,9 +44,14 @@ abbrev pub kept_by : {C : Type 0} → KeptView C → List (Done C) → KeptView 
 kept_by kept [] = kept
 kept_by kept (d ∷ done) = kept_by d.kept done
 
+-- A device begins before the first turn, and in none.
+abbrev pub IsOfTurns : Act → Type 0
+IsOfTurns (Began at dir) = ⊥
+IsOfTurns (BeginFailed at dir) = ⊥
+IsOfTurns act = Unit {0}
+
 -- A datagram that was lost in sending is no fault.
 abbrev pub IsNoFault : Act → Type 0
-IsNoFault (BeginFailed at dir) = ⊥
 IsNoFault (ReceiveFailed wait) = ⊥
 IsNoFault (StoreFailed call) = ⊥
 IsNoFault act = Unit {0}
@@ -55,6 +60,7 @@ module _ {S C O : Type 0} (settings : Settings) (m : MachineMeaning S C O) (f : 
   -- From this stage on, where the node knows this of its areas, the acts are so many whole turns: the areas were touched by the saves
   -- of their events alone, what these say was sent or lost, and nothing failed.
   pub record AreRecord (stage : Stage S C O) (store : StoreView) (count : ℕ) (acts : List Act) : Type 0 where
+    pub of_turns : Every IsOfTurns acts
     pub orderly : AreOrderly settings m f g stage acts
     pub turns : turns_in settings m f g stage acts ≡ count
     pub stored : store_acts acts ≡ saves_of settings.stack f store (done_in settings m f g stage acts)
@@ -64,6 +70,7 @@ module _ {S C O : Type 0} (settings : Settings) (m : MachineMeaning S C O) (f : 
   -- The same of acts that a fault, or want of memory, cut short: at most so many turns, the saves of their events cut short, and a
   -- front of what these say.
   pub record IsStopped (stage : Stage S C O) (store : StoreView) (most : ℕ) (acts : List Act) : Type 0 where
+    pub of_turns : Every IsOfTurns acts
     pub orderly : AreOrderly settings m f g stage acts
     pub turns : turns_in settings m f g stage acts ≤ most
     pub stored : IsCutShort (saves_of settings.stack f store (done_in settings m f g stage acts)) (store_acts acts)

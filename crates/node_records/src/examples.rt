@@ -1,5 +1,5 @@
-ghost use Rattle.std.specs.Prelude.{◌≡◌, [], ◌∷◌, ◌++◌, drop, take};
-ghost use Rattle.disk.specs.Acts.{Cut, Now, Quiet, ReceiveFailed, SendFailed, Sent, StoreFailed, Sync, Synced, Wrote};
+ghost use Rattle.std.specs.Prelude.{◌≡◌, [], ◌∷◌, ◌++◌, codes, drop, take};
+ghost use Rattle.disk.specs.Acts.{Began, Cut, Now, Quiet, ReceiveFailed, SendFailed, Sent, StoreFailed, Sync, Synced, Wrote};
 ghost use Rattle.node_acts.specs.Examples.{knowing};
 ghost use Rattle.node_records.specs.Examples.{answer, answered, are_record, first, is_at, is_stopped, known, knows_then, leaves, refused_request, save, saves_then, two_events, voted};
 ghost use Rattle.node_records.specs.Records.{kept_by, store_acts};
@@ -19,7 +19,7 @@ pub fn worked_folds()
 {}
 
 /// Records, and lists of acts that are none: of a turn less or more, with a write too much, a save or a datagram that is missing, one
-/// that another node gets, and with a fault.
+/// that another node gets, with a fault, and with a device that begins once more.
 #[tactic(auto, unfolding(wire_fields::specs::Bytes::number_bytes, wire_fields::specs::Bytes::number_in, wire_fields::specs::Bytes::has_bytes, wire_fields::specs::Bytes::read_number))]
 pub fn worked_records()
     ensures three { are_record 3 (three_turns ++ (save ++ answered ∷ [])) }
@@ -34,6 +34,7 @@ pub fn worked_records()
     ensures not_answered { are_record 3 (three_turns ++ save) → ⊥ }
     ensures to_another { are_record 3 (three_turns ++ (save ++ Sent (at_port 7002) answer ∷ [])) → ⊥ }
     ensures a_fault { are_record 3 (three_turns ++ (save ++ (answered ∷ Now 0 ∷ ReceiveFailed 300 ∷ []))) → ⊥ }
+    ensures a_beginning { are_record 3 (three_turns ++ (save ++ (answered ∷ Began (at_port 7000) (codes "d") ∷ []))) → ⊥ }
 {}
 
 /// Turns that were cut short, and what no fault makes of them.
@@ -48,6 +49,7 @@ pub fn worked_stops()
     ensures to_another { is_stopped 3 (three_turns ++ (save ++ Sent (at_port 7002) answer ∷ [])) → ⊥ }
     ensures twice { is_stopped 3 (three_turns ++ (save ++ (answered ∷ answered ∷ []))) → ⊥ }
     ensures a_turn_more { is_stopped 2 three_turns → ⊥ }
+    ensures a_beginning { is_stopped 3 (Began (at_port 7000) (codes "d") ∷ three_turns) → ⊥ }
     ensures after_a_fault { is_stopped 4 (three_turns ++ (save ++ (answered ∷ Now 0 ∷ ReceiveFailed 300 ∷ Now 0 ∷ []))) → ⊥ }
 {}
 

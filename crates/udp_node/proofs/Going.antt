@@ -51,7 +51,7 @@ module _ {S C O D : Type 0} (s : StackId) (config : Config) (m : MachineMeaning 
       (record {
         did = halts.did;
         acts = halts.acts;
-        stopped = record { orderly = halts.stopped.orderly; turns = omega (arith, halts.stopped.turns, x.few); stored = halts.stopped.stored; said = halts.stopped.said };
+        stopped = record { of_turns = halts.stopped.of_turns; orderly = halts.stopped.orderly; turns = omega (arith, halts.stopped.turns, x.few); stored = halts.stopped.stored; said = halts.stopped.said };
         leaves = halts.leaves;
       })
 

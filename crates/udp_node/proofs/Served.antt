@@ -46,7 +46,7 @@ module _ {S C O D : Type 0} (s : StackId) (config : Config) (m : MachineMeaning 
   at_most stage kept store a b before now le x = record {
     did = x.did;
     acts = x.acts;
-    stopped = record { orderly = x.stopped.orderly; turns = omega (arith, x.stopped.turns, le); stored = x.stopped.stored; said = x.stopped.said };
+    stopped = record { of_turns = x.stopped.of_turns; orderly = x.stopped.orderly; turns = omega (arith, x.stopped.turns, le); stored = x.stopped.stored; said = x.stopped.said };
     leaves = x.leaves;
   }
 

@@ -41,11 +41,11 @@ refusal_in Fresh = None
 refusal_in (Held found selector) = None
 refusal_in (Refused why) = Some why
 
--- Areas are refused exactly where this is why. A fault may come before.
+-- Areas are refused exactly where this is why. A fault of the disk, and want of memory, may come before; a receive comes after.
 abbrev pub Meets : {T : Type 0} → Option Why → Result T NodeFault → Type 0
 Meets first (Ok x) = first ≡ None
 Meets first (Err (fault.Refused why)) = first ≡ Some (refusal_of why)
-Meets first (Err fault.Receive) = Unit {0}
+Meets first (Err fault.Receive) = first ≡ None
 Meets first (Err fault.Store) = Unit {0}
 Meets first (Err fault.Memory) = Unit {0}
 

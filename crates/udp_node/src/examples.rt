@@ -57,6 +57,7 @@ pub fn worked_starts()
     ensures refused { StartsFrom (Refused BadSelector) (kept_as 0 None) → ⊥ }
     ensures accepted { Meets {T = Unit {0}} None (Err NodeFault.Receive) }
     ensures accepted_and_refused { Meets {T = Unit {0}} None (Err (NodeFault.Refused Refusal.Selector)) → ⊥ }
+    ensures refused_and_heard { Meets {T = Unit {0}} (Some BadSelector) (Err NodeFault.Receive) → ⊥ }
     ensures refused_and_served { Meets {T = Unit {0}} (Some BadSelector) (Ok tt) → ⊥ }
     ensures refused_for_this { Meets {T = Unit {0}} (Some BadSelector) (Err (NodeFault.Refused Refusal.Selector)) }
     ensures refused_for_another { Meets {T = Unit {0}} (Some BadSlot) (Err (NodeFault.Refused Refusal.Selector)) → ⊥ }

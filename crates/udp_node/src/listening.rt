@@ -1,10 +1,11 @@
-ghost use Rattle.std.specs.Prelude.{◌≡◌, true, IfErr, IfOk, IfSome, OnErr};
+ghost use Rattle.std.specs.Prelude.{◌≡◌, length, true, IfErr, IfOk, IfSome, OnErr};
 ghost use Rattle.node_core.specs.Replicas.{view_of};
 ghost use Rattle.node_datagrams.specs.Configured.{IsEventOf, settings_of};
 ghost use Rattle.node_device.specs.Telling.{WhereTold};
 ghost use Rattle.udp_node.specs.Causes.{Counts, IsOfATurn};
 ghost use Rattle.udp_node.specs.Listening.{HasCutOff, HasHeard, HasReceived, HasStoppedHearing};
 ghost use Rattle.udp_node.specs.Serving.{StillTold};
+ghost use Rattle.udp_node.specs.declared.room.TheConstants.{RECEIVE_BUFFER};
 
 use crate::NodeFault;
 use node_body::Commands;
@@ -24,7 +25,8 @@ fn listen<D: Device, C: Wire>(
     wait_ms: u32,
     received: &mut [u8],
 ) -> Result<Option<Event<C>>, NodeFault>
-    requires { D.begun device.old ≡ true }
+    requires begun { D.begun device.old ≡ true }
+    requires room { length received.old ≡ RECEIVE_BUFFER }
     ensures received { IfOk result (λ event. WhereTold (D.told device.old) (D.told device.new)
         (HasReceived (settings_of config.now) C.format wait_ms event)) }
     ensures comes { IfOk result (λ event. IfSome event (IsEventOf config.now)) }
@@ -49,7 +51,8 @@ pub(crate) fn await_event<D: Device, S: Drop, C: Commands, O: Wire>(
     node: &mut Shipped<S, C, O>,
     received: &mut [u8],
 ) -> Result<Option<Event<C>>, NodeFault>
-    requires { D.begun device.old ≡ true }
+    requires begun { D.begun device.old ≡ true }
+    requires room { length received.old ≡ RECEIVE_BUFFER }
     ensures node { node.new.replica ≡ record node.old.replica { time = node.new.replica.time } }
     ensures heard { IfOk result (λ event. StillTold (D.told device.old) (D.told device.new)
         (HasHeard S (settings_of config.now) C.format O.format (view_of node.old.replica) node.new.replica.time event)) }

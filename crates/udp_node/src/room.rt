@@ -1,3 +1,6 @@
+ghost use Rattle.std.specs.Prelude.{◌≡◌, IfOk, vec_len};
+ghost use Rattle.udp_node.specs.declared.room.TheConstants.{RECEIVE_BUFFER};
+
 use std::alloc::{AllocError, Global};
 
 /// How many bytes of a datagram are received at most. Longer ones are cut, and are no datagrams of a node either way.
@@ -11,7 +14,9 @@ pub(crate) struct Room {
 }
 
 impl Room {
-    pub(crate) fn new(alloc: Global) -> Result<Self, AllocError> {
+    pub(crate) fn new(alloc: Global) -> Result<Self, AllocError>
+        ensures received { IfOk result (λ room. vec_len room.received ≡ RECEIVE_BUFFER) }
+    {
         Ok(Room {
             received: vec![in alloc; 0; RECEIVE_BUFFER]?,
             datagram: Vec::new(alloc),

@@ -1,4 +1,4 @@
-ghost use Rattle.std.specs.Prelude.{◌≡◌, ◌≢◌, ◌≤◌, length, true, IfErr, IfOk, IfSome, OnErr, OnOk};
+ghost use Rattle.std.specs.Prelude.{◌≡◌, ◌≢◌, ◌≤◌, length, true, vec_len, IfErr, IfOk, IfSome, OnErr, OnOk};
 ghost use Rattle.node_acts.specs.Stores.{Holds};
 ghost use Rattle.node_datagrams.specs.Configured.{IsEventOf};
 ghost use Rattle.node_device.specs.Telling.{WhereTold};
@@ -7,6 +7,7 @@ ghost use Rattle.node_core.specs.Replicas.{IsReady, kept_of, who_of};
 ghost use Rattle.udp_node.specs.Acting.{Acted, ActedInPart, next_replica};
 ghost use Rattle.udp_node.specs.Causes.{CountsRun, IsOfATurn};
 ghost use Rattle.udp_node.specs.Serving.{Halted, StillTold, Went};
+ghost use Rattle.udp_node.specs.declared.room.TheConstants.{RECEIVE_BUFFER};
 
 use crate::NodeFault;
 use crate::listening::await_event;
@@ -36,7 +37,7 @@ fn act<
     config: &Config,
     node: Shipped<S, C, O>,
     event: Event<C>,
-    room: &mut Room,
+    datagram: &mut Vec<u8>,
 ) -> Result<Shipped<S, C, O>, NodeFault>
     requires begun { D.begun device.old ≡ true }
     requires other { X.stack ≢ C.stack }
@@ -62,7 +63,7 @@ fn act<
 {
     let taken = node.take(alloc, raft, config, event)?;
     let saved = taken.save::<D, X>(alloc, device)?;
-    Ok(saved.ship(config, device, &mut room.datagram)?)
+    Ok(saved.ship(config, device, datagram)?)
 }
 
 // One turn of a node.
@@ -87,6 +88,7 @@ pub(crate) fn turn<
     requires who { node.replica.store.who ≡ who_of config.now }
     requires nodes { raft.now.nodes ≡ length config.now.peers }
     requires clients { length config.now.clients ≤ MAX_CLIENTS }
+    requires room { vec_len room.old.received ≡ RECEIVE_BUFFER }
     requires holds { IfSome (D.told device.old) (λ told.
         Holds C.stack C.format X.stack X.format node.replica.store (kept_of node.replica.state) told.disk) }
     ensures ready { IfOk result (λ next. IsReady C.stack next.replica) }
@@ -97,13 +99,22 @@ pub(crate) fn turn<
         (Went C.stack config.now (M.meaning raft.now.machine) C.format O.format X.stack X.format node.replica 1 next.replica)) }
     ensures halted { OnErr result (StillTold (D.told device.old) (D.told device.new)
         (Halted C.stack config.now (M.meaning raft.now.machine) C.format O.format X.stack X.format node.replica 1)) }
+    ensures room { vec_len room.new.received ≡ RECEIVE_BUFFER }
     ensures of_a_turn { IfErr result IsOfATurn }
     ensures causes { CountsRun (D.faults device.old) (D.faults device.new) result }
     ensures begun { D.begun device.new ≡ true }
 {
     let mut node = node;
     match await_event(alloc, device, config, &mut node, &mut room.received)? {
-        Some(event) => act::<D, S, C, O, X, M>(alloc, device, raft, config, node, event, room),
+        Some(event) => act::<D, S, C, O, X, M>(
+            alloc,
+            device,
+            raft,
+            config,
+            node,
+            event,
+            &mut room.datagram,
+        ),
         None => Ok(node),
     }
 }

@@ -15,6 +15,7 @@ pub loop-init : goal.loop-init
 loop-init g c = record {
   ready = c.requires.ready;
   who = c.requires.who;
+  room = c.in_ok-room.ensures.received;
   begun = c.requires.begun;
   counts = sends_none _;
   holds = c.requires.holds;
@@ -39,6 +40,7 @@ pub loop-preserved : goal.loop-preserved
 loop-preserved g c = record {
   ready = c.in_ok-node.ensures.ready;
   who = c.in_ok-node.ensures.who;
+  room = c.turn.ensures.room;
   begun = c.in_ok-node.ensures.begun;
   counts = sends_twice _ (g.D.Device.faults c.loop.device) _ c.loop.invariant.counts c.in_ok-node.ensures.causes;
   holds = c.in_ok-node.ensures.holds;

@@ -1,8 +1,9 @@
-use Rattle.std.proofs.Common.{◌≡◌, true, IfSome}
+use Rattle.std.proofs.Common.{◌≡◌, true, IfSome, vec_len}
 use Rattle.node_acts.specs.Stores.{Holds}
 use Rattle.node_core.specs.Replicas.{IsReady, kept_of, who_of}
 use Rattle.node_datagrams.specs.Saying.{SendsOnly}
 use Rattle.udp_node.specs.Serving.{StillTold, Went, WentEach}
+use Rattle.udp_node.specs.declared.room.TheConstants.{RECEIVE_BUFFER}
 use Rattle.udp_node.proofs.serving.take_turns.Given as goal
 
 abbrev pub invariant-loop : goal.invariant-loop
@@ -11,6 +12,7 @@ invariant-loop g l =
     record {
       ready : IsReady g.C.Commands.stack l.node.replica;
       who : l.node.replica.store.who ≡ who_of l.config;
+      room : vec_len l.room.received ≡ RECEIVE_BUFFER;
       begun : k.begun l.device ≡ true;
       counts : SendsOnly (k.faults l.initial.device) (k.faults l.device);
       holds : IfSome (k.told l.device) (λ told.
