@@ -1,22 +1,17 @@
 -- How a node's run ends: each status by what the run came to and said.
-use Rattle.std.specs.Prelude.{◌≡◌, ℕ, List, Option, Some, None, Result, Ok, Err}
-use Rattle.std.proofs.Common.{inl, inr, ap, ◌∙◌, subst, sym, append-nil, arith, refl}
+use Rattle.std.specs.Prelude.{◌≡◌, ℕ, List, Result, Ok, Err}
+use Rattle.std.proofs.Common.{inl, inr, ◌∙◌, subst, sym, arith, refl}
 use Rattle.command_line.specs.AskedNodes.{NodeWordsView}
 use Rattle.outside.specs.Wholes.{Gained, GainedFront}
 use Rattle.run_streams.specs.Lines.{memory_line}
 use Rattle.run_streams.specs.Saying.{Said, Tells}
 use Rattle.udp_node.specs.declared.fault.NodeFault.TheVariants as fault
-use Rattle.node_command.specs.Lines.{line_of, status_of, turns_line}
+use Rattle.node_command.specs.Lines.{line_of, status_of}
 use Rattle.node_command.specs.Seen.{NodeRun}
-use Rattle.node_command.specs.Statuses.{AreAreasRefused, CameTo, EndsBy, HasCome, HasListeningFailed, HasWriteFailed, IsConfigRefused, IsDone, IsNodeStatus, IsOutOfMemory, MaySay, WasSaying}
+use Rattle.node_command.specs.Statuses.{AreAreasRefused, CameTo, EndsBy, HasCome, HasListeningFailed, HasWriteFailed, IsConfigRefused, IsDone, IsNodeStatus, IsOutOfMemory, MaySay, WasSaying, WroteTurnsAtMost}
 use Rattle.node_command.specs.Telling.{Ends, TellsTrouble, TellsTurns, TellsWhat}
 use Rattle.node_command.specs.declared.trouble.Trouble.{Trouble}
 use Rattle.node_command.specs.declared.trouble.Trouble.TheVariants as trouble
-
--- nothing is a front of any text, and a text of itself
-front_none : (o o' : Option (List ℕ)) (text : List ℕ) → o' ≡ o → GainedFront o o' text
-front_none None o' text same = tt
-front_none (Some held) o' text same = (0, same ∙ ap Some (sym (append-nil held)))
 
 -- a run ends in one of these ways
 pub data Ending (w : NodeWordsView) (r : NodeRun) (result : ℕ) : Type 0 where
@@ -26,16 +21,12 @@ pub data Ending (w : NodeWordsView) (r : NodeRun) (result : ℕ) : Type 0 where
   Wanted : IsOutOfMemory w r → result ≡ 8 → Ending w r result
 
 module _ (w : NodeWordsView) (r : NodeRun) (result : ℕ) where
-  pub out_stays : r.streams.after.out ≡ r.streams.before.out → GainedFront r.streams.before.out.written r.streams.after.out.written (turns_line w.turns)
-  out_stays same = front_none r.streams.before.out.written r.streams.after.out.written (turns_line w.turns) (ap (λ sink. sink.written) same)
-
   saying : (line : List ℕ) → MaySay w r line → GainedFront r.streams.before.err.written r.streams.after.err.written line
-      → GainedFront r.streams.before.out.written r.streams.after.out.written (turns_line w.turns) → WasSaying w r
+      → WroteTurnsAtMost w r → WasSaying w r
   saying line may front out = record { line = line; may = may; front = front; out = out }
 
   -- that memory was wanted is said, or not
-  pub said_memory : GainedFront r.streams.before.out.written r.streams.after.out.written (turns_line w.turns)
-      → Said 8 memory_line r.streams.before.err r.streams.after.err result → Ending w r result
+  pub said_memory : WroteTurnsAtMost w r → Said 8 memory_line r.streams.before.err r.streams.after.err result → Ending w r result
   said_memory out (inl whole) = Wanted (inl (record { err = whole.1; out = out })) whole.0
   said_memory out (inr (inl failed)) = Failed (inr (failed.2, saying memory_line (inr refl) failed.1 out)) failed.0
   said_memory out (inr (inr wanted)) = Wanted (inr (wanted.3, saying memory_line (inr refl) wanted.1 out)) wanted.0
@@ -43,15 +34,15 @@ module _ (w : NodeWordsView) (r : NodeRun) (result : ℕ) where
   told : (t : Trouble) → CameTo w r (Err t) → TellsTrouble t r.streams.before.out r.streams.after.out r.streams.before.err r.streams.after.err result
       → Tells (status_of t) (line_of t) r.streams.before.err r.streams.after.err result → Ending w r result
   told t came tells (inl (inl whole)) = Ended t (record { came = came; out = tells.out_is; err = whole.1; quiet = whole.2 }) whole.0
-  told t came tells (inl (inr (inl failed))) = Failed (inr (failed.2, saying (line_of t) (inl (t, came, refl)) failed.1 (out_stays tells.out_is))) failed.0
-  told t came tells (inl (inr (inr wanted))) = Wanted (inr (wanted.3, saying (line_of t) (inl (t, came, refl)) wanted.1 (out_stays tells.out_is))) wanted.0
-  told t came tells (inr said) = said_memory (out_stays tells.out_is) said
+  told t came tells (inl (inr (inl failed))) = Failed (inr (failed.2, saying (line_of t) (inl (t, came, refl)) failed.1 (inl tells.out_is))) failed.0
+  told t came tells (inl (inr (inr wanted))) = Wanted (inr (wanted.3, saying (line_of t) (inl (t, came, refl)) wanted.1 (inl tells.out_is))) wanted.0
+  told t came tells (inr said) = said_memory (inl tells.out_is) said
 
   finished : CameTo w r (Ok tt) → TellsTurns w.turns r.streams.before.out r.streams.after.out r.streams.before.err r.streams.after.err result → Ending w r result
   finished came (inl wrote) = Finished (record { served = came; out = wrote.out_is; err = wrote.err_is; quiet = wrote.counts }) wrote.status
   finished came (inr (inl failed)) =
       Failed (inl (record { served = came; front = failed.out_is; rose = failed.rose; err = failed.err_is })) failed.status
-  finished came (inr (inr wanted)) = said_memory wanted.out_is wanted.said
+  finished came (inr (inr wanted)) = said_memory (inr (came, wanted.out_is)) wanted.said
 
   ending_of : (came : Result (Unit {0}) Trouble) → CameTo w r came
       → TellsWhat w.turns came r.streams.before.out r.streams.after.out r.streams.before.err r.streams.after.err result → Ending w r result
@@ -202,7 +193,7 @@ module _ (w : NodeWordsView) (r : NodeRun) (result : ℕ) where
   is_wanting (Ended t x e) is =
       inl (record {
         err = subst (λ line. Gained r.streams.before.err.written r.streams.after.err.written line) (by_eight w r t x (sym e ∙ is)) x.err;
-        out = out_stays w r result x.out;
+        out = inl x.out;
       })
   is_wanting (Failed x e) is = absurd (omega (arith, e, is))
   is_wanting (Wanted x e) is = x

@@ -44,6 +44,10 @@ complained reads line after = record {
   after = after;
 }
 
+-- the same run, which wrote this on the output
+abbrev pub wrote_out : List ℕ → NodeRun → NodeRun
+wrote_out text r = record r { streams = record r.streams { after = record r.streams.after { out = sink text } } }
+
 -- a device that has done nothing, with empty areas
 abbrev pub untouched : Told
 untouched = record { acts = []; disk = record { slot0 = settled []; slot1 = settled []; selector = settled [] } }

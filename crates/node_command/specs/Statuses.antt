@@ -54,12 +54,18 @@ module _ (w : NodeWordsView) (r : NodeRun) where
   abbrev pub MaySay : List ℕ → Type 0
   MaySay line = ((t : Trouble) × CameTo (Err t) × (line ≡ line_of t)) ⊎ (line ≡ memory_line)
 
-  -- a front of such a line was written, and on the output nothing but a front of the line of the turns
+  -- the output is as it was, or, after the last turn, gained a front of the line of the turns
+  abbrev pub WroteTurnsAtMost : Type 0
+  WroteTurnsAtMost =
+      (r.streams.after.out ≡ r.streams.before.out)
+      ⊎ (CameTo (Ok tt) × GainedFront r.streams.before.out.written r.streams.after.out.written (turns_line w.turns))
+
+  -- a front of such a line was written
   pub record WasSaying : Type 0 where
     pub line : List ℕ
     pub may : MaySay line
     pub front : GainedFront r.streams.before.err.written r.streams.after.err.written line
-    pub out : GainedFront r.streams.before.out.written r.streams.after.out.written (turns_line w.turns)
+    pub out : WroteTurnsAtMost
 
   -- 5: a write of the output failed, after the last turn
   pub record HasOutFailed : Type 0 where
@@ -75,7 +81,7 @@ module _ (w : NodeWordsView) (r : NodeRun) where
   -- 8: memory was wanted: the error stream gained that line, or it wanted memory itself
   pub record HasSaidMemory : Type 0 where
     pub err : Gained r.streams.before.err.written r.streams.after.err.written memory_line
-    pub out : GainedFront r.streams.before.out.written r.streams.after.out.written (turns_line w.turns)
+    pub out : WroteTurnsAtMost
 
   abbrev pub IsOutOfMemory : Type 0
   IsOutOfMemory = HasSaidMemory ⊎ (Rose r.streams.before.err.wants r.streams.after.err.wants × WasSaying)

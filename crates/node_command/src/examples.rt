@@ -1,7 +1,7 @@
 ghost use Rattle.std.specs.Prelude.{◌≡◌, [], ◌∷◌, Err, None, Ok, Some, codes};
 ghost use Rattle.disk.specs.Acts.{Now};
 ghost use Rattle.node_command.specs.Complete.{areas_status, configured_status};
-ghost use Rattle.node_command.specs.Examples.{begins, comes_of_nothing, comes_to, complained, device, idle, untouched, words};
+ghost use Rattle.node_command.specs.Examples.{begins, comes_of_nothing, comes_to, complained, device, idle, untouched, words, wrote_out};
 ghost use Rattle.node_command.specs.Lines.{config_line, line_of, state_line, status_of, turns_line};
 ghost use Rattle.node_command.specs.Statuses.{EndsBy, IsConfigRefused, IsNodeStatus, IsOutOfMemory, MaySay};
 ghost use Rattle.node_device.specs.Examples.{counts, sends, tells};
@@ -44,6 +44,7 @@ pub fn worked_statuses()
     ensures refused_after_a_fault { EndsBy words (complained 1 (codes "config: me\n") idle) (Trouble.Config ConfigKey.Me) → ⊥ }
     ensures wanted { IsOutOfMemory words (complained 0 (codes "memory\n") idle) }
     ensures wanted_in_silence { IsOutOfMemory words (complained 0 [] idle) → ⊥ }
+    ensures wanted_after_turns_that_none_took { IsOutOfMemory words (wrote_out (codes "turns 3\n") (complained 1 (codes "memory\n") idle)) → ⊥ }
     ensures says_memory { MaySay words (complained 0 [] idle) (codes "memory\n") }
 {}
 

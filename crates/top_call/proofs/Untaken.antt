@@ -5,7 +5,7 @@ use Rattle.command_line.specs.AskedNodes.{NodeWordsView}
 use Rattle.command_line.specs.declared.asked.Asked.{Asked}
 use Rattle.command_line.specs.declared.asked.Asked.TheVariants.{Node, Texts}
 use Rattle.command_line.specs.declared.command.Command.{Command}
-use Rattle.node_command.proofs.Ending.{is_unwritten, is_wanting, out_stays, said_memory}
+use Rattle.node_command.proofs.Ending.{is_unwritten, is_wanting, said_memory}
 use Rattle.node_command.specs.Complete as node
 use Rattle.node_command.specs.Complete.{NoneRose, status_for}
 use Rattle.node_command.specs.Seen.{NodeRun}
@@ -61,13 +61,13 @@ wanting_complete (Some (Node w)) r result told = node_complete w r result (λ no
 
 node_failed : (w : NodeWordsView) (r : NodeRun) (result : ℕ) → Tells 8 memory_line r.streams.before.err r.streams.after.err result → result ≡ 5
     → r.streams.after.out ≡ r.streams.before.out → HasWriteFailed (Some (Node w)) r
-node_failed w r result (inl said) is same = is_unwritten w r result (said_memory w r result (out_stays w r result same) said) is
-node_failed w r result (inr said) is same = is_unwritten w r result (said_memory w r result (out_stays w r result same) said) is
+node_failed w r result (inl said) is same = is_unwritten w r result (said_memory w r result (inl same) said) is
+node_failed w r result (inr said) is same = is_unwritten w r result (said_memory w r result (inl same) said) is
 
 node_memory : (w : NodeWordsView) (r : NodeRun) (result : ℕ) → Tells 8 memory_line r.streams.before.err r.streams.after.err result → result ≡ 8
     → r.streams.after.out ≡ r.streams.before.out → IsOutOfMemory (Some (Node w)) r
-node_memory w r result (inl said) is same = is_wanting w r result (said_memory w r result (out_stays w r result same) said) is
-node_memory w r result (inr said) is same = is_wanting w r result (said_memory w r result (out_stays w r result same) said) is
+node_memory w r result (inl said) is same = is_wanting w r result (said_memory w r result (inl same) said) is
+node_memory w r result (inr said) is same = is_wanting w r result (said_memory w r result (inl same) said) is
 
 pub wanting_failed : (asked : Option Asked) (r : NodeRun) (result : ℕ) → Told complaint.Memory r.streams.before.err r.streams.after.err result → result ≡ 5
     → r.streams.after.out ≡ r.streams.before.out → HasWriteFailed asked r
