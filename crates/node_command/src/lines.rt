@@ -1,30 +1,20 @@
-ghost use Rattle.std.specs.Prelude.{◌≡◌, ◌++◌, ◌∷◌, IfOk, OnOk};
-ghost use Rattle.schedule_text.specs.Printing.{numbered};
+ghost use Rattle.std.specs.Prelude.{◌≡◌, IfOk};
 ghost use Rattle.node_command.specs.Lines.{config_line, differing, differing_names, refusal_text, slot_text, state_line, turns_line};
 
 use line_reader::NEWLINE;
 use node_body::Why;
 use node_config::ConfigKey;
 use node_state::Refusal;
+use run_streams::push_numbered;
 use std::alloc::{AllocError, Global};
 use wire_fields::NAME_LEN;
-
-// Adds a space and a number.
-fn push_number(text: &mut Vec<u8>, number: u32) -> Result<(), AllocError>
-    ensures { OnOk result (text.new.items ≡ numbered text.old.items number) }
-{
-    let alloc = *text.allocator();
-    text.push(b' ')?;
-    text.extend_from_slice(number.to_string(alloc)?.as_bytes())?;
-    Ok(())
-}
 
 // The line on the output after so many turns.
 pub(crate) fn turns_line(alloc: Global, turns: u32) -> Result<Vec<u8>, AllocError>
     ensures { IfOk result (λ text. text.items ≡ turns_line turns) }
 {
-    let mut text = b"turns".to_vec(alloc)?;
-    push_number(&mut text, turns)?;
+    let mut text = Vec::new(alloc);
+    push_numbered(&mut text, b"turns", u64::from(turns))?;
     text.push(NEWLINE)?;
     Ok(text)
 }
@@ -43,9 +33,9 @@ pub(crate) fn config_line(alloc: Global, key: ConfigKey) -> Result<Vec<u8>, Allo
 fn differing(alloc: Global, word: &[u8], kept: u8, configured: u8) -> Result<Vec<u8>, AllocError>
     ensures { IfOk result (λ text. text.items ≡ differing word.now kept configured) }
 {
-    let mut text = word.to_vec(alloc)?;
-    push_number(&mut text, u32::from(kept))?;
-    push_number(&mut text, u32::from(configured))?;
+    let mut text = Vec::new(alloc);
+    push_numbered(&mut text, word, u64::from(kept))?;
+    push_numbered(&mut text, b"", u64::from(configured))?;
     Ok(text)
 }
 

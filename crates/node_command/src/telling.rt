@@ -1,9 +1,8 @@
-ghost use Rattle.std.specs.Prelude.{◌≤◌, IfOk, OnErr};
+ghost use Rattle.std.specs.Prelude.{◌≤◌};
 ghost use Rattle.node_command.specs.Lines.{line_of, status_of};
 ghost use Rattle.node_command.specs.Telling.{TellsTurns};
 ghost use Rattle.node_command.specs.declared.trouble.Trouble.TheVariants as trouble;
-ghost use Rattle.run_streams.specs.Lines.{memory_line};
-ghost use Rattle.run_streams.specs.Saying.{Said, Tells};
+ghost use Rattle.run_streams.specs.Saying.{Tells};
 ghost use Rattle.run_streams.specs.Seen.{sink_seen};
 
 use crate::Trouble;
@@ -11,22 +10,10 @@ use crate::lines::{config_line, state_line, turns_line};
 use outside::{Sink, WriteFault, write_all};
 use run_streams::{
     AREAS_REFUSED, DONE, INPUT_REFUSED, LISTENING_FAILED, READ_FAILED, STORE_FAILED, WRITE_FAILED,
-    say, say_memory,
+    say, say_made, say_memory,
 };
 use std::alloc::{AllocError, Global};
 use udp_node::NodeFault;
-
-// Says a line that was made, or that memory was wanted for it.
-fn say_made<E: Sink>(err: &mut E, line: Result<Vec<u8>, AllocError>, status: u8) -> u8
-    ensures made { IfOk line (λ text. Said status text.items (sink_seen E.Sink err.old) (sink_seen E.Sink err.new) result) }
-    ensures wanted { OnErr line (Said 8 memory_line (sink_seen E.Sink err.old) (sink_seen E.Sink err.new) result) }
-    ensures counts { E.faults err.old ≤ E.faults err.new }
-{
-    match line {
-        Ok(text) => say(err, &text, status),
-        Err(AllocError) => say_memory(err),
-    }
-}
 
 // Says on the error stream by what a node ended.
 fn tell_fault<E: Sink>(alloc: Global, err: &mut E, fault: NodeFault) -> u8

@@ -7,7 +7,7 @@ mod saying;
 mod status;
 
 pub use examples::worked_lines;
-pub use saying::{say, say_memory};
+pub use saying::{push_numbered, say, say_made, say_memory};
 pub use status::{
     AREAS_REFUSED, CONDITION_FALSE, DONE, INPUT_REFUSED, LISTENING_FAILED, OUT_OF_MEMORY,
     READ_FAILED, STORE_FAILED, WORDS_REFUSED, WRITE_FAILED,

@@ -13,7 +13,7 @@ use crate::telling::tell;
 use command_line::MadeSchedule;
 use made_schedules::{MakeFault, made_schedules_are_replayed, make, summary};
 use outside::{Sink, WriteFault, write_all};
-use run_streams::{DONE, WRITE_FAILED};
+use run_streams::{DONE, WRITE_FAILED, push_numbered};
 use schedule_replay::Done;
 use schedule_text::NEWLINE;
 use std::alloc::{AllocError, Global};
@@ -49,10 +49,7 @@ pub(crate) fn run_make<O: Sink, E: Sink>(
 fn push_count(text: &mut Vec<u8>, name: &[u8], count: u64) -> Result<(), AllocError>
     ensures { OnOk result (text.new.items ≡ text.old.items ++ as_line (numbered name.now count)) }
 {
-    let alloc = *text.allocator();
-    text.extend_from_slice(name)?;
-    text.push(b' ')?;
-    text.extend_from_slice(count.to_string(alloc)?.as_bytes())?;
+    push_numbered(text, name, count)?;
     text.push(NEWLINE)?;
     Ok(())
 }

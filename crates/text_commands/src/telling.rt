@@ -6,7 +6,10 @@ ghost use Rattle.run_streams.specs.Seen.{sink_seen};
 
 use crate::Complaint;
 use outside::Sink;
-use run_streams::{CONDITION_FALSE, INPUT_REFUSED, READ_FAILED, WORDS_REFUSED, say, say_memory};
+use run_streams::{
+    CONDITION_FALSE, INPUT_REFUSED, READ_FAILED, WORDS_REFUSED, push_numbered, say, say_made,
+    say_memory,
+};
 use schedule_text::{NEWLINE, Why, push_refusal};
 use std::alloc::{AllocError, Global};
 
@@ -14,10 +17,10 @@ use std::alloc::{AllocError, Global};
 fn condition_line(alloc: Global, condition: u8, line: u32) -> Result<Vec<u8>, AllocError>
     ensures { IfOk result (λ text. text.items ≡ condition_line condition line) }
 {
-    let mut text = b"condition ".to_vec(alloc)?;
-    text.extend_from_slice(condition.to_string(alloc)?.as_bytes())?;
-    text.extend_from_slice(b" line ")?;
-    text.extend_from_slice(line.to_string(alloc)?.as_bytes())?;
+    let mut text = Vec::new(alloc);
+    push_numbered(&mut text, b"condition", u64::from(condition))?;
+    text.push(b' ')?;
+    push_numbered(&mut text, b"line", u64::from(line))?;
     text.push(NEWLINE)?;
     Ok(text)
 }
@@ -38,15 +41,11 @@ pub fn tell<E: Sink>(alloc: Global, err: &mut E, complaint: Complaint) -> u8
     ensures counts { E.faults err.old ≤ E.faults err.new }
 {
     match complaint {
-        Complaint::Condition(condition, line) => match condition_line(alloc, condition, line) {
-            Ok(text) => say(err, &text, CONDITION_FALSE),
-            Err(AllocError) => say_memory(err),
-        },
+        Complaint::Condition(condition, line) => {
+            say_made(err, condition_line(alloc, condition, line), CONDITION_FALSE)
+        }
         Complaint::Words => say(err, b"usage\n", WORDS_REFUSED),
-        Complaint::Line(line, why) => match refusal_line(alloc, line, why) {
-            Ok(text) => say(err, &text, INPUT_REFUSED),
-            Err(AllocError) => say_memory(err),
-        },
+        Complaint::Line(line, why) => say_made(err, refusal_line(alloc, line, why), INPUT_REFUSED),
         Complaint::Read => say(err, b"read\n", READ_FAILED),
         Complaint::Memory => say_memory(err),
     }
