@@ -15,9 +15,9 @@ use Rattle.text_commands.specs.Complaints.{WasSaying}
 use Rattle.text_commands.specs.Runs.{IfAnswered, IsExplained, IsReadToEnd, IsRefuted}
 use Rattle.run_streams.specs.Seen.{IsQuiet, Run, WritesQuietly}
 
--- a status of the program
-abbrev pub IsStatus : ℕ → Type 0
-IsStatus n = (n ≡ 0) ⊎ (n ≡ 1) ⊎ (n ≡ 2) ⊎ (n ≡ 3) ⊎ (n ≡ 4) ⊎ (n ≡ 5) ⊎ (n ≡ 8)
+-- a status of a command over texts
+abbrev pub IsTextStatus : ℕ → Type 0
+IsTextStatus n = (n ≡ 0) ⊎ (n ≡ 1) ⊎ (n ≡ 3) ⊎ (n ≡ 4) ⊎ (n ≡ 5) ⊎ (n ≡ 8)
 
 -- 0: a command that reads has read its input to its end, the output gained the whole answer, and the error stream nothing
 pub record IsDone (command : Option Command) (r : Run) : Type 0 where

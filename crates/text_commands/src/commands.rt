@@ -4,7 +4,7 @@ ghost use Rattle.command_line.specs.CommandSet.{CanBeMade, IfMakes};
 ghost use Rattle.run_streams.specs.Seen.{KeepsCounts, ran};
 ghost use Rattle.text_commands.specs.Answers.{reads};
 ghost use Rattle.text_commands.specs.Runs.{IsComplete};
-ghost use Rattle.text_commands.specs.Statuses.{HasReadFailed, HasWriteFailed, IsDenied, IsDone, IsLineRefused, IsOutOfMemory, IsStatus};
+ghost use Rattle.text_commands.specs.Statuses.{HasReadFailed, HasWriteFailed, IsDenied, IsDone, IsLineRefused, IsOutOfMemory, IsTextStatus};
 
 use crate::checking::run_check;
 use crate::making::{run_make, run_summary};
@@ -23,11 +23,10 @@ pub fn run_command<S: Source, O: Sink, E: Sink>(
     err: &mut E,
 ) -> u8
     requires { IfMakes command CanBeMade }
-    ensures status { IsStatus result }
+    ensures status { IsTextStatus result }
     ensures complete { IsComplete (Some command) (ran S.Source O.Sink E.Sink input.old input.new out.old out.new err.old err.new) result }
     ensures done { result ≡ 0 → IsDone (Some command) (ran S.Source O.Sink E.Sink input.old input.new out.old out.new err.old err.new) }
     ensures denied { result ≡ 1 → IsDenied (Some command) (ran S.Source O.Sink E.Sink input.old input.new out.old out.new err.old err.new) }
-    ensures words { result ≢ 2 }
     ensures refused { result ≡ 3 → IsLineRefused (Some command)
         (ran S.Source O.Sink E.Sink input.old input.new out.old out.new err.old err.new) }
     ensures read { result ≡ 4 → HasReadFailed (Some command) (ran S.Source O.Sink E.Sink input.old input.new out.old out.new err.old

@@ -1,5 +1,5 @@
-//! The commands of the program that go from texts to texts: replay, check, make, and make with a summary. They know nothing of the words
-//! that ask for them.
+//! The commands of the program that go from texts to texts: replay, check, make, and make with a summary. What is said of
+//! refused words is defined here too, and how words are read is not.
 #![tactic(auto)]
 
 mod checking;
