@@ -38,7 +38,7 @@ HasItsNodes row (Numbered h) = IsNumbered row (row_of h.own)
 HasItsNodes row (Alone p) = IsOfOne row (row_of p.own) 1
 HasItsNodes row (Backed p) = IsOfOne row (row_of p.own) 2
 HasItsNodes row (BackedNumbered p) = IsOfOne row (row_of p.own) 2
-HasItsNodes row (Clustered p) = Unit {0}
+HasItsNodes row (Clustered p) = HasNodes row 1 MAX_NODES
 
 pub record IsFit (row : StackRow) (k : Kind) : Type 0 where
   pub net : row.net ≡ net_of k
