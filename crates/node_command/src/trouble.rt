@@ -1,19 +1,25 @@
 use node_config::{ConfigFault, ConfigKey};
 use std::alloc::AllocError;
+use thiserror::Error;
 use udp_node::NodeFault;
 
 /// Why a node did not take all its turns, as its run says it.
-#[derive(Clone, Copy, Debug, PartialEq, Eq)]
+#[derive(Clone, Copy, Debug, PartialEq, Eq, Error)]
 pub enum Trouble {
     /// A read of the configuration failed.
+    #[error("the configuration cannot be read")]
     Read,
     /// The configuration is refused for this key.
+    #[error("the configuration is refused")]
     Config(ConfigKey),
     /// The device could not begin.
+    #[error("the device could not begin")]
     Begin,
     /// The node ended by this fault.
+    #[error("the node ended before its last turn")]
     Ended(NodeFault),
     /// Want of memory before the device had begun.
+    #[error("out of memory")]
     Memory,
 }
 

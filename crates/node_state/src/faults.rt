@@ -3,13 +3,16 @@ ghost use Rattle.node_state.specs.Calls.{done_of};
 
 use node_device::Stored;
 use std::alloc::AllocError;
+use thiserror::Error;
 
 /// Why a state was not saved. After either, the device is opened again before any save.
-#[derive(Clone, Copy, Debug, PartialEq, Eq)]
+#[derive(Clone, Copy, Debug, PartialEq, Eq, Error)]
 pub enum StateFault {
     /// A store call failed.
+    #[error("a store call failed")]
     Store,
     /// Want of memory.
+    #[error("out of memory")]
     Memory,
 }
 

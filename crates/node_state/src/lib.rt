@@ -16,5 +16,5 @@ pub use reading::{read_area, read_front};
 pub use saving::{save, save_change};
 pub use store::Store;
 pub use writing::{
-    add_record, append_record, flip, open_gate, save_slot, sync_all, write_fresh, write_slot,
+    add_record, flip, open_gate, patch_slot, save_slot, sync_all, write_fresh, write_slot,
 };

@@ -24,6 +24,7 @@ use node_body::{Commands, Held, Journal, MAX_RECORDS, Version, Who, Why, find_sl
 use node_device::Device;
 use raft_types::{Entries, Kept};
 use std::alloc::{AllocError, Global};
+use thiserror::Error;
 
 /// Why the areas of a node are refused, the first that applies.
 #[derive(Clone, Copy, Debug, PartialEq, Eq)]
@@ -35,13 +36,16 @@ pub enum Refusal {
 }
 
 /// Why areas were not opened.
-#[derive(Clone, Copy, Debug, PartialEq, Eq)]
+#[derive(Clone, Copy, Debug, PartialEq, Eq, Error)]
 pub enum OpenFault {
     /// A store call failed.
+    #[error("a store call failed")]
     Store,
     /// Want of memory.
+    #[error("out of memory")]
     Memory,
     /// What was found is not this node's state. Nothing was written or cut.
+    #[error("the areas are refused")]
     Refused(Refusal),
 }
 

@@ -49,8 +49,8 @@ pub fn flip<D: Device>(device: &mut D, selector: u8) -> Result<(), StateFault>
     done(device.sync(2))
 }
 
-/// Brings bytes of a slot to the disk at a place: a record and a closed gate after the last gate.
-pub fn append_record<D: Device>(
+/// Brings bytes to the disk at a place of a slot, whose other bytes stay.
+pub fn patch_slot<D: Device>(
     device: &mut D,
     slot: u8,
     at: u64,
@@ -76,7 +76,7 @@ pub fn open_gate<D: Device>(device: &mut D, slot: u8, at: u64) -> Result<(), Sta
     ensures causes { StateCounts (D.faults device.old) (D.faults device.new) result }
     ensures begun { D.begun device.new ≡ true }
 {
-    append_record(device, slot, at, &[1])
+    patch_slot(device, slot, at, &[1])
 }
 
 /// Writes a record after the gate at this place, and when it is on the disk opens the gate.
@@ -94,7 +94,7 @@ pub fn add_record<D: Device>(
     ensures causes { StateCounts (D.faults device.old) (D.faults device.new) result }
     ensures begun { D.begun device.new ≡ true }
 {
-    append_record(device, slot, gate + 1, bytes)?;
+    patch_slot(device, slot, gate + 1, bytes)?;
     open_gate(device, slot, gate)
 }
 

@@ -1,16 +1,21 @@
 use node_state::{OpenFault, Refusal, StateFault};
 use std::alloc::AllocError;
+use thiserror::Error;
 
 /// Why a node ended before its last turn.
-#[derive(Clone, Copy, Debug, PartialEq, Eq)]
+#[derive(Clone, Copy, Debug, PartialEq, Eq, Error)]
 pub enum NodeFault {
     /// A receive failed.
+    #[error("a receive failed")]
     Receive,
     /// A store call failed.
+    #[error("a store call failed")]
     Store,
     /// What its areas hold is not this node's state. Nothing was written or cut.
+    #[error("the areas are refused")]
     Refused(Refusal),
     /// Want of memory.
+    #[error("out of memory")]
     Memory,
 }
 
