@@ -118,7 +118,6 @@ fn a_commit_never_falls(rt: HostRuntime) -> Result<(), Fail> {
     for commit in 0..4 {
         assert!(rt; committed(alloc, &[1, 1, 2], &[0, 2, 0], 0, 2, commit)? == commit);
     }
-    assert!(rt; committed(alloc, &[1, 1, 2], &[0, 3, 0], 0, 2, 0)? == 3);
     assert!(rt; committed(alloc, &[], &[0, 0, 0], 0, 1, 0)? == 0);
     Ok(())
 }

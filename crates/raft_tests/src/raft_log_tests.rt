@@ -163,15 +163,15 @@ fn a_conflict_up_to_commit_is_refused(rt: HostRuntime) -> Result<(), Fail> {
 }
 
 #[test]
-fn a_leader_adds_its_own_entry(rt: HostRuntime) -> Result<(), Fail> {
+fn entries_are_taken_one_by_one(rt: HostRuntime) -> Result<(), Fail> {
     let alloc = rt.alloc();
-    let mut leader = log(alloc, &[])?;
+    let mut follower = log(alloc, &[])?;
     for (prev, term) in [(0, 1), (1, 1), (2, 3)] {
-        let told = answer(alloc, &mut leader, prev, &[term], prev)?;
+        let told = answer(alloc, &mut follower, prev, &[term], prev)?;
         assert!(rt; told == Accept::Taken(prev + 1));
     }
-    assert!(rt; is_of(alloc, &leader, &[1, 1, 3], 0)?);
-    assert!(rt; leader.into_entries().len() == 3);
+    assert!(rt; is_of(alloc, &follower, &[1, 1, 3], 0)?);
+    assert!(rt; follower.into_entries().len() == 3);
     Ok(())
 }
 

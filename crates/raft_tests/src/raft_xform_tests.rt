@@ -191,6 +191,15 @@ fn a_follower_takes_what_fits_its_log(rt: HostRuntime) -> Result<(), Fail> {
     sends_entries(&rt, alloc, 2, (0, 0), &[1], (2, true, 1), &[1, 1, 2])
 }
 
+// After the end of its log, after an entry of another term, and from a leader of an earlier term.
+#[test]
+fn a_follower_refuses_what_does_not_fit_its_log(rt: HostRuntime) -> Result<(), Fail> {
+    let alloc = rt.alloc();
+    sends_entries(&rt, alloc, 2, (4, 2), &[2], (2, false, 4), &[1, 1, 2])?;
+    sends_entries(&rt, alloc, 2, (3, 1), &[2], (2, false, 3), &[1, 1, 2])?;
+    sends_entries(&rt, alloc, 1, (3, 2), &[], (2, false, 3), &[1, 1, 2])
+}
+
 // As many entries of the first term as a log has places.
 fn full_log(alloc: Global) -> Result<Entries<u8>, AllocError> {
     let mut made = Vec::new(alloc);
@@ -200,7 +209,7 @@ fn full_log(alloc: Global) -> Result<Entries<u8>, AllocError> {
     Ok(Entries::new(made))
 }
 
-// Node n of three starts from this, and its timer fires.
+// A node of three starts from this, and its timer fires.
 fn fires(
     alloc: Global,
     node: Node,

@@ -5,6 +5,7 @@
 mod alone;
 mod backed;
 mod cluster;
+mod examples;
 mod explores;
 mod failing;
 mod laws;
@@ -17,6 +18,7 @@ mod runs;
 pub use alone::run_one;
 pub use backed::{run_backed, run_backed_dup};
 pub use cluster::RunningCluster;
+pub use examples::worked_faults;
 pub use explores::Explores;
 pub use failing::run_fail;
 pub use laws::numbered_lock_excludes;
