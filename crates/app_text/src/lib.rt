@@ -24,7 +24,7 @@ pub use examples::worked;
 pub use kv_examples::{worked_commands, worked_outputs};
 pub use kv_text::KvText;
 pub use lock_text::LockText;
-pub use pb_text::{KvPbText, MachineText, PbText};
+pub use pb_text::{MachineText, PbText};
 pub use table_examples::{worked_table_commands, worked_table_outputs};
 pub use table_text::TableText;
 pub use text::{AppText, TextFault};

@@ -2,7 +2,7 @@ ghost use Rattle.std.specs.Prelude.{◌≢◌, codes};
 ghost use Rattle.app_text.specs.PbTexts.{pb_output_of, pb_output_text, pb_replies, IsPbOutput};
 ghost use Rattle.app_text.specs.PbTextLaws.{pb_outputs_are_spelled};
 
-use crate::{AppText, KvText, TextFault};
+use crate::{AppText, TextFault};
 use std::alloc::{AllocError, Global};
 use std::marker::PhantomData;
 use vst_base::PbOut;
@@ -17,9 +17,6 @@ pub trait MachineText: AppText {
 pub struct PbText<A> {
     machine: PhantomData<A>,
 }
-
-/// The texts of the key-value machine under primary-backup.
-pub type KvPbText = PbText<KvText>;
 
 impl<A: MachineText> AppText for PbText<A> {
     type Input = A::Input;

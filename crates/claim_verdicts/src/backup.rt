@@ -14,8 +14,8 @@ use std::alloc::{AllocError, Global};
 use trace_maps::below_primary_backup;
 use vst_base::{Machine, PbOut, Step};
 
-/// The verdict on a claim on a primary and its backup: whether the machine alone explains what clients saw, and the image is
-/// what it took.
+/// The verdict on a claim, of at most `MAX_LINES` items and steps, on a primary and its backup: whether the machine alone explains
+/// what clients saw, and the image is what it took.
 pub fn backup_verdict<M: Machine, A: AppText<Input = M::Cmd, Output = M::Out>>(
     alloc: Global,
     machine: M,

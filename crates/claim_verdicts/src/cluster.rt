@@ -15,8 +15,8 @@ use raft_types::{RaftInput, RaftOut};
 use std::alloc::{AllocError, Global};
 use vst_base::Machine;
 
-/// The verdict on a claim on a cluster: whether what clients saw is linearizable by the order. It takes a hash look-up for
-/// each item and each request.
+/// The verdict on a claim, of at most `MAX_LINES` items and requests, on a cluster: whether what clients saw is linearizable by the
+/// order. It takes a hash look-up for each item and each request.
 pub fn cluster_verdict<M: Machine, A: AppText<Input = M::Cmd, Output = M::Out>>(
     alloc: Global,
     machine: &M,

@@ -55,8 +55,8 @@ fn verdict_by_run<R: Runs, A: AppText<Input = R::Input, Output = R::Output>>(
 }
 
 /// The verdict on a claim whose image is a schedule of these handlers on a network that stops no node: whether the network
-/// allows the schedule, and clients then see the trace. Where a network has inputs alone there is one node. Neither the image nor
-/// what clients see is kept.
+/// allows the schedule, and clients then see the trace. It has at most `MAX_LINES` items and steps, of which at most `MAX_STEPS` are
+/// steps. Where a network has inputs alone there is one node. Neither the image nor what clients see is kept.
 pub fn schedule_verdict<H: Handlers, A: AppText<Input = H::Input, Output = H::Output>>(
     alloc: Global,
     handlers: H,

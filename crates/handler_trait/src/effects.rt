@@ -1,4 +1,4 @@
-ghost use Rattle.std.specs.Prelude.{◌≡◌, ℕ, ◌+◌, ◌-◌, ◌<◌, ◌≤◌, [], ◌∷◌, ◌++◌, IfOk, IsOk, IsTrue, OnOk, OnErr, IfSome, IfNone};
+ghost use Rattle.std.specs.Prelude.{◌≡◌, ◌+◌, ◌-◌, ◌<◌, ◌≤◌, [], ◌∷◌, ◌++◌, IfOk, IsOk, OnOk, OnErr, IfSome, IfNone};
 ghost use Rattle.std.specs.Prelude.{vec_capacity, vec_len};
 
 use std::alloc::{AllocError, Global};
@@ -74,8 +74,8 @@ impl<O: Drop, M: Drop> Effects<O, M> {
         (self.outputs, self.sends)
     }
 
-    /// Lends the outputs and their room to effects for handlers within, which add to them, and which have no sends and room for so
-    /// many. Until they are taken back there are none here. At an `Err` nothing changed.
+    /// Lends the outputs and their room to effects for handlers within, which add to them. These effects have no sends, and room for
+    /// `sends` of them. Until the outputs are taken back there are none here. At an `Err` nothing changed.
     pub fn lend_outputs<N: Drop>(
         &mut self,
         alloc: Global,
@@ -132,7 +132,7 @@ impl<O: Drop, M: Drop> Effects<O, M> {
         Ok(())
     }
 
-    /// Adds a packet to send, with its destination.
+    /// Adds a packet to send, with its destination, where a place is left for it. It takes no memory.
     pub fn send(&mut self, to: Node, message: M)
         requires { 0 < self.old.send_places }
         ensures added { self.new.sends ≡ self.old.sends ++ (to, message) ∷ [] }

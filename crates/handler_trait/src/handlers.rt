@@ -110,8 +110,8 @@ pub trait Handlers: Drop {
     /// Nothing is spent at first.
     ghost fresh: { (h : Self) (n : ℕ) → n < (meaning h).nodes → spent h ((meaning h).init n) ≡ 0 };
 
-    /// An event sends at most `MAX_SENDS` packets, each to a node that exists, makes at most `MAX_OUTPUTS` outputs, and spends
-    /// at most `STEP_COST`.
+    /// An event sends at most `MAX_SENDS` packets, each to a node that exists, spends at most `STEP_COST`, and, where the state that
+    /// it makes is sound, has at most `MAX_OUTPUTS` outputs.
     ghost modest_input: { (h : Self) (n : ℕ) (s : Self.State) (i : Self.Input) → n < (meaning h).nodes
         → IsTrue ((meaning h).takes_input n) → sound h n s → IsModest (meaning h).nodes (sound h n) (spent h) s ((meaning h).input n s i) };
 

@@ -5,17 +5,17 @@ pub enum Why {
     LineTooLong,
     /// The line's number is over the greatest, or it is event 1,000,001.
     TooManyEvents,
-    /// The first line that is not skipped is no header, or there is none.
+    /// The first line that is not skipped is no header, or there is none; a claim ends before its line `below`.
     Header,
-    /// The first word is none of the seven step words, or the line has too few words.
+    /// The first word is none that a line of this text can begin with, or no space comes after a word that needs one.
     UnknownWord,
     /// The number is not digits without a leading zero, or is over 4,294,967,295.
     Number,
-    /// The text is no input of the application.
+    /// The text is no input of the application; in a claim, no input, output or request.
     Text,
     /// The network has no steps of this kind.
     NotThisNet,
-    /// The step names a node that does not exist.
+    /// The line names a node that does not exist.
     NoSuchNode,
     /// The node takes no input.
     NoInputHere,

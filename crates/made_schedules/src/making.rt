@@ -109,7 +109,8 @@ pub fn make<K: Sink>(
     }
 }
 
-/// The counts of a replay of what `make` writes, over memory.
+/// The counts of a replay of what `make` writes, over memory, under the same conditions: at most `MAX_STEPS` steps, of a stack whose
+/// network has packets.
 pub fn summary(alloc: Global, stack: StackId, seed: u32, steps: u32) -> Result<Done, AllocError>
     requires sends { (row_of stack).net ≢ net.One }
     requires few { steps ≤ MAX_STEPS }

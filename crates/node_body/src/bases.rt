@@ -13,10 +13,10 @@ use std::alloc::{AllocError, Global};
 use vst_base::{Entry, Node};
 use wire_fields::put_u32;
 
-/// How many bytes a base has at most: the length of its body, a body of at most that length, and a gate.
+/// How many bytes a base has at most: four of the length of its body, a body of at most 4,294,967,295, and a gate.
 pub const MAX_BASE_LEN: u64 = 4_294_967_300;
 
-/// How many bytes a record has at most, with the gate after it.
+/// A bound on the bytes of a record with the gate after it, which are 2,145,000,018 at most.
 pub const MAX_RECORD_LEN: u64 = 2_147_483_647;
 
 /// The bytes of a slot that begins anew with this term, vote and log: its body of version 2 after its length, and a closed gate.

@@ -14,7 +14,7 @@ pub type StandardOutput = WriterSink<Stdout>;
 pub type StandardError = WriterSink<Stderr>;
 
 /// A writer as a sink: each write is one of the writer's, and each of its errors a fault, as is a write
-/// that takes nothing of a piece. It never wants memory. As a sink it tells no bytes.
+/// that takes nothing of a piece that has bytes. It never wants memory. As a sink it tells no bytes.
 #[derive(Drop)]
 pub struct WriterSink<W> {
     writer: W,

@@ -58,7 +58,7 @@ executes m state sessions r = record {
 abbrev pub applied_by : {S C O : Type 0} → MachineMeaning S C O → S → Sessions O → RaftInput C → Option (Session O) → Applied S O
 applied_by m state sessions r None = executes m state sessions r
 applied_by m state sessions r (Some session) =
-    if nat_lt session.request r.request then executes m state sessions r else passes state sessions (kept_output session r.request)
+    if is_new (Some session) r.request then executes m state sessions r else passes state sessions (kept_output session r.request)
 
 -- what an entry does by its request, if it holds one: a no-op does nothing
 abbrev pub applied_request : {S C O : Type 0} → MachineMeaning S C O → S → Sessions O → Option (RaftInput C) → Applied S O

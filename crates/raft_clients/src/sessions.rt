@@ -64,8 +64,8 @@ impl<O: Drop> Sessions<O> {
 }
 
 impl Sessions<()> {
-    /// Notes a request, and whether it is new to its client: over its last one. Then it is the client's last
-    /// one from now on. It takes no memory where it is not new, and an `Err` changes nothing.
+    /// Notes a request, and tells whether it is new to its client: over its last one. Then it is the client's
+    /// last one from now on. It takes no memory where it is not new, and an `Err` changes nothing.
     pub fn note(&mut self, client: ClientId, request: ReqId) -> Result<bool, AllocError>
         ensures answer { IfOk result (λ new. new ≡ is_new (map.get self.old client) request) }
         ensures noted { IfOk result (λ new. self.new ≡ (if new then map.insert self.old client (record { request = request; output = tt })

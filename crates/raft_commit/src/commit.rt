@@ -43,7 +43,7 @@ fn held(peers: &[Peer], me: Node, len: u32) -> u32
 /// How far a leader in this term may commit: the greatest index past its commit that most nodes have, the
 /// leader among them, and whose entry is of its own term, or its commit where there is none (the Raft
 /// paper, sections 5.3 and 5.4.2). Entries of earlier terms are committed with one of its own, and never by
-/// themselves. `peers` has what it knows of each node, in the nodes' order, and its own place is not read.
+/// themselves. `peers` has what it knows of each node, in the nodes' order; its own place counts for nothing.
 ///
 /// It looks at the entries from the greatest index that most nodes have down to the one that it tells.
 pub fn advance<C>(entries: &[Entry<C>], peers: &[Peer], me: Node, term: u64, commit: u32) -> u32

@@ -94,7 +94,7 @@ impl Ballot {
         true
     }
 
-    /// Learns of a term, and whether it was greater: then it goes on to it, where it has not voted
+    /// Learns of a term, and tells whether it was greater: then it goes on to it, where it has not voted
     /// (section 5.1).
     pub fn learn(&mut self, term: u64) -> bool
         requires { term ≤ terms.MAX_TERM }

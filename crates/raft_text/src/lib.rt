@@ -13,4 +13,4 @@ mod raft_text;
 
 pub use examples::{worked_inputs, worked_outputs};
 pub use laws::headers_give_cluster_sizes;
-pub use raft_text::{KvRaftText, RaftText};
+pub use raft_text::RaftText;

@@ -3,7 +3,7 @@ ghost use Rattle.raft_text.specs.RaftTextLaws.{raft_inputs_are_spelled, raft_out
 
 use crate::answers::read_answer;
 use crate::names::{named_of, named_text, names_text};
-use app_text::{AppText, KvText, TextFault};
+use app_text::{AppText, TextFault};
 use line_reader::cut_at;
 use raft_types::{RaftInput, RaftOut};
 use schedule_text::SPACE;
@@ -16,9 +16,6 @@ use std::marker::PhantomData;
 pub struct RaftText<A> {
     machine: PhantomData<A>,
 }
-
-/// The texts of the key-value machine in a Raft cluster.
-pub type KvRaftText = RaftText<KvText>;
 
 impl<A: AppText> AppText for RaftText<A> {
     type Input = RaftInput<A::Input>;

@@ -112,7 +112,7 @@ impl<M: Machine> RunningOnBytes<Wired<Saved<Raft<M>>>>
 where
     M::Cmd: ClusteredCommands,
 {
-    /// No step yet of this machine on so many nodes.
+    /// No step yet of this machine on a cluster of so many nodes, 1 to `MAX_NODES`.
     pub fn new(alloc: Global, machine: M, nodes: u8) -> Result<Self, AllocError>
         requires { IsClusterSize nodes }
         ensures handlers { IfOk result (λ running. running.world.handlers.inner.inner ≡ record { machine = machine; nodes = nodes }) }

@@ -27,7 +27,7 @@ pub trait BackedCommands: AlwaysFits {
     fn backed() -> StackId
         ensures { result ≡ backed };
 
-    /// In bytes any machine with these commands under primary-backup refuses what it refuses, and clients see the same.
+    /// As bytes any machine with these commands under primary-backup refuses the same steps, and clients see the same.
     fn backed_runs_as_bytes<S, O>()
         ensures { (m : MachineMeaning S Self O) → RunsAsBytes (backup_message Self.format) backed Self.format.Fits (primary_backup m) };
 }
@@ -41,7 +41,7 @@ pub trait BackedNumberedCommands: AlwaysFits {
     fn numbered_stack() -> StackId
         ensures { result ≡ numbered_stack };
 
-    /// In bytes any machine with these commands under primary-backup refuses what it refuses, and clients see the same.
+    /// As bytes any machine with these commands under primary-backup refuses the same steps, and clients see the same.
     fn numbered_runs_as_bytes<S, O>()
         ensures { (m : MachineMeaning S Self O) → RunsAsBytes (numbered (backup_message Self.format)) numbered_stack Self.format.Fits
             (sequence_numbered (primary_backup m)) };

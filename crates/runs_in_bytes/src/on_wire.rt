@@ -31,7 +31,7 @@ pub trait OnWire: Handlers<Msg: Wire> {
     fn has_bytes(input: &Self::Input)
         ensures { has_bytes input.now };
 
-    /// In bytes they refuse what they refuse, and clients see the same.
+    /// As bytes they refuse the same steps, and clients see the same.
     fn run_as_bytes()
         ensures { (h : Self) → (Self.meaning h).nodes ≤ MAX_NODES → RunsAsBytes Self.Msg.format stack has_bytes (Self.meaning h) };
 }
@@ -52,7 +52,7 @@ pub trait OnWireNumbered: Handlers<Msg: Wire> {
     fn numbered_has_bytes(input: &Self::Input)
         ensures { numbered_has_bytes input.now };
 
-    /// With numbered packets, in bytes they refuse what they refuse, and clients see the same.
+    /// With numbered packets, as bytes they refuse the same steps, and clients see the same.
     fn numbered_run_as_bytes()
         ensures { (h : Self) → (Self.meaning h).nodes ≤ MAX_NODES
             → RunsAsBytes (numbered Self.Msg.format) numbered_stack numbered_has_bytes (sequence_numbered (Self.meaning h)) };

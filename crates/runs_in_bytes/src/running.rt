@@ -54,7 +54,8 @@ fn has_bytes<H: OnWire>(step: &Step<H::Input>)
 }
 
 impl<H: OnWire, T: TraceMap<H>> RunningInBytes<H, T> {
-    /// No step yet of these handlers, on a network that stops no node. Where a network has inputs alone there is one node.
+    /// No step yet of these handlers, of at most `MAX_NODES` nodes, on a network that stops no node. Where a network has inputs alone
+    /// there is one node.
     pub fn new(alloc: Global, handlers: H, net: Net) -> Result<Self, AllocError>
         requires net { net ≢ Net.Fail }
         requires alone { net ≡ Net.One → (H.meaning handlers).nodes ≡ 1 }

@@ -55,7 +55,7 @@ pub(crate) fn play<R: Runs, A: AppText<Input = R::Input, Output = R::Output>, S:
     loop {
         write_before_reading::<R, A, K>(alloc, running, tally, reader, sink)?;
         if let Some(halt) = take_step::<R, A, S>(alloc, running, reader, source)? {
-            // Before a read that failed all was written.
+            // What stands before a failed read was written before that read.
             if !halt.is_failed_read() {
                 write_trace::<R, A, K>(alloc, running, tally, sink)?;
             }

@@ -9,8 +9,8 @@ ghost use Rattle.vst_base.specs.declared.step.Step.{Step};
 use vst_base::{Machine, Net};
 
 /// On a network of inputs alone, what clients see of a machine at its node is the machine's own trace: each command, followed by
-/// its output, and these outputs are the machine's over the commands. Such a network takes any commands. It holds of every machine over the types of `M`, and not of the meaning of `M`
-/// alone.
+/// its output, and these outputs are the machine's over the commands. Such a network takes any commands. All this holds of every
+/// machine over the types of `M`, and not of the meaning of `M` alone.
 pub fn is_the_machine<M: Machine>()
     ensures trace { (m : MachineMeaning M.State M.Cmd M.Out) (ss : List (Step M.Cmd))
         → IsAllowed Net.One (single_node m) (no_recovery {S = M.State}) ss

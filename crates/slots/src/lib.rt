@@ -1,5 +1,5 @@
 //! A state in two slots and a selector: what three areas open as, the acts that open, save and patch them, and what a crash leaves at
-//! each moment of these and of a node's whole run. It knows nothing of what a slot is made of, nor of devices.
+//! each moment of these and of a node's whole run. What a slot's bytes are found to be is a parameter; it knows nothing of devices.
 #![tactic(auto)]
 
 mod examples;

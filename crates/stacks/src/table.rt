@@ -69,7 +69,7 @@ impl Application for TableMachine {
     }
 }
 
-/// Does a command on the code of a header's stack, with what is lent to it: the only match on stacks.
+/// Does a command on the code of a header's stack, with what is lent to it: the only way from a header to that code.
 pub fn on_stack<A, B, C, V: OnStack<A, B, C>>(
     header: &Header,
     command: V,

@@ -3,7 +3,7 @@ ghost use Rattle.std.specs.Prelude.{◌≡◌, [], ◌∷◌, ◌++◌, take, On
 use std::alloc::{AllocError, Global};
 use std::marker::Model;
 
-/// What explains a trace, in order: steps of the simpler system, or entries. Contracts see the list.
+/// What explains a trace, in order: steps of the simpler system, or requests. Contracts see the list.
 #[derive(Drop)]
 pub struct Image<G> {
     lines: Vec<G>,
