@@ -76,7 +76,7 @@ def spell_number(value: int, width: int) -> bytes:
 
 @dataclass(frozen=True)
 class Token:
-    """A token of visible ASCII behind its length."""
+    """A token of visible ASCII after its length."""
 
     width: int
     most: int
@@ -321,7 +321,7 @@ class Reply:
 
 
 def read_reply_body(heading: Heading, reader: Reader) -> Reply:
-    """The reply that comes behind its heading."""
+    """The reply that comes after its heading."""
     number = reader.number(8, 0, MAX_NUMBER)
     what = ("reply", "notleader", "full")[reader.number(1, 1, 3) - 1]
     output = read_output(heading.stack, reader) if what == "reply" else None
@@ -411,7 +411,7 @@ def read_body(stack: str, reader: Reader) -> tuple[State, int, EntryReader]:
 
 
 def read_records(stack: str, reader: Reader, nodes: int, entry: EntryReader) -> Iterator[tuple[State, int]]:
-    """The records behind open gates, each as a state with the entries that it adds, and how many of those before stay."""
+    """The records after open gates, each as a state with the entries that it adds, and how many of those before stay."""
     records = 0
     while reader.left() and reader.number(1, 0, 255) % 2:
         records += 1
@@ -421,7 +421,7 @@ def read_records(stack: str, reader: Reader, nodes: int, entry: EntryReader) -> 
         keep = reader.number(4, 0, MAX_INDEX)
         added = tuple(entry(stack, reader) for _ in range(reader.number(4, 0, MAX_INDEX - keep)))
         if not reader.left():
-            raise FormatError("a record without a gate behind it")
+            raise FormatError("a record without a gate after it")
         yield State(term, voted, added), keep
 
 
