@@ -1,4 +1,5 @@
 pub mod Faults
+pub mod Wants
 pub mod Telling
 pub mod Outcomes
 pub mod Examples

@@ -2,8 +2,9 @@ ghost use Rattle.std.specs.Prelude.{◌≡◌, ◌-◌, ◌^◌, true, false, []
 ghost use Rattle.disk.specs.Acts.{ReadAt, WriteAt, CutTo, Sync, Now, Began, BeginFailed, Quiet, Took, ReceiveFailed, SendFailed, Wrote, Cut, Synced, StoreFailed};
 ghost use Rattle.disk.specs.Disk.{settled, written, cut};
 ghost use Rattle.node_device.specs.Faults.{BeginCounts, ReceiveCounts, SendCounts, ReadCounts, StoreCounts};
-ghost use Rattle.node_device.specs.Telling.{Did, OthersStay, StoppedIn};
+ghost use Rattle.node_device.specs.Telling.{Did, OthersStay, StoppedIn, TellsOn, nows_in};
 ghost use Rattle.node_device.specs.Outcomes.{Begins, Reads, Receives, Sends, Stores};
+ghost use Rattle.node_device.specs.Wants.{Wants, begin_wants, receive_wants, send_wants, read_wants, store_wants};
 ghost use Rattle.node_device.specs.Examples.{untold, tells, shows, holds, counts, sends, node_at};
 
 use crate::{AreaRead, Received, Shipped, Stored};
@@ -30,7 +31,25 @@ pub fn worked_counts()
     ensures send_wanted_and_counted { SendCounts (sends 1) (sends 2) Shipped.Memory → ⊥ }
 {}
 
-/// Want of memory: nothing is done, recorded or counted.
+/// Want of memory raises the count of wants, and no other answer does.
+pub fn worked_counts_of_wants()
+    ensures begin { Wants (begin_wants Begun.Memory) 4 5 }
+    ensures begin_uncounted { Wants (begin_wants Begun.Memory) 4 4 → ⊥ }
+    ensures begin_failed { Wants (begin_wants Begun.Failed) 4 4 }
+    ensures begin_failed_as_a_want { Wants (begin_wants Begun.Failed) 4 5 → ⊥ }
+    ensures receive { Wants (receive_wants Received.Memory) 4 5 }
+    ensures quiet { Wants (receive_wants Received.Quiet) 4 5 → ⊥ }
+    ensures send { Wants (send_wants Shipped.Memory) 4 5 }
+    ensures sent { Wants (send_wants Shipped.Sent) 4 5 → ⊥ }
+    ensures read { Wants (read_wants AreaRead.Memory) 4 5 }
+    ensures got { Wants (read_wants (AreaRead.Got 3)) 4 5 → ⊥ }
+    ensures store { Wants (store_wants Stored.Memory) 4 5 }
+    ensures store_uncounted { Wants (store_wants Stored.Memory) 4 4 → ⊥ }
+    ensures done_as_a_want { Wants (store_wants Stored.Done) 4 5 → ⊥ }
+    ensures at_the_greatest { Wants (store_wants Stored.Memory) (2 ^ 64 - 1) (2 ^ 64 - 1) }
+{}
+
+/// Want of memory: nothing is done or recorded, and no fault is counted.
 pub fn worked_wants()
     ensures counts_of_begin { BeginCounts (counts 2 5) (counts 2 5) Begun.Memory }
     ensures counts_of_receive { ReceiveCounts (counts 2 5) (counts 3 5) Received.Memory → ⊥ }
@@ -55,7 +74,8 @@ pub fn worked_wants()
     ensures stops_telling { Stores (Sync 0) (Synced 0) (tells []) None Stored.Memory → ⊥ }
 {}
 
-/// A device may stop telling where it gives a clock value, and nowhere else; and none begins to tell.
+/// A device may stop telling where it gives a clock value, and nowhere else, and there only where its record is full of them; and none
+/// begins to tell.
 pub fn worked_telling()
     ensures now { OnSome (tells (Now 5 ∷ [])) (Did (tells []) (tells (Now 5 ∷ [])) (Now 5 ∷ [])) }
     ensures another_value { OnSome (tells (Now 6 ∷ [])) (Did (tells []) (tells (Now 6 ∷ [])) (Now 5 ∷ [])) → ⊥ }
@@ -63,6 +83,15 @@ pub fn worked_telling()
     ensures now_stops { OnSome untold (Did (tells []) None (Now 5 ∷ [])) }
     ensures now_untold { OnSome untold (Did None None (Now 5 ∷ [])) }
     ensures now_begins_to_tell { OnSome (tells (Now 5 ∷ [])) (Did None (tells (Now 5 ∷ [])) (Now 5 ∷ [])) → ⊥ }
+    ensures two_of_three { nows_in (Now 5 ∷ Quiet 300 ∷ Now 6 ∷ []) ≡ 2 }
+    ensures tells_on { TellsOn 1 (tells (Now 5 ∷ [])) (tells (Now 5 ∷ Now 6 ∷ [])) }
+    ensures tells_more { TellsOn 1 (tells (Now 5 ∷ [])) (tells (Now 5 ∷ Now 6 ∷ Now 7 ∷ [])) → ⊥ }
+    ensures other_acts { TellsOn 0 (tells []) (tells (Quiet 300 ∷ Synced 0 ∷ [])) }
+    ensures stops_at_the_first { TellsOn 1 (tells []) None → ⊥ }
+    ensures untold_stays { TellsOn 1 None None }
+    ensures untold_begins { TellsOn 1 None (tells (Now 5 ∷ [])) → ⊥ }
+    ensures stops_past_the_greatest { TellsOn (2 ^ 64) (tells []) None }
+    ensures stops_at_the_greatest { TellsOn (2 ^ 64 - 1) (tells []) None → ⊥ }
     ensures begin_stops { Begins false true (tells []) None (node_at 7000) [] Begun.Ready → ⊥ }
     ensures receive_stops { Receives 300 (4 ∷ []) (tells []) None Received.Quiet → ⊥ }
     ensures send_stops { Sends (node_at 7001) (4 ∷ []) (tells []) None Shipped.Failed → ⊥ }
