@@ -1,6 +1,7 @@
 pub mod Overwriting
 pub mod Places
 pub mod Tearing
+pub mod ClockValues
 pub mod Following
 pub mod Worded
 pub mod Failed

@@ -33,7 +33,7 @@ clock_place history = min (history.from + history.nows) (2 ^ 64 - 1)
 
 -- the next value of its clock
 abbrev pub next_value : History → ℕ
-next_value history = clock_value history.clock.items (clock_place history)
+next_value history = clock_value history.clock.items (history.from + history.nows)
 
 -- its clock stands where it stood
 pub record SameClock (old new : History) : Type 0 where
@@ -53,7 +53,7 @@ acts_of clock past = nows_from clock past.from past.nows ++ act_of past.act ∷ 
 abbrev pub all_acts : List ℕ → List Past → ℕ → ℕ → List Act
 all_acts clock pasts from nows = flat_map (acts_of clock) pasts ++ nows_from clock from nows
 
--- the record, as long as its clock values could be counted
+-- the record, as long as the clock values after each act could be counted
 abbrev pub acts_told : History → Option (List Act)
 acts_told history =
     if history.is_full then None else Some (all_acts history.clock.items history.past.items history.from history.nows)

@@ -1,6 +1,9 @@
-ghost use Rattle.std.specs.Prelude.{◌≡◌, ℕ, ◌<◌, ◌++◌, [], ◌∷◌, List, take, OnOk, OnErr, OnSome, IfOk, IfSome, IsOk, vec_len, vec_capacity, option_map, fold};
+ghost use Rattle.std.specs.Prelude.{◌≡◌, ℕ, ◌+◌, ◌<◌, ◌++◌, [], ◌∷◌, List, take, OnOk, OnErr, OnSome, IfOk, IfSome, IsOk, vec_len, vec_capacity, option_map, fold};
 ghost use Rattle.disk.specs.Acts.{Act, Now};
+ghost use Rattle.disk.specs.Disk.{Disk};
 ghost use Rattle.disk.specs.Images.{started, followed};
+ghost use Rattle.node_device.specs.Telling.{TellsOn};
+ghost use Rattle.node_device_mem.specs.Devices.{told_by};
 ghost use Rattle.node_device_mem.specs.MemoryDisks.{disk_of};
 ghost use Rattle.node_device_mem.specs.Histories.{SameClock, act_of, acts_told, acts_counted, counted_on, all_acts, clock_place, clock_value, next_value};
 ghost use Rattle.outside.specs.Counting.{counted};
@@ -11,8 +14,8 @@ use crate::past::{Past, PastAct};
 use crate::trail::MemoryTrail;
 use std::alloc::{AllocError, Global};
 
-/// The record of a device over memory, and its clock, whose values follow a script. It stops telling where its clock values
-/// are too many to be counted.
+/// The record of a device over memory, and its clock, whose values follow a script. It stops telling where more clock values come
+/// after an act than a `u64` counts.
 #[derive(Drop)]
 pub struct History {
     past: Vec<Past>,
@@ -23,10 +26,11 @@ pub struct History {
     is_full: bool,
 }
 
-// The value of a scripted clock at a place.
-fn value_at(clock: &[u64], place: u64) -> u64
-    ensures { result ≡ clock_value clock.now place }
+// The value of a scripted clock so many values after a place.
+fn value_at(clock: &[u64], from: u64, nows: u64) -> u64
+    ensures { result ≡ clock_value clock.now (from + nows) }
 {
+    let place = from.saturating_add(nows);
     let last = clock.len().saturating_sub(1);
     clock.get((place as usize).min(last)).copied().unwrap_or(0)
 }
@@ -74,12 +78,12 @@ impl History {
         ensures value { result ≡ next_value self.old }
         ensures acts { OnSome (acts_told self.new)
             (acts_told self.new ≡ option_map (λ acts. acts ++ Now result ∷ []) (acts_told self.old)) }
+        ensures tells { (disk : Disk) → TellsOn 1 (told_by (acts_told self.old) disk) (told_by (acts_told self.new) disk) }
         ensures place { clock_place self.new ≡ counted (clock_place self.old) }
         ensures clock { self.new.clock.items ≡ self.old.clock.items }
     {
-        let place = self.from.saturating_add(self.nows);
-        let value = value_at(&self.clock, place);
-        if place == u64::MAX {
+        let value = value_at(&self.clock, self.from, self.nows);
+        if self.nows == u64::MAX {
             self.is_full = true;
         } else {
             self.nows += 1;

@@ -1,12 +1,14 @@
-ghost use Rattle.std.specs.Prelude.{◌≡◌, ◌-◌, ◌^◌, ◌<◌, min, length, true, false, [], ◌∷◌, Some, None, IfOk, IfSome, OnSome, take};
+ghost use Rattle.std.specs.Prelude.{◌≡◌, ◌-◌, ◌^◌, ◌<◌, ◌≤◌, min, length, true, false, [], ◌∷◌, Some, None, IfOk, IfSome, OnSome, take};
 ghost use Rattle.outside.specs.Counting.{counted};
 ghost use Rattle.disk.specs.Acts.{WriteAt, CutTo, Sync, Now, Wrote, Cut, Synced};
 ghost use Rattle.disk.specs.Areas.{area_at};
 ghost use Rattle.disk.specs.Disk.{contents, may_leave};
 ghost use Rattle.disk.specs.Images.{image_by_word};
 ghost use Rattle.node_device.specs.Faults.{NoFewer, BeginCounts, ReceiveCounts, SendCounts, ReadCounts, StoreCounts};
-ghost use Rattle.node_device.specs.Telling.{Did, OthersStay};
+ghost use Rattle.node_device.specs.Telling.{Did, OthersStay, TellsOn};
 ghost use Rattle.node_device.specs.Outcomes.{Begins, Stores, Reads, Sends, Receives};
+ghost use Rattle.node_device.specs.Wants.{Wants, begin_wants, receive_wants, send_wants, read_wants, store_wants};
+ghost use Rattle.node_device.specs.declared.limits.TheConstants.{RECEIVE_BUFFER};
 ghost use Rattle.node_device_mem.specs.MemoryDisks.{image_of, disk_of};
 ghost use Rattle.node_device_mem.specs.Histories.{next_value};
 ghost use Rattle.node_device_mem.specs.Devices.{no_faults, places_of};
@@ -55,6 +57,7 @@ impl MemoryDevice {
         ensures arrivals { IfOk result (λ device. (device.steady.arrivals.items ≡ arrivals.items) × (device.steady.received ≡ 0)) }
         ensures clock { IfOk result (λ device. device.steady.history.clock.items ≡ clock.items) }
         ensures faults { IfOk result (λ device. faults_of device ≡ no_faults) }
+        ensures wants { IfOk result (λ device. device.steady.wants ≡ 0) }
         ensures script { IfOk result (λ device. device.script ≡ record { failing = failing; last = None; calls = 0 }) }
     {
         Ok(MemoryDevice {
@@ -111,6 +114,13 @@ impl MemoryDevice {
         self.counts
     }
 
+    /// How often a call has answered want of memory. It stops at the greatest `u64`.
+    pub fn wants(&self) -> u64
+        ensures { result ≡ self.now.steady.wants }
+    {
+        self.steady.wants()
+    }
+
     /// What a crash may leave after so many acts, by the word, as of a steady device.
     pub fn image(&self, acts: u64, word: u32) -> Result<Areas, AllocError>
         ensures image { IfOk result (λ areas. IfSome (memory_told self.now)
@@ -137,11 +147,14 @@ impl Device for MemoryDevice {
 
     ghost faults = { λ device. faults_of device };
 
+    ghost wants = { λ device. device.steady.wants };
+
     fn begin(&mut self, at: Address, dir: &str) -> Begun
         ensures outcome { Begins (memory_begun self.old) (memory_begun self.new)
             (memory_told self.old) (memory_told self.new) at dir.now result }
         ensures causes { BeginCounts (faults_of self.old) (faults_of self.new) result }
         ensures counts { NoFewer (faults_of self.old) (faults_of self.new) }
+        ensures wants { Wants (begin_wants result) self.old.steady.wants self.new.steady.wants }
         ensures scripted { BeginsBy (is_due_now self.old) result }
         ensures stays { Stays self.old self.new }
         ensures places { places_of self.new.steady ≡ places_of self.old.steady }
@@ -151,10 +164,10 @@ impl Device for MemoryDevice {
             return self.steady.begin(at, dir);
         }
         let Ok(copy) = self.steady.copy_of(dir.as_bytes()) else {
-            return Begun::Memory;
+            return self.steady.want(Begun::Memory);
         };
         if self.steady.note(PastAct::BeginFailed(at, copy)).is_err() {
-            return Begun::Memory;
+            return self.steady.want(Begun::Memory);
         }
         self.counts.begin = self.counts.begin.saturating_add(1);
         Begun::Failed
@@ -163,8 +176,10 @@ impl Device for MemoryDevice {
     fn now(&mut self) -> u64
         requires { memory_begun self.old ≡ true }
         ensures outcome { OnSome (memory_told self.new) (Did (memory_told self.old) (memory_told self.new) (Now result ∷ [])) }
+        ensures tells { TellsOn 1 (memory_told self.old) (memory_told self.new) }
         ensures begun { memory_begun self.new ≡ true }
         ensures causes { faults_of self.new ≡ faults_of self.old }
+        ensures wants { self.new.steady.wants ≡ self.old.steady.wants }
         ensures value { result ≡ next_value self.old.steady.history }
         ensures stays { Stays self.old self.new }
         ensures places { places_of self.new.steady
@@ -175,11 +190,13 @@ impl Device for MemoryDevice {
     }
 
     fn receive(&mut self, wait_ms: u32, buf: &mut [u8]) -> Received
-        requires { memory_begun self.old ≡ true }
+        requires begun { memory_begun self.old ≡ true }
+        requires room { RECEIVE_BUFFER ≤ length buf.old }
         ensures outcome { Receives wait_ms buf.new (memory_told self.old) (memory_told self.new) result }
         ensures begun { memory_begun self.new ≡ true }
         ensures causes { ReceiveCounts (faults_of self.old) (faults_of self.new) result }
         ensures counts { NoFewer (faults_of self.old) (faults_of self.new) }
+        ensures wants { Wants (receive_wants result) self.old.steady.wants self.new.steady.wants }
         ensures scripted { ReceivesBy (is_due_now self.old) result }
         ensures arrives { Brings (next_arrival self.old.steady.arrivals.items self.old.steady.received) buf.new result }
         ensures stays { Stays self.old self.new }
@@ -191,7 +208,7 @@ impl Device for MemoryDevice {
             return self.steady.receive(wait_ms, buf);
         }
         if self.steady.note(PastAct::ReceiveFailed(wait_ms)).is_err() {
-            return Received::Memory;
+            return self.steady.want(Received::Memory);
         }
         self.counts.receive = self.counts.receive.saturating_add(1);
         Received::Failed
@@ -203,6 +220,7 @@ impl Device for MemoryDevice {
         ensures begun { memory_begun self.new ≡ true }
         ensures causes { SendCounts (faults_of self.old) (faults_of self.new) result }
         ensures counts { NoFewer (faults_of self.old) (faults_of self.new) }
+        ensures wants { Wants (send_wants result) self.old.steady.wants self.new.steady.wants }
         ensures scripted { SendsBy (is_due_now self.old) result }
         ensures stays { Stays self.old self.new }
         ensures places { places_of self.new.steady ≡ places_of self.old.steady }
@@ -212,10 +230,10 @@ impl Device for MemoryDevice {
             return self.steady.send(to, bytes);
         }
         let Ok(copy) = self.steady.copy_of(bytes) else {
-            return Shipped::Memory;
+            return self.steady.want(Shipped::Memory);
         };
         if self.steady.note(PastAct::SendFailed(to, copy)).is_err() {
-            return Shipped::Memory;
+            return self.steady.want(Shipped::Memory);
         }
         self.counts.send = self.counts.send.saturating_add(1);
         Shipped::Failed
@@ -228,6 +246,7 @@ impl Device for MemoryDevice {
         ensures begun { memory_begun self.new ≡ true }
         ensures causes { ReadCounts (faults_of self.old) (faults_of self.new) result }
         ensures counts { NoFewer (faults_of self.old) (faults_of self.new) }
+        ensures wants { Wants (read_wants result) self.old.steady.wants self.new.steady.wants }
         ensures scripted { ReadsBy (is_due_now self.old) result }
         ensures stays { Stays self.old self.new }
         ensures places { places_of self.new.steady ≡ places_of self.old.steady }
@@ -238,7 +257,7 @@ impl Device for MemoryDevice {
         }
         let act = PastAct::ReadFailed(area, at, buf.len() as u64);
         if self.steady.note(act).is_err() {
-            return AreaRead::Memory;
+            return self.steady.want(AreaRead::Memory);
         }
         self.counts.store = self.counts.store.saturating_add(1);
         AreaRead::Failed
@@ -255,6 +274,7 @@ impl Device for MemoryDevice {
         ensures begun { memory_begun self.new ≡ true }
         ensures causes { StoreCounts (faults_of self.old) (faults_of self.new) result }
         ensures counts { NoFewer (faults_of self.old) (faults_of self.new) }
+        ensures wants { Wants (store_wants result) self.old.steady.wants self.new.steady.wants }
         ensures scripted { StoresBy (is_due_now self.old) result }
         ensures stays { Stays self.old self.new }
         ensures places { places_of self.new.steady ≡ places_of self.old.steady }
@@ -264,11 +284,11 @@ impl Device for MemoryDevice {
             return self.steady.write_at(area, at, bytes);
         }
         let Ok(copy) = self.steady.copy_of(bytes) else {
-            return Stored::Memory;
+            return self.steady.want(Stored::Memory);
         };
         let act = PastAct::WriteFailed(area, at, copy);
         if self.steady.write_as(area, at, bytes, act).is_err() {
-            return Stored::Memory;
+            return self.steady.want(Stored::Memory);
         }
         self.counts.store = self.counts.store.saturating_add(1);
         Stored::Failed
@@ -283,6 +303,7 @@ impl Device for MemoryDevice {
         ensures begun { memory_begun self.new ≡ true }
         ensures causes { StoreCounts (faults_of self.old) (faults_of self.new) result }
         ensures counts { NoFewer (faults_of self.old) (faults_of self.new) }
+        ensures wants { Wants (store_wants result) self.old.steady.wants self.new.steady.wants }
         ensures scripted { StoresBy (is_due_now self.old) result }
         ensures stays { Stays self.old self.new }
         ensures places { places_of self.new.steady ≡ places_of self.old.steady }
@@ -293,7 +314,7 @@ impl Device for MemoryDevice {
         }
         let act = PastAct::CutFailed(area, len);
         if self.steady.cut_as(area, len, act).is_err() {
-            return Stored::Memory;
+            return self.steady.want(Stored::Memory);
         }
         self.counts.store = self.counts.store.saturating_add(1);
         Stored::Failed
@@ -308,6 +329,7 @@ impl Device for MemoryDevice {
         ensures begun { memory_begun self.new ≡ true }
         ensures causes { StoreCounts (faults_of self.old) (faults_of self.new) result }
         ensures counts { NoFewer (faults_of self.old) (faults_of self.new) }
+        ensures wants { Wants (store_wants result) self.old.steady.wants self.new.steady.wants }
         ensures scripted { StoresBy (is_due_now self.old) result }
         ensures stays { Stays self.old self.new }
         ensures places { places_of self.new.steady ≡ places_of self.old.steady }
@@ -317,7 +339,7 @@ impl Device for MemoryDevice {
             return self.steady.sync(area);
         }
         if self.steady.note(PastAct::SyncFailed(area)).is_err() {
-            return Stored::Memory;
+            return self.steady.want(Stored::Memory);
         }
         self.counts.store = self.counts.store.saturating_add(1);
         Stored::Failed

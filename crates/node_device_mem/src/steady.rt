@@ -6,8 +6,10 @@ ghost use Rattle.disk.specs.Areas.{area_at, changed};
 ghost use Rattle.disk.specs.Disk.{contents, may_leave, written, cut};
 ghost use Rattle.disk.specs.Images.{image_by_word};
 ghost use Rattle.node_device.specs.Faults.{Faults, NoFewer, BeginCounts, ReceiveCounts, SendCounts, ReadCounts, StoreCounts};
-ghost use Rattle.node_device.specs.Telling.{Told, Did, OthersStay};
+ghost use Rattle.node_device.specs.Telling.{Told, Did, OthersStay, TellsOn};
 ghost use Rattle.node_device.specs.Outcomes.{Begins, Receives, Sends, Reads, Stores};
+ghost use Rattle.node_device.specs.Wants.{Wants, begin_wants, receive_wants, send_wants, read_wants, store_wants};
+ghost use Rattle.node_device.specs.declared.limits.TheConstants.{RECEIVE_BUFFER};
 ghost use Rattle.node_device_mem.specs.MemoryDisks.{image_of, disk_of};
 ghost use Rattle.node_device_mem.specs.Histories.{act_of, next_value};
 ghost use Rattle.node_device_mem.specs.Devices.{SteadyStays, steady_told, no_faults, noted, noted_with, first_disk, places_of};
@@ -41,6 +43,8 @@ pub struct SteadyDevice {
     // how many of these were received
     received: usize,
     begun: bool,
+    // how often a call has answered want of memory
+    wants: u64,
 }
 
 impl SteadyDevice {
@@ -57,6 +61,7 @@ impl SteadyDevice {
         ensures begun { IfOk result (λ device. device.begun ≡ false) }
         ensures arrivals { IfOk result (λ device. (device.arrivals.items ≡ arrivals.items) × (device.received ≡ 0)) }
         ensures clock { IfOk result (λ device. device.history.clock.items ≡ clock.items) }
+        ensures wants { IfOk result (λ device. device.wants ≡ 0) }
     {
         Ok(SteadyDevice {
             alloc,
@@ -66,6 +71,7 @@ impl SteadyDevice {
             arrivals,
             received: 0,
             begun: false,
+            wants: 0,
         })
     }
 
@@ -88,6 +94,22 @@ impl SteadyDevice {
         ensures { IfSome (steady_told self.now) (λ told. result ≡ min (length told.acts) (2 ^ 64 - 1)) }
     {
         self.history.acts()
+    }
+
+    /// How often a call has answered want of memory. It stops at the greatest `u64`.
+    pub fn wants(&self) -> u64
+        ensures { result ≡ self.now.wants }
+    {
+        self.wants
+    }
+
+    // Counts a call that answers want of memory, and hands its answer back.
+    pub(crate) fn want<T>(&mut self, answer: T) -> T
+        ensures same { result ≡ answer }
+        ensures counts { self.new ≡ record self.old { wants = counted self.old.wants } }
+    {
+        self.wants = self.wants.saturating_add(1);
+        answer
     }
 
     // Its record.
@@ -114,6 +136,7 @@ impl SteadyDevice {
         ensures ok { OnOk result (steady_told self.new ≡ noted (act_of act) (steady_told self.old)) }
         ensures err { OnErr result (steady_told self.new ≡ steady_told self.old) }
         ensures begun { self.new.begun ≡ self.old.begun }
+        ensures wants { self.new.wants ≡ self.old.wants }
         ensures stays { SteadyStays self.old self.new }
         ensures places { places_of self.new ≡ places_of self.old }
     {
@@ -132,6 +155,7 @@ impl SteadyDevice {
             ≡ noted_with (act_of act) (λ disk. changed disk area (written at bytes.now)) (steady_told self.old)) }
         ensures err { OnErr result (steady_told self.new ≡ steady_told self.old) }
         ensures begun { self.new.begun ≡ self.old.begun }
+        ensures wants { self.new.wants ≡ self.old.wants }
         ensures stays { SteadyStays self.old self.new }
         ensures places { places_of self.new ≡ places_of self.old }
     {
@@ -147,6 +171,7 @@ impl SteadyDevice {
             ≡ noted_with (act_of act) (λ disk. changed disk area (cut len)) (steady_told self.old)) }
         ensures err { OnErr result (steady_told self.new ≡ steady_told self.old) }
         ensures begun { self.new.begun ≡ self.old.begun }
+        ensures wants { self.new.wants ≡ self.old.wants }
         ensures stays { SteadyStays self.old self.new }
         ensures places { places_of self.new ≡ places_of self.old }
     {
@@ -186,18 +211,21 @@ impl Device for SteadyDevice {
 
     ghost faults = { λ _. no_faults };
 
+    ghost wants = { λ device. device.wants };
+
     fn begin(&mut self, at: Address, dir: &str) -> Begun
         ensures outcome { Begins self.old.begun self.new.begun (steady_told self.old) (steady_told self.new) at dir.now result }
         ensures causes { BeginCounts no_faults no_faults result }
         ensures counts { NoFewer no_faults no_faults }
+        ensures wants { Wants (begin_wants result) self.old.wants self.new.wants }
         ensures stays { SteadyStays self.old self.new }
         ensures places { places_of self.new ≡ places_of self.old }
     {
         let Ok(copy) = self.copy_of(dir.as_bytes()) else {
-            return Begun::Memory;
+            return self.want(Begun::Memory);
         };
         if self.note(PastAct::Began(at, copy)).is_err() {
-            return Begun::Memory;
+            return self.want(Begun::Memory);
         }
         self.begun = true;
         Begun::Ready
@@ -206,8 +234,10 @@ impl Device for SteadyDevice {
     fn now(&mut self) -> u64
         requires { self.old.begun ≡ true }
         ensures outcome { OnSome (steady_told self.new) (Did (steady_told self.old) (steady_told self.new) (Now result ∷ [])) }
+        ensures tells { TellsOn 1 (steady_told self.old) (steady_told self.new) }
         ensures begun { self.new.begun ≡ true }
         ensures causes { no_faults ≡ no_faults }
+        ensures wants { self.new.wants ≡ self.old.wants }
         ensures value { result ≡ next_value self.old.history }
         ensures stays { SteadyStays self.old self.new }
         ensures places { places_of self.new ≡ record (places_of self.old) { clock = counted (places_of self.old).clock } }
@@ -216,25 +246,27 @@ impl Device for SteadyDevice {
     }
 
     fn receive(&mut self, wait_ms: u32, buf: &mut [u8]) -> Received
-        requires { self.old.begun ≡ true }
+        requires begun { self.old.begun ≡ true }
+        requires room { RECEIVE_BUFFER ≤ length buf.old }
         ensures outcome { Receives wait_ms buf.new (steady_told self.old) (steady_told self.new) result }
         ensures begun { self.new.begun ≡ true }
         ensures causes { ReceiveCounts no_faults no_faults result }
         ensures counts { NoFewer no_faults no_faults }
+        ensures wants { Wants (receive_wants result) self.old.wants self.new.wants }
         ensures arrives { Brings (next_arrival self.old.arrivals.items self.old.received) buf.new result }
         ensures stays { SteadyStays self.old self.new }
         ensures places { places_of self.new ≡ record (places_of self.old) { received = received_after self.old.received result } }
     {
         if self.history.reserve().is_err() {
-            return Received::Memory;
+            return self.want(Received::Memory);
         }
         let Ok(next) = self.next_datagram(buf.len()) else {
-            return Received::Memory;
+            return self.want(Received::Memory);
         };
         let Some((from, bytes)) = next else {
             // there is room for it
             if self.history.note(PastAct::Quiet(wait_ms)).is_err() {
-                return Received::Memory;
+                return self.want(Received::Memory);
             }
             self.received = self.received.saturating_add(1);
             return Received::Quiet;
@@ -247,7 +279,7 @@ impl Device for SteadyDevice {
             .note(PastAct::Took(wait_ms, from, bytes))
             .is_err()
         {
-            return Received::Memory;
+            return self.want(Received::Memory);
         }
         self.received = self.received.saturating_add(1);
         Received::Datagram { from, len }
@@ -259,14 +291,15 @@ impl Device for SteadyDevice {
         ensures begun { self.new.begun ≡ true }
         ensures causes { SendCounts no_faults no_faults result }
         ensures counts { NoFewer no_faults no_faults }
+        ensures wants { Wants (send_wants result) self.old.wants self.new.wants }
         ensures stays { SteadyStays self.old self.new }
         ensures places { places_of self.new ≡ places_of self.old }
     {
         let Ok(copy) = self.copy_of(bytes) else {
-            return Shipped::Memory;
+            return self.want(Shipped::Memory);
         };
         if self.note(PastAct::Sent(to, copy)).is_err() {
-            return Shipped::Memory;
+            return self.want(Shipped::Memory);
         }
         Shipped::Sent
     }
@@ -278,6 +311,7 @@ impl Device for SteadyDevice {
         ensures begun { self.new.begun ≡ true }
         ensures causes { ReadCounts no_faults no_faults result }
         ensures counts { NoFewer no_faults no_faults }
+        ensures wants { Wants (read_wants result) self.old.wants self.new.wants }
         ensures stays { SteadyStays self.old self.new }
         ensures places { places_of self.new ≡ places_of self.old }
     {
@@ -293,15 +327,16 @@ impl Device for SteadyDevice {
         ensures begun { self.new.begun ≡ true }
         ensures causes { StoreCounts no_faults no_faults result }
         ensures counts { NoFewer no_faults no_faults }
+        ensures wants { Wants (store_wants result) self.old.wants self.new.wants }
         ensures stays { SteadyStays self.old self.new }
         ensures places { places_of self.new ≡ places_of self.old }
     {
         let Ok(copy) = self.copy_of(bytes) else {
-            return Stored::Memory;
+            return self.want(Stored::Memory);
         };
         let act = PastAct::Wrote(area, at, copy);
         if self.write_as(area, at, bytes, act).is_err() {
-            return Stored::Memory;
+            return self.want(Stored::Memory);
         }
         Stored::Done
     }
@@ -314,11 +349,12 @@ impl Device for SteadyDevice {
         ensures begun { self.new.begun ≡ true }
         ensures causes { StoreCounts no_faults no_faults result }
         ensures counts { NoFewer no_faults no_faults }
+        ensures wants { Wants (store_wants result) self.old.wants self.new.wants }
         ensures stays { SteadyStays self.old self.new }
         ensures places { places_of self.new ≡ places_of self.old }
     {
         if self.cut_as(area, len, PastAct::Cut(area, len)).is_err() {
-            return Stored::Memory;
+            return self.want(Stored::Memory);
         }
         Stored::Done
     }
@@ -331,11 +367,12 @@ impl Device for SteadyDevice {
         ensures begun { self.new.begun ≡ true }
         ensures causes { StoreCounts no_faults no_faults result }
         ensures counts { NoFewer no_faults no_faults }
+        ensures wants { Wants (store_wants result) self.old.wants self.new.wants }
         ensures stays { SteadyStays self.old self.new }
         ensures places { places_of self.new ≡ places_of self.old }
     {
         if self.note(PastAct::Synced(area)).is_err() {
-            return Stored::Memory;
+            return self.want(Stored::Memory);
         }
         self.disk.sync(area);
         Stored::Done
