@@ -1,5 +1,6 @@
--- What calls on a node's state need, and what they do to the counts of faults.
-use Rattle.std.specs.Prelude.{◌≡◌, ◌<◌, Result, Ok, Err}
+-- What calls on a node's state need, and what they do to the counts of faults and of wants.
+use Rattle.std.specs.Prelude.{◌≡◌, ℕ, ◌<◌, Result, Ok, Err, ◌⊎◌}
+use Rattle.outside.specs.Counting.{Rose}
 use Rattle.raft_types.specs.Ranges.{IsClusterSize}
 use Rattle.vst_base.specs.declared.stack.StackId.{StackId}
 use Rattle.node_body.specs.declared.who.Who.{Who}
@@ -28,3 +29,15 @@ abbrev pub done_of : Stored → Result Unit StateFault
 done_of stored.Done = Ok tt
 done_of stored.Failed = Err fault.Store
 done_of stored.Memory = Err fault.Memory
+
+-- A call that grows nothing itself answers want of memory only for its device, which counted it. No other answer goes with a want.
+abbrev pub DeviceWants : {T : Type 0} → ℕ → ℕ → Result T StateFault → Type 0
+DeviceWants old new (Ok x) = new ≡ old
+DeviceWants old new (Err fault.Store) = new ≡ old
+DeviceWants old new (Err fault.Memory) = Rose old new
+
+-- A call that grows first answers it for its device, or for a growth: then its device wanted none, and this stands.
+abbrev pub GrowsFirst : {T : Type 0} → Type 0 → ℕ → ℕ → Result T StateFault → Type 0
+GrowsFirst P old new (Ok x) = new ≡ old
+GrowsFirst P old new (Err fault.Store) = new ≡ old
+GrowsFirst P old new (Err fault.Memory) = Rose old new ⊎ ((new ≡ old) × P)

@@ -7,7 +7,7 @@ ghost use Rattle.node_body.specs.Slots.{base_of};
 ghost use Rattle.node_body.specs.declared.bases.TheConstants.{MAX_BASE_LEN, MAX_RECORD_LEN};
 ghost use Rattle.node_body.specs.declared.journal.TheConstants.{MAX_RECORDS};
 ghost use Rattle.node_device.specs.Telling.{Did, StoppedIn, WhereTold};
-ghost use Rattle.node_state.specs.Calls.{IsNodeOf, StateCounts};
+ghost use Rattle.node_state.specs.Calls.{GrowsFirst, IsNodeOf, StateCounts};
 ghost use Rattle.node_state.specs.Crashes.{IsHeldBefore, LeavesEither, Saves, StoppedWith};
 ghost use Rattle.node_state.specs.Ends.{NewFits, new_acts, new_end};
 ghost use Rattle.raft_types.specs.Ranges.{IsIndex, IsTerm};
@@ -51,6 +51,7 @@ pub(crate) fn write_base<D: Device, C: Commands>(
     ensures stopped { OnErr result (StoppedWith ((body C.stack C.format).Fits (body_of who.now (kept_as term voted log.now)))
         (D.told device.old) (D.told device.new) [] (save_acts selector (base_of C.stack C.format who.now (kept_as term voted log.now)))) }
     ensures causes { StateCounts (D.faults device.old) (D.faults device.new) result }
+    ensures wants { GrowsFirst (D.told device.new ≡ D.told device.old) (D.wants device.old) (D.wants device.new) result }
     ensures begun { D.begun device.new ≡ true }
 {
     let base = make_base_of(alloc, who, term, voted, log)?;
@@ -94,6 +95,7 @@ pub(crate) fn write_record<D: Device, C: Commands>(
         (append_acts (named end.now.selector) end.now.gate
         (spell_change (entry C.format) (change_as term voted keep entries.now) ++ 0 ∷ []))) }
     ensures causes { StateCounts (D.faults device.old) (D.faults device.new) result }
+    ensures wants { GrowsFirst (D.told device.new ≡ D.told device.old) (D.wants device.old) (D.wants device.new) result }
     ensures begun { D.begun device.new ≡ true }
 {
     let record = make_record(alloc, term, voted, keep, entries)?;
@@ -131,6 +133,7 @@ pub(crate) fn write_new<D: Device, C: Commands>(
     ensures stopped { OnErr result (StoppedWith (NewFits C.stack C.format who.now end.now keep (kept_as term voted log.now))
         (D.told device.old) (D.told device.new) [] (new_acts C.stack C.format who.now end.now keep (kept_as term voted log.now))) }
     ensures causes { StateCounts (D.faults device.old) (D.faults device.new) result }
+    ensures wants { GrowsFirst (D.told device.new ≡ D.told device.old) (D.wants device.old) (D.wants device.new) result }
     ensures begun { D.begun device.new ≡ true }
 {
     if end.left == 0 {
@@ -184,6 +187,7 @@ pub fn save_change<D: Device, C: Commands, O: Commands>(
         (LeavesEither C.stack C.format O.stack O.format store.old (kept_as term voted log.now)) }
 
     ensures causes { StateCounts (D.faults device.old) (D.faults device.new) result }
+    ensures wants { GrowsFirst (D.told device.new ≡ D.told device.old) (D.wants device.old) (D.wants device.new) result }
     ensures begun { D.begun device.new ≡ true }
 {
     store.write(alloc, device, term, voted, log, same)
@@ -211,6 +215,7 @@ pub fn save<D: Device, C: Commands, O: Commands>(
     ensures keeps { OnOk result (IfSome (D.told device.old) (Saves C.stack C.format O.stack O.format store.old kept.now)) }
     ensures crash { WhereTold (D.told device.old) (D.told device.new) (LeavesEither C.stack C.format O.stack O.format store.old kept.now) }
     ensures causes { StateCounts (D.faults device.old) (D.faults device.new) result }
+    ensures wants { GrowsFirst (D.told device.new ≡ D.told device.old) (D.wants device.old) (D.wants device.new) result }
     ensures begun { D.begun device.new ≡ true }
 {
     save_change::<D, C, O>(

@@ -5,7 +5,7 @@ ghost use Rattle.node_acts.specs.Stores.{common, is_held, same_vote};
 ghost use Rattle.node_body.specs.Bodies.{VoteAmong, kept_as};
 ghost use Rattle.node_body.specs.declared.bases.TheConstants.{MAX_RECORD_LEN};
 ghost use Rattle.node_device.specs.Telling.{Did};
-ghost use Rattle.node_state.specs.Calls.{IsNodeOf, StateCounts};
+ghost use Rattle.node_state.specs.Calls.{GrowsFirst, IsNodeOf, StateCounts};
 ghost use Rattle.node_state.specs.Crashes.{StoppedWith};
 ghost use Rattle.node_state.specs.Ends.{NewFits, end_of, new_acts, new_end};
 ghost use Rattle.raft_types.specs.Ranges.{IsIndex, IsTerm};
@@ -151,6 +151,7 @@ impl Store {
             (D.told device.old) (D.told device.new) []
             (new_acts C.stack C.format self.now.who (end_of self.now) keep (kept_as term voted.now log.now))) }
         ensures causes { StateCounts (D.faults device.old) (D.faults device.new) result }
+        ensures wants { GrowsFirst (D.told device.new ≡ D.told device.old) (D.wants device.old) (D.wants device.new) result }
         ensures begun { D.begun device.new ≡ true }
     {
         write_new(alloc, device, &self.who, &self.end, term, *voted, keep, log)
@@ -182,6 +183,7 @@ impl Store {
             (D.told device.old) (D.told device.new) [] (state_acts C.stack C.format self.old (kept_as term voted log.now))) }
         ensures unchanged { OnErr result (self.new ≡ self.old) }
         ensures causes { StateCounts (D.faults device.old) (D.faults device.new) result }
+        ensures wants { GrowsFirst (D.told device.new ≡ D.told device.old) (D.wants device.old) (D.wants device.new) result }
         ensures begun { D.begun device.new ≡ true }
     {
         let keep = common(&self.terms, log, same);

@@ -2,7 +2,7 @@ ghost use Rattle.std.specs.Prelude.{◌≡◌, ◌<◌, true, suc, [], ◌∷◌
 ghost use Rattle.node_acts.specs.StateActs.{append_acts};
 ghost use Rattle.node_device.specs.Faults.{NoFewer};
 ghost use Rattle.node_device.specs.Telling.{Did, StoppedIn};
-ghost use Rattle.node_state.specs.Calls.{StateCounts};
+ghost use Rattle.node_state.specs.Calls.{DeviceWants, StateCounts};
 ghost use Rattle.slots.specs.PatchLaws.{patch_acts};
 ghost use Rattle.slots.specs.Saving.{flip_acts, fresh_acts, next, save_acts, slot_acts, sync_acts};
 
@@ -16,6 +16,7 @@ pub fn sync_all<D: Device>(device: &mut D) -> Result<(), StateFault>
     ensures did { OnOk result (Did (D.told device.old) (D.told device.new) sync_acts) }
     ensures stopped { OnErr result (StoppedIn (D.told device.old) (D.told device.new) sync_acts) }
     ensures causes { StateCounts (D.faults device.old) (D.faults device.new) result }
+    ensures wants { DeviceWants (D.wants device.old) (D.wants device.new) result }
     ensures begun { D.begun device.new ≡ true }
 {
     done(device.sync(0))?;
@@ -30,6 +31,7 @@ pub fn write_slot<D: Device>(device: &mut D, slot: u8, bytes: &[u8]) -> Result<(
     ensures did { OnOk result (Did (D.told device.old) (D.told device.new) (slot_acts slot bytes.now)) }
     ensures stopped { OnErr result (StoppedIn (D.told device.old) (D.told device.new) (slot_acts slot bytes.now)) }
     ensures causes { StateCounts (D.faults device.old) (D.faults device.new) result }
+    ensures wants { DeviceWants (D.wants device.old) (D.wants device.new) result }
     ensures begun { D.begun device.new ≡ true }
 {
     done(device.write_at(slot, 0, bytes))?;
@@ -43,6 +45,7 @@ pub fn flip<D: Device>(device: &mut D, selector: u8) -> Result<(), StateFault>
     ensures did { OnOk result (Did (D.told device.old) (D.told device.new) (flip_acts selector)) }
     ensures stopped { OnErr result (StoppedIn (D.told device.old) (D.told device.new) (flip_acts selector)) }
     ensures causes { StateCounts (D.faults device.old) (D.faults device.new) result }
+    ensures wants { DeviceWants (D.wants device.old) (D.wants device.new) result }
     ensures begun { D.begun device.new ≡ true }
 {
     done(device.write_at(2, 0, &[selector]))?;
@@ -61,6 +64,7 @@ pub fn patch_slot<D: Device>(
     ensures did { OnOk result (Did (D.told device.old) (D.told device.new) (patch_acts slot at bytes.now)) }
     ensures stopped { OnErr result (StoppedIn (D.told device.old) (D.told device.new) (patch_acts slot at bytes.now)) }
     ensures causes { StateCounts (D.faults device.old) (D.faults device.new) result }
+    ensures wants { DeviceWants (D.wants device.old) (D.wants device.new) result }
     ensures begun { D.begun device.new ≡ true }
 {
     done(device.write_at(slot, at, bytes))?;
@@ -74,6 +78,7 @@ pub fn open_gate<D: Device>(device: &mut D, slot: u8, at: u64) -> Result<(), Sta
     ensures did { OnOk result (Did (D.told device.old) (D.told device.new) (patch_acts slot at (1 ∷ []))) }
     ensures stopped { OnErr result (StoppedIn (D.told device.old) (D.told device.new) (patch_acts slot at (1 ∷ []))) }
     ensures causes { StateCounts (D.faults device.old) (D.faults device.new) result }
+    ensures wants { DeviceWants (D.wants device.old) (D.wants device.new) result }
     ensures begun { D.begun device.new ≡ true }
 {
     patch_slot(device, slot, at, &[1])
@@ -92,6 +97,7 @@ pub fn add_record<D: Device>(
     ensures did { OnOk result (Did (D.told device.old) (D.told device.new) (append_acts slot gate bytes.now)) }
     ensures stopped { OnErr result (StoppedIn (D.told device.old) (D.told device.new) (append_acts slot gate bytes.now)) }
     ensures causes { StateCounts (D.faults device.old) (D.faults device.new) result }
+    ensures wants { DeviceWants (D.wants device.old) (D.wants device.new) result }
     ensures begun { D.begun device.new ≡ true }
 {
     patch_slot(device, slot, gate + 1, bytes)?;
@@ -104,6 +110,7 @@ pub fn save_slot<D: Device>(device: &mut D, selector: u8, bytes: &[u8]) -> Resul
     ensures did { OnOk result (Did (D.told device.old) (D.told device.new) (save_acts selector bytes.now)) }
     ensures stopped { OnErr result (StoppedIn (D.told device.old) (D.told device.new) (save_acts selector bytes.now)) }
     ensures causes { StateCounts (D.faults device.old) (D.faults device.new) result }
+    ensures wants { DeviceWants (D.wants device.old) (D.wants device.new) result }
     ensures begun { D.begun device.new ≡ true }
 {
     write_slot(device, 1 - selector % 2, bytes)?;
@@ -116,6 +123,7 @@ pub fn write_fresh<D: Device>(device: &mut D, first: &[u8]) -> Result<(), StateF
     ensures did { OnOk result (Did (D.told device.old) (D.told device.new) (fresh_acts first.now)) }
     ensures stopped { OnErr result (StoppedIn (D.told device.old) (D.told device.new) (fresh_acts first.now)) }
     ensures causes { StateCounts (D.faults device.old) (D.faults device.new) result }
+    ensures wants { DeviceWants (D.wants device.old) (D.wants device.new) result }
     ensures begun { D.begun device.new ≡ true }
 {
     write_slot(device, 0, first)?;
