@@ -9,6 +9,7 @@ use Rattle.wire_fields.specs.Formats.{Format}
 use Rattle.wire_messages.specs.KvBytes.{kv_command}
 use Rattle.wire_messages.specs.TableBytes.{table_command}
 use Rattle.node_body.specs.Bodies.{entry_in, kept_as, owner_as}
+use Rattle.node_body.specs.Fronts.{found_in_front}
 use Rattle.node_body.specs.Journals.{change, change_as, from_gate, journal_as}
 use Rattle.node_body.specs.Slots.{held_as, slot_found}
 use Rattle.node_body.specs.declared.journal.Journal.{Journal}
@@ -115,6 +116,10 @@ found_by who bs = slot_found stack.KvRaft kv_command stack.TableRaft table_comma
 
 abbrev pub found : List ℕ → Result (Held KvCmd) Why
 found bs = found_by (who_as 0 3 cluster) bs
+
+-- what a front decides
+abbrev pub decided : List ℕ → Option (Result (Held KvCmd) Why)
+decided front = found_in_front stack.KvRaft kv_command stack.TableRaft table_command (who_as 0 3 cluster) front
 
 abbrev pub old_held : KeptView KvCmd → ℕ → ℕ → Held KvCmd
 old_held kept left hidden = held_as One (owner_as stack.KvRaft 0 3 None) (journal_as kept left hidden)

@@ -10,6 +10,8 @@ pub mod GateLaws
 pub mod GatedRecords
 pub mod GatedRecordLaws
 pub mod WhyLaws
+pub mod Fronts
+pub mod FrontLaws
 pub mod OwnLaws
 pub mod VoteLaws
 pub mod CommandLengths

@@ -1,7 +1,7 @@
 ghost use Rattle.std.specs.Prelude.{◌≡◌, ◌∷◌, ◌++◌, [], None, Some, Ok, Err, codes, take, drop};
 ghost use Rattle.kv_machine.specs.declared.cmd.KvCmd.TheVariants as command;
 ghost use Rattle.node_body.specs.Bodies.{body, body_of, entry_in, kept_as, read_body};
-ghost use Rattle.node_body.specs.Examples.{before_greatest, cluster, first_kept, first_slot, first_state, found, found_by, gated_records, greatest, journal_left, new_body, new_change, new_held, no_op, no_op_of, no_op_record, number_of_eight, number_of_four, old_body, old_first, old_held, old_put, old_voted, one_entry, other_cluster, past_greatest, record_of, slot, table_put, vote_record, voted_kept, voted_slot, voted_state, who_as};
+ghost use Rattle.node_body.specs.Examples.{before_greatest, cluster, decided, first_kept, first_slot, first_state, found, found_by, gated_records, greatest, journal_left, new_body, new_change, new_held, no_op, no_op_of, no_op_record, number_of_eight, number_of_four, old_body, old_first, old_held, old_put, old_voted, one_entry, other_cluster, past_greatest, record_of, slot, table_put, vote_record, voted_kept, voted_slot, voted_state, who_as};
 ghost use Rattle.node_body.specs.GatedRecords.{AreGated, patched_by, spell_gated};
 ghost use Rattle.node_body.specs.Journals.{change, change_as, journal_as, patched};
 ghost use Rattle.node_body.specs.declared.version.Version.TheVariants.{One};
@@ -104,6 +104,32 @@ pub fn worked_journals()
     ensures no_op_in_an_old_slot { found (old_first ++ 1 ∷ (no_op_record 0 ++ 0 ∷ [])) ≡ Err why.Journal }
     ensures the_last_record { journal_left 1 (1 ∷ (vote_record ++ 0 ∷ [])) ≡ Some (journal_as voted_kept 0 0) }
     ensures a_record_too_many { journal_left 0 (1 ∷ (vote_record ++ 0 ∷ [])) ≡ None }
+{}
+
+/// Which fronts decide what a slot is.
+#[tactic(auto, unfolding(wire_fields::specs::Bytes::number_bytes, wire_fields::specs::Bytes::number_in, wire_fields::specs::Bytes::has_bytes, wire_fields::specs::Bytes::read_number, crate::specs::Journals::from_gate))]
+pub fn worked_fronts()
+    // Those that have the first closed gate, which hides what comes later too.
+    ensures a_closed_gate { decided (first_slot ++ 0 ∷ []) ≡ Some (Ok (new_held first_kept 1000 0)) }
+    ensures what_it_hides { decided (first_slot ++ 2 ∷ 255 ∷ []) ≡ Some (Ok (new_held first_kept 1000 1)) }
+    ensures and_more { found (first_slot ++ 2 ∷ 255 ∷ 1 ∷ 255 ∷ []) ≡ Ok (new_held first_kept 1000 3) }
+    ensures a_gate_after_a_record { decided (first_slot ++ 1 ∷ (vote_record ++ 0 ∷ [])) ≡ Some (Ok (new_held voted_kept 999 0)) }
+    ensures of_an_old_slot { decided (old_first ++ 2 ∷ 255 ∷ []) ≡ Some (Ok (old_held first_kept 1000 1)) }
+    ensures of_another_node { decided (slot 34 (new_body 5 1 3 first_state) ++ 0 ∷ []) ≡ Some (Err (why.Node 1 0)) }
+    ensures of_another_stack { decided (slot 34 (new_body 7 0 3 first_state) ++ 0 ∷ []) ≡ Some (Err (why.Stack 7 5)) }
+
+    // What is no body is none whatever follows.
+    ensures no_body { decided (slot 18 (84 ∷ drop 1 (old_body 5 0 3 first_state))) ≡ Some (Err why.Body) }
+
+    // A front that ends before such a gate does not.
+    ensures no_bytes { decided [] ≡ None }
+    ensures part_of_a_body { decided (take 21 old_voted) ≡ None }
+    ensures no_gate { decided voted_slot ≡ None }
+    ensures no_gate_of_another_node { decided (slot 34 (new_body 5 1 3 first_state)) ≡ None }
+    ensures no_gate_of_another_stack { decided (slot 34 (new_body 7 0 3 first_state)) ≡ None }
+    ensures an_open_gate { decided (first_slot ++ 1 ∷ []) ≡ None }
+    ensures part_of_a_record { decided (first_slot ++ 1 ∷ take 16 vote_record) ≡ None }
+    ensures a_record_alone { decided (first_slot ++ 1 ∷ vote_record) ≡ None }
 {}
 
 /// Each why, and that the first is given.

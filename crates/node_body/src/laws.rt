@@ -2,6 +2,7 @@ ghost use Rattle.std.specs.Prelude.{◌≡◌, ℕ, List, Some, Err};
 ghost use Rattle.node_body.specs.BaseLaws.{BaseIsFound};
 ghost use Rattle.node_body.specs.Bodies.{IsBodyOf, body, entry_in, read_body};
 ghost use Rattle.node_body.specs.FoundLaws.{ClosedGateHides, GateIsEither, OpenGateAdds, RecordIsHarmless};
+ghost use Rattle.node_body.specs.Fronts.{FrontsDecide, LastGateDecides, LongerFrontsDecide};
 ghost use Rattle.node_body.specs.GateLaws.{LastGateStands};
 ghost use Rattle.node_body.specs.GatedRecords.{RecordsAlone, RecordsAreFound};
 ghost use Rattle.node_body.specs.Journals.{change};
@@ -46,6 +47,16 @@ pub fn gates_are_exact<C: Commands, D: Commands>()
     ensures harmless { RecordIsHarmless C.stack C.format D.stack D.format }
     // A gate that is torn leaves the state before the record or the one after it.
     ensures either { GateIsEither C.stack C.format D.stack D.format }
+{}
+
+/// The bytes of a slot up to its first closed gate decide what it is, and so do those of a body that is none.
+pub fn fronts_decide<C: Commands, D: Commands>()
+    // What a front decides is what each slot is that begins with it; the gate hides what stands after the front too.
+    ensures slots { FrontsDecide C.stack C.format D.stack D.format }
+    // A longer front decides the same.
+    ensures longer { LongerFrontsDecide C.stack C.format D.stack D.format }
+    // Bytes that have the last gate of a slot to which a record may be added decide it.
+    ensures gates { LastGateDecides C.stack C.format D.stack D.format }
 {}
 
 /// A journal is found in exactly the bytes of its records: each after an open gate, at most so many, and a closed gate after them.

@@ -20,14 +20,16 @@ mod why;
 pub use bases::{MAX_BASE_LEN, MAX_RECORD_LEN, make_base, make_base_of, make_record};
 pub use body::{Body, put_body, put_state, take_any_body, take_body};
 pub use commands::{Commands, MAX_COMMAND};
-pub use examples::{worked_bodies, worked_journals, worked_records, worked_refusals, worked_slots};
+pub use examples::{
+    worked_bodies, worked_fronts, worked_journals, worked_records, worked_refusals, worked_slots,
+};
 pub use journal::{Journal, MAX_RECORDS, read_journal};
 pub use laws::{
-    bodies_are_found, bodies_have_one_spelling, found_states_are_own, gates_are_exact,
-    journals_hold_records,
+    bodies_are_found, bodies_have_one_spelling, found_states_are_own, fronts_decide,
+    gates_are_exact, journals_hold_records,
 };
 pub use records::{Record, put_record, take_record};
-pub use slot::{Held, find_slot, read_slot};
+pub use slot::{Held, find_in_front, find_slot, read_slot};
 pub use version::Version;
 pub use vote::NO_VOTE;
 pub use who::{Owner, Who};

@@ -1,5 +1,6 @@
-ghost use Rattle.std.specs.Prelude.{◌≡◌, IfOk, MatchOption, Some, None};
+ghost use Rattle.std.specs.Prelude.{◌≡◌, IfOk, IfSome, MatchOption, Some, None};
 ghost use Rattle.node_body.specs.Bodies.{VoteAmong};
+ghost use Rattle.node_body.specs.Fronts.{found_in_front, has_gate};
 ghost use Rattle.node_body.specs.Slots.{difference, of_own, read_slot, sized, slot_found};
 
 use crate::{Commands, Journal, Owner, Version, Who, Why, read_journal, take_any_body};
@@ -114,4 +115,37 @@ pub fn find_slot<C: Commands, D: Commands>(
     ensures voted { IfOk result (λ slot. IfOk slot (λ held. VoteAmong who.now.nodes held.journal.kept.voted)) }
 {
     slot_for::<C, D>(alloc, who, bytes)
+}
+
+// Whether a gate stands after the body.
+fn has_gate(bytes: &[u8]) -> bool
+    ensures { result ≡ has_gate bytes.now }
+{
+    match split(bytes) {
+        Some((_, [_, ..])) => true,
+        Some((_, [])) | None => false,
+    }
+}
+
+/// What each slot that begins with these bytes is for a node that asks, as `find_slot` says. `None` comes where bytes more may change that,
+/// since there is no whole body yet, or no closed gate after one. `fronts_decide` says what is the same of the whole slot.
+pub fn find_in_front<C: Commands, D: Commands>(
+    alloc: Global,
+    who: &Who,
+    bytes: &[u8],
+) -> Result<Option<Result<Held<C>, Why>>, AllocError>
+    ensures found { IfOk result (λ found. found ≡ found_in_front C.stack C.format D.stack D.format who.now bytes.now) }
+    ensures voted { IfOk result (λ found. IfSome found (λ slot. IfOk slot (λ held. VoteAmong who.now.nodes held.journal.kept.voted))) }
+{
+    match find_slot::<C, D>(alloc, who, bytes)? {
+        Err(Why::Body) => Ok(Some(Err(Why::Body))),
+        Err(Why::Journal) => Ok(None),
+        found => {
+            if has_gate(bytes) {
+                Ok(Some(found))
+            } else {
+                Ok(None)
+            }
+        }
+    }
 }

@@ -1,6 +1,5 @@
 -- More of an area was read.
-use Rattle.std.specs.Prelude.{Vec}
-use Rattle.std.proofs.Common.{◌≡◌, ℕ, zero, suc, ◌+◌, ◌<◌, ◌≤◌, List, [], ◌∷◌, ◌++◌, arith, Result, Ok, Err, IfOk, refl, length, take, drop, Option, Some, None, IfSome, ap, ◌∙◌, append_assoc, take-append-drop}
+use Rattle.std.proofs.Common.{◌≡◌, ℕ, zero, suc, ◌+◌, ◌<◌, ◌≤◌, List, [], ◌∷◌, ◌++◌, arith, refl, length, take, drop, Option, Some, None, IfSome, ap, ◌∙◌, append_assoc, take-append-drop}
 use Rattle.std.proofs.lemmas.List.{take-append-le, drop-drop}
 use Rattle.disk.specs.Areas.{area_at}
 use Rattle.node_device.specs.Telling.{Told}
@@ -31,10 +30,3 @@ pub all_read : (told : Option Told) (area most : ℕ) (bytes : List ℕ) → len
     IfSome told (λ told. bytes ≡ (area_at told.disk area).bytes)
 all_read None area most bytes l e = tt
 all_read (Some t) area most bytes l e = e ∙ take_short most (area_at t.disk area).bytes (rw e at l)
-
--- and no vector has as many bytes as the greatest number
-pub all_read_any : {A E : Type 0} (told : Option Told) (area : ℕ) (r : Result (Vec ℕ A) E) →
-    IfOk r (λ bytes. IfSome told (λ told. bytes.items ≡ take 18446744073709551615 (area_at told.disk area).bytes)) →
-    IfOk r (λ bytes. IfSome told (λ told. bytes.items ≡ (area_at told.disk area).bytes))
-all_read_any told area (Ok bytes) e = all_read told area 18446744073709551615 bytes.items (omega (arith, bytes.ok.0, bytes.ok.1, bytes.small)) e
-all_read_any told area (Err x) e = tt

@@ -1,6 +1,7 @@
 pub mod Commons
 pub mod Stopping
 pub mod Fronts
+pub mod Needs
 pub mod Crashing
 pub mod Openings
 pub mod Ends

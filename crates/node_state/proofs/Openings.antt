@@ -18,6 +18,7 @@ use Rattle.node_acts.specs.StateLaws.{OpeningFits}
 use Rattle.node_acts.specs.Stores.{StoreView, Holds, found_by}
 use Rattle.node_acts.proofs.StateOpens.{calm_at, fresh_is_held, found_is_held, opening_leaves, opens_found, syncs_leave}
 use Rattle.node_body.specs.Bodies.{body, body_of}
+use Rattle.node_body.specs.Fronts.{hides_more}
 use Rattle.node_body.specs.Slots.{slot_found}
 use Rattle.node_body.specs.declared.commands.TheConstants.{MAX_COMMAND}
 use Rattle.node_body.specs.declared.slot.Held as slot
@@ -27,6 +28,7 @@ use Rattle.node_body.specs.declared.why.Why.{Why}
 use Rattle.node_device.specs.Telling.{Told, told_after, Did, WhereTold, StoppedIn}
 use Rattle.node_state.specs.Answers.{Answers, FoundSo, IfRefused, OpenedSo, RenewedFits, acts_told, kept_in, refusal_of, slot_acts_told, store_in}
 use Rattle.node_state.specs.Crashes.{LeavesFound, StoppedWith}
+use Rattle.node_state.specs.Fronts.{FoundByFront}
 use Rattle.node_state.specs.declared.opening.Opened.{Opened}
 use Rattle.node_state.specs.declared.opening.Opened.TheVariants as opened
 use Rattle.node_state.specs.declared.opening.OpenFault.{OpenFault}
@@ -133,27 +135,25 @@ module _ {C D : Type 0} (s : StackId) (f : Format C) (t : StackId) (g : Format D
   crash_any (Ok o) a b so did stopped = leaves_did o a b so did
   crash_any (Err x) a b so did stopped = leaves_stopped a b stopped
 
-module _ {C D : Type 0} (s : StackId) (f : Format C) (t : StackId) (g : Format D) (who : Who) (selector : ℕ) where
-  -- the acts on a slot that was found
-  acts_of_found : (told : Told) (bytes : List ℕ) (found : slot.Held C) → ◌≡◌ {A = Result (slot.Held C) Why} (Ok found) (slot_found s f t g who bytes) → bytes ≡ (area_at told.disk (named selector)).bytes →
-      renewing_acts s f who selector found.version found.journal.kept ≡ slot_acts_told s f t g who selector (Some told)
-  acts_of_found told bytes found e is = ap (λ r. acts_on_slot s f who selector r) (e ∙ ap (slot_found s f t g who) is)
+module _ {C D : Type 0} (s : StackId) (f : Format C) (t : StackId) (g : Format D) (who : Who) (selector len : ℕ) where
+  -- what was found of the slot that is told
+  abbrev SlotSo : Result (slot.Held C) Why → Told → Type 0
+  SlotSo found told = FoundByFront s f t g who (area_at told.disk (named selector)).bytes len found
 
-  fits_of_found : (told : Told) (bytes : List ℕ) (found : slot.Held C) → ◌≡◌ {A = Result (slot.Held C) Why} (Ok found) (slot_found s f t g who bytes) → bytes ≡ (area_at told.disk (named selector)).bytes →
-      (found.version ≡ One → (body s f).Fits (body_of who found.journal.kept)) → RenewedFits s f t g who selector told
-  fits_of_found told bytes found e is fits = λ other there one.
-      let slots : found ≡ other = cc (e ∙ (ap (slot_found s f t g who) is ∙ there)) in
+  fits_of_found : (told : Told) (found : slot.Held C) → SlotSo (Ok found) told → (found.version ≡ One → (body s f).Fits (body_of who found.journal.kept)) → RenewedFits s f t g who selector told
+  fits_of_found told found is fits = λ other there one.
+      let slots : hides_more is.others found ≡ other = cc (sym is.slot ∙ there) in
       subst (λ (x : slot.Held C). (body s f).Fits (body_of who x.journal.kept)) slots (fits (ap (λ (x : slot.Held C). x.version) slots ∙ one))
 
-  pub slot_stopped : (a b : Option Told) (bytes : List ℕ) (found : slot.Held C) → ◌≡◌ {A = Result (slot.Held C) Why} (Ok found) (slot_found s f t g who bytes) →
-      IfSome a (λ told. bytes ≡ (area_at told.disk (named selector)).bytes) →
+  -- the acts on it
+  pub slot_stopped : (a b : Option Told) (found : slot.Held C) → IfSome a (SlotSo (Ok found)) →
       StoppedWith (found.version ≡ One → (body s f).Fits (body_of who found.journal.kept)) a b [] (renewing_acts s f who selector found.version found.journal.kept) →
       StoppedWith (IfSome a (RenewedFits s f t g who selector)) a b [] (slot_acts_told s f t g who selector a)
-  slot_stopped None b bytes found e is (inl x) = inl x
-  slot_stopped None b bytes found e is (inr x) = inr (tt, x.1)
-  slot_stopped (Some told) b bytes found e is (inl x) = inl x
-  slot_stopped (Some told) b bytes found e is (inr x) =
-      inr (fits_of_found told bytes found e is x.0, subst (λ acts. StoppedIn (Some told) b acts) (acts_of_found told bytes found e is) x.1)
+  slot_stopped None b found is (inl x) = inl x
+  slot_stopped None b found is (inr x) = inr (tt, x.1)
+  slot_stopped (Some told) b found is (inl x) = inl x
+  slot_stopped (Some told) b found is (inr x) =
+      inr (fits_of_found told found is x.0, subst (λ acts. StoppedIn (Some told) b acts) (ap (λ r. acts_on_slot s f who selector r) (sym is.slot)) x.1)
 
 -- one byte was read of area 2
 pub one_selector : (items bytes : List ℕ) → 1 ≤ length items → length items < 2 → items ≡ take 2 bytes → bytes ≡ slice_index_or items 0 0 ∷ []

@@ -1,4 +1,5 @@
 pub mod Calls
+pub mod Fronts
 pub mod Ends
 pub mod Crashes
 pub mod Answers

@@ -4,6 +4,7 @@
 
 mod common;
 mod faults;
+mod finding;
 mod opening;
 mod reading;
 mod saving;
@@ -11,8 +12,9 @@ mod store;
 mod writing;
 
 pub use faults::StateFault;
+pub use finding::find_in_area;
 pub use opening::{OpenFault, Opened, Refusal, open};
-pub use reading::{read_area, read_front};
+pub use reading::{PIECE, read_front, read_on};
 pub use saving::{save, save_change};
 pub use store::Store;
 pub use writing::{

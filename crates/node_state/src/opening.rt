@@ -19,8 +19,8 @@ ghost use Rattle.slots.specs.Saving.{fresh_acts, sync_acts};
 use crate::common::terms_of;
 use crate::saving::write_base;
 use crate::store::JournalEnd;
-use crate::{StateFault, Store, read_area, read_front, sync_all, write_fresh};
-use node_body::{Commands, Held, Journal, MAX_RECORDS, Version, Who, Why, find_slot, make_base};
+use crate::{StateFault, Store, find_in_area, read_front, sync_all, write_fresh};
+use node_body::{Commands, Held, Journal, MAX_RECORDS, Version, Who, Why, make_base};
 use node_device::Device;
 use raft_types::{Entries, Kept};
 use std::alloc::{AllocError, Global};
@@ -109,7 +109,7 @@ fn open_fresh<D: Device, C: Commands>(
     Ok(Store::new(*who, end, 0, None, Vec::new(alloc)))
 }
 
-// Where the journal of a slot of so many bytes goes on. A state of version 1 is saved anew.
+// Where the journal of a slot that was found goes on. A state of version 1 is saved anew.
 fn renew<D: Device, C: Commands>(
     alloc: Global,
     device: &mut D,
@@ -141,7 +141,7 @@ fn renew<D: Device, C: Commands>(
     }
 }
 
-// What is known of a slot of so many bytes that was found.
+// What is known of a slot that was found by a front of so many bytes.
 fn hold<D: Device, C: Commands>(
     alloc: Global,
     device: &mut D,
@@ -204,9 +204,9 @@ fn open_slot<D: Device, C: Commands, O: Commands>(
     ensures causes { OpenCounts (D.faults device.old) (D.faults device.new) result }
     ensures begun { D.begun device.new ≡ true }
 {
-    let bytes = read_area(alloc, device, selector % 2)?;
-    match find_slot::<C, O>(alloc, who, &bytes)? {
-        Ok(held) => Ok(hold(alloc, device, who, selector, bytes.len(), held)?),
+    let (len, found) = find_in_area::<D, C, O>(alloc, device, who, selector % 2)?;
+    match found {
+        Ok(held) => Ok(hold(alloc, device, who, selector, len, held)?),
         Err(why) => Err(OpenFault::Refused(Refusal::Slot(why))),
     }
 }
@@ -247,7 +247,8 @@ fn open_areas<D: Device, C: Commands, O: Commands>(
 }
 
 /// Opens the areas of a node of the stack of `C`; `O` are the commands of the other stack. Each area is synced. Where area 2 is empty,
-/// both slots then get the first state; else the slot that its byte names is read, and one of version 1 is saved as a base.
+/// both slots then get the first state; else the slot that its byte names is read,
+/// to its first closed gate, and one of version 1 is saved as a base.
 pub fn open<D: Device, C: Commands, O: Commands>(
     alloc: Global,
     device: &mut D,

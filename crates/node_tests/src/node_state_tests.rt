@@ -237,6 +237,17 @@ fn areas_are_refused_and_left(rt: HostRuntime) -> Result<(), Fail> {
     Ok(())
 }
 
+// The eighth call would be the second read of the slot.
+#[test]
+fn what_a_closed_gate_hides_is_not_read(rt: HostRuntime) -> Result<(), Fail> {
+    let alloc = rt.alloc();
+    let mut slot = Vec::from_slice(alloc, &VOTED_IN_A_RECORD)?;
+    slot.extend_from_slice(&[255; 5000])?;
+    let mut device = silent(alloc, areas(alloc, &slot, b"", &[0])?, &[8], u64::MAX)?;
+    assert!(rt; seen_of(&opened(alloc, &mut device)) == NEW);
+    Ok(())
+}
+
 #[test]
 fn another_name_is_refused(rt: HostRuntime) -> Result<(), Fail> {
     let mut configured = NAME;

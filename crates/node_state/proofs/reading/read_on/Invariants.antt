@@ -1,6 +1,6 @@
 use Rattle.std.proofs.Common.{◌≡◌, ◌-◌, ◌≤◌, true, IfSome, vec_len, ◌++◌, drop}
 use Rattle.disk.specs.Areas.{area_at}
-use Rattle.node_state.proofs.reading.read_front.Given as goal
+use Rattle.node_state.proofs.reading.read_on.Given as goal
 
 abbrev pub invariant-loop-buf : goal.invariant-loop-buf
 invariant-loop-buf g l =

@@ -1,7 +1,7 @@
 use Rattle.std.proofs.Common.{◌≡◌, ◌+◌, ◌≤◌, length, vec_len, ◌∙◌, arith, rules}
 use Rattle.std.proofs.lemmas.Grind.{common_steps}
 use Rattle.node_state.proofs.Fronts.{more}
-use Rattle.node_state.proofs.reading.read_front.Goals as goal
+use Rattle.node_state.proofs.reading.read_on.Goals as goal
 
 pub loop-buf-preserved : goal.loop-buf-preserved
 loop-buf-preserved g c =
