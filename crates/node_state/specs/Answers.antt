@@ -1,5 +1,6 @@
 -- The answers of an opening.
-use Rattle.std.specs.Prelude.{◌≡◌, ℕ, List, [], ◌∷◌, length, Option, Some, None, Result, Ok, Err}
+use Rattle.std.specs.Prelude.{◌≡◌, ℕ, List, [], ◌∷◌, length, Option, Some, None, Result, Ok, Err, ◌⊎◌}
+use Rattle.outside.specs.Counting.{Rose}
 use Rattle.disk.specs.Acts.{Act}
 use Rattle.disk.specs.Areas.{area_at}
 use Rattle.disk.specs.Disk.{contents}
@@ -43,6 +44,13 @@ CountsOpening old new (fault.Refused why) = new ≡ old
 abbrev pub OpenCounts : {T : Type 0} → Faults → Faults → Result T OpenFault → Type 0
 OpenCounts old new (Ok x) = new ≡ old
 OpenCounts old new (Err e) = CountsOpening old new e
+
+-- Want of memory is the device's, which counts it, or that of a growth; then the device wanted none, and this stands.
+abbrev pub OpenGrowsFirst : {T : Type 0} → Type 0 → ℕ → ℕ → Result T OpenFault → Type 0
+OpenGrowsFirst P old new (Ok x) = new ≡ old
+OpenGrowsFirst P old new (Err fault.Store) = new ≡ old
+OpenGrowsFirst P old new (Err fault.Memory) = Rose old new ⊎ ((new ≡ old) × P)
+OpenGrowsFirst P old new (Err (fault.Refused why)) = new ≡ old
 
 -- what the node knows after an opening, and the state that it goes on from
 abbrev pub store_in : {C : Type 0} → Opened C → StoreView

@@ -2,7 +2,7 @@ ghost use Rattle.std.specs.Prelude.{◌≡◌, ◌<◌, true, [], IfOk, IfSome, 
 ghost use Rattle.disk.specs.Areas.{area_at};
 ghost use Rattle.node_body.specs.Bodies.{VoteAmong};
 ghost use Rattle.node_device.specs.Telling.{StoppedIn};
-ghost use Rattle.node_state.specs.Calls.{StateCounts};
+ghost use Rattle.node_state.specs.Calls.{GrowsFirst, StateCounts};
 ghost use Rattle.node_state.specs.Fronts.{FoundByFront, IsByNeed};
 
 use crate::reading::PIECE;
@@ -31,6 +31,7 @@ pub fn find_in_area<D: Device, C: Commands, O: Commands>(
     ensures same { OnOk result (D.told device.new ≡ D.told device.old) }
     ensures stopped { OnErr result (StoppedIn (D.told device.old) (D.told device.new) []) }
     ensures causes { StateCounts (D.faults device.old) (D.faults device.new) result }
+    ensures wants { GrowsFirst (D.told device.new ≡ D.told device.old) (D.wants device.old) (D.wants device.new) result }
     ensures begun { D.begun device.new ≡ true }
 {
     let mut bytes = Vec::new(alloc);

@@ -9,8 +9,8 @@ ghost use Rattle.node_body.specs.Slots.{base_of};
 ghost use Rattle.node_body.specs.declared.bases.TheConstants.{MAX_RECORD_LEN};
 ghost use Rattle.node_body.specs.declared.version.Version.TheVariants.{One};
 ghost use Rattle.node_device.specs.Telling.{Did, StoppedIn, WhereTold};
-ghost use Rattle.node_state.specs.Answers.{Answers, FoundSo, IfRefused, OpenCounts, OpenedSo, RenewedFits, acts_told, kept_in, slot_acts_told, store_in};
-ghost use Rattle.node_state.specs.Calls.{IsNodeOf, StateCounts};
+ghost use Rattle.node_state.specs.Answers.{Answers, FoundSo, IfRefused, OpenCounts, OpenGrowsFirst, OpenedSo, RenewedFits, acts_told, kept_in, slot_acts_told, store_in};
+ghost use Rattle.node_state.specs.Calls.{GrowsFirst, IsNodeOf, StateCounts};
 ghost use Rattle.node_state.specs.Crashes.{LeavesFound, StoppedWith};
 ghost use Rattle.node_state.specs.Ends.{renewed_end};
 ghost use Rattle.slots.specs.Opening.{Not, Refused, named, opening};
@@ -96,6 +96,7 @@ fn open_fresh<D: Device, C: Commands>(
     ensures stopped { OnErr result (StoppedWith ((body C.stack C.format).Fits (body_of who.now first_kept))
         (D.told device.old) (D.told device.new) [] (fresh_acts (base_of C.stack C.format who.now first_kept))) }
     ensures causes { StateCounts (D.faults device.old) (D.faults device.new) result }
+    ensures wants { GrowsFirst (D.told device.new ≡ D.told device.old) (D.wants device.old) (D.wants device.new) result }
     ensures begun { D.begun device.new ≡ true }
 {
     let first = Kept::<C>::new(0, None, Entries::new(Vec::new(alloc)));
@@ -130,6 +131,7 @@ fn renew<D: Device, C: Commands>(
     ensures stopped { OnErr result (StoppedWith (version ≡ One → (body C.stack C.format).Fits (body_of who.now kept.now))
         (D.told device.old) (D.told device.new) [] (renewing_acts C.stack C.format who.now found.selector version kept.now)) }
     ensures causes { StateCounts (D.faults device.old) (D.faults device.new) result }
+    ensures wants { GrowsFirst (D.told device.new ≡ D.told device.old) (D.wants device.old) (D.wants device.new) result }
     ensures begun { D.begun device.new ≡ true }
 {
     match version {
@@ -163,6 +165,7 @@ fn hold<D: Device, C: Commands>(
     ensures stopped { OnErr result (StoppedWith (held.version ≡ One → (body C.stack C.format).Fits (body_of who.now held.journal.kept))
         (D.told device.old) (D.told device.new) [] (renewing_acts C.stack C.format who.now selector held.version held.journal.kept)) }
     ensures causes { StateCounts (D.faults device.old) (D.faults device.new) result }
+    ensures wants { GrowsFirst (D.told device.new ≡ D.told device.old) (D.wants device.old) (D.wants device.new) result }
     ensures begun { D.begun device.new ≡ true }
 {
     let version = held.version;
@@ -202,6 +205,7 @@ fn open_slot<D: Device, C: Commands, O: Commands>(
         × IfSome (D.told device.old) (λ told.
         found_by C.stack C.format O.stack O.format who.now (area_at told.disk (named selector)).bytes ≡ Not why))) }
     ensures causes { OpenCounts (D.faults device.old) (D.faults device.new) result }
+    ensures wants { OpenGrowsFirst (D.told device.new ≡ D.told device.old) (D.wants device.old) (D.wants device.new) result }
     ensures begun { D.begun device.new ≡ true }
 {
     let (len, found) = find_in_area::<D, C, O>(alloc, device, who, selector % 2)?;
@@ -232,6 +236,7 @@ fn open_areas<D: Device, C: Commands, O: Commands>(
         × IfSome (D.told device.old) (λ told.
         opening (found_by C.stack C.format O.stack O.format who.now) (contents told.disk) ≡ Refused why))) }
     ensures causes { OpenCounts (D.faults device.old) (D.faults device.new) result }
+    ensures wants { OpenGrowsFirst (Did (D.told device.old) (D.told device.new) sync_acts) (D.wants device.old) (D.wants device.new) result }
     ensures begun { D.begun device.new ≡ true }
 {
     sync_all(device)?;
@@ -284,6 +289,7 @@ pub fn open<D: Device, C: Commands, O: Commands>(
     ensures crash { WhereTold (D.told device.old) (D.told device.new) (LeavesFound C.stack C.format O.stack O.format who.now) }
 
     ensures causes { OpenCounts (D.faults device.old) (D.faults device.new) result }
+    ensures wants { OpenGrowsFirst (Did (D.told device.old) (D.told device.new) sync_acts) (D.wants device.old) (D.wants device.new) result }
     ensures begun { D.begun device.new ≡ true }
 {
     open_areas::<D, C, O>(alloc, device, who)

@@ -1,7 +1,7 @@
 ghost use Rattle.std.specs.Prelude.{◌≡◌, ◌<◌, ◌≤◌, true, [], take, vec_len, IfOk, OnOk, OnErr, IfSome};
 ghost use Rattle.disk.specs.Areas.{area_at};
 ghost use Rattle.node_device.specs.Telling.{StoppedIn};
-ghost use Rattle.node_state.specs.Calls.{StateCounts};
+ghost use Rattle.node_state.specs.Calls.{GrowsFirst, StateCounts};
 
 use crate::StateFault;
 use node_device::{AreaRead, Device};
@@ -26,6 +26,7 @@ pub fn read_on<D: Device>(
     ensures same { OnOk result (D.told device.new ≡ D.told device.old) }
     ensures stopped { OnErr result (StoppedIn (D.told device.old) (D.told device.new) []) }
     ensures causes { StateCounts (D.faults device.old) (D.faults device.new) result }
+    ensures wants { GrowsFirst (D.told device.new ≡ D.told device.old) (D.wants device.old) (D.wants device.new) result }
     ensures begun { D.begun device.new ≡ true }
 {
     let mut buf = [0; PIECE];
@@ -56,6 +57,7 @@ pub fn read_front<D: Device>(
     ensures same { OnOk result (D.told device.new ≡ D.told device.old) }
     ensures stopped { OnErr result (StoppedIn (D.told device.old) (D.told device.new) []) }
     ensures causes { StateCounts (D.faults device.old) (D.faults device.new) result }
+    ensures wants { GrowsFirst (D.told device.new ≡ D.told device.old) (D.wants device.old) (D.wants device.new) result }
     ensures begun { D.begun device.new ≡ true }
 {
     let mut bytes = Vec::new(alloc);

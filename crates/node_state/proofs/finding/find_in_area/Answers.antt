@@ -46,4 +46,5 @@ loop-bytes-preserved g c =
           bytes.items _ _ read c.deref-in-loop-bytes.ensures.value c.in_ok-found-2.ensures.found c.in_default.is;
       begun = search rules;
       counts = search rules;
+      wants = search rules;
     }

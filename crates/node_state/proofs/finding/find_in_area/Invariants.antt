@@ -16,6 +16,7 @@ invariant-loop-bytes g l =
           IsByNeed g.C.Commands.stack g.C.Wire.format g.O.Commands.stack g.O.Wire.format l.who (area_at told.disk l.area).bytes l.most);
       begun : k.begun l.device ≡ true;
       counts : k.faults l.device ≡ k.faults l.initial.device;
+      wants : k.wants l.device ≡ k.wants l.initial.device;
     }
 
 abbrev pub decreases-loop-bytes : goal.decreases-loop-bytes

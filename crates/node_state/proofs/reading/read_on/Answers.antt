@@ -16,4 +16,5 @@ loop-buf-preserved g c =
       most = grind (arith, common_steps);
       begun = search rules;
       counts = search rules;
+      wants = search rules;
     }

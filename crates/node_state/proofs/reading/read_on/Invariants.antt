@@ -11,6 +11,7 @@ invariant-loop-buf g l =
       most : vec_len l.bytes ≤ l.most;
       begun : k.begun l.device ≡ true;
       counts : k.faults l.device ≡ k.faults l.initial.device;
+      wants : k.wants l.device ≡ k.wants l.initial.device;
     }
 
 abbrev pub decreases-loop-buf : goal.decreases-loop-buf
