@@ -1,6 +1,6 @@
--- What rows of turns are proved by.
-use Rattle.std.proofs.Common.{◌≡◌, ℕ, suc, ◌≤◌, List, [], ◌∷◌, refl, arith, ◌⊎◌, inl, inr}
-use Rattle.disk.specs.Disk.{settled, NothingPending, after}
+-- What rows of ways to keep a state are proved by.
+use Rattle.std.proofs.Common.{◌≡◌, ℕ, List, [], ◌∷◌, refl}
+use Rattle.disk.specs.Disk.{settled, NothingPending}
 use Rattle.slots.specs.Opening.{Why, Opening, Fresh, Held, Refused}
 use Rattle.slots.specs.Saving.{save_acts}
 use Rattle.slots.specs.SavingLaws.{Rests}
@@ -17,11 +17,6 @@ abbrev pub state_of : Opening (List ℕ) → ℕ
 state_of Fresh = 0
 state_of (Held kept s) = first_of kept
 state_of (Refused why) = 0
-
-abbrev pub selector_of : Opening (List ℕ) → ℕ
-selector_of Fresh = 0
-selector_of (Held kept s) = s
-selector_of (Refused why) = 0
 
 pub not_none : {T : Type 0} (x : T) (xs : List T) → x ∷ xs ≡ [] → ⊥
 not_none x xs e = absurd (cc e)
@@ -41,18 +36,3 @@ rests = record { pending = calm (slot (1 ∷ [])) (slot (1 ∷ [])) (0 ∷ []); 
 
 pub first_save : Keeps counted_found (1 ∷ []) (2 ∷ []) 1 (save_acts 0 (slot (2 ∷ []))) at_rest
 first_save = save_is_such counted_found at_rest 0 (1 ∷ []) (2 ∷ []) (slot (2 ∷ [])) rests refl
-
-pub second_save : Keeps counted_found (2 ∷ []) (3 ∷ []) 2 (save_acts 1 (slot (3 ∷ []))) (after at_rest (save_acts 0 (slot (2 ∷ []))))
-second_save =
-    save_is_such counted_found (after at_rest (save_acts 0 (slot (2 ∷ [])))) 1 (2 ∷ []) (3 ∷ []) (slot (3 ∷ [])) first_save.done refl
-
--- where as many were saved as were heard
-pub all_saved : (c h v : ℕ) → (c ≡ h) ⊎ (suc c ≡ h) → v ≤ c → v ≡ h → c ≡ h
-all_saved c h v (inl e) l z = e
-all_saved c h v (inr e) l z = absurd (omega arith)
-
-pub no_more : (n : ℕ) → n ≤ n
-no_more n = omega arith
-
-pub one_less : (n : ℕ) → n ≤ suc n
-one_less n = omega arith

@@ -1,12 +1,10 @@
--- Slots that are easily computed, and turns, for examples.
+-- Slots that are easily computed, for examples.
 use Rattle.std.specs.Prelude.{ℕ, ◌%◌, ◌==◌, Bool, if◌then◌else◌, List, [], ◌∷◌, take, length}
 use Rattle.outside.specs.declared.device.Address.{Address}
-use Rattle.disk.specs.Acts.{Act, Took, Quiet, Sent, SendFailed, Wrote, Cut, Synced}
+use Rattle.disk.specs.Acts.{Act, Wrote, Cut, Synced}
 use Rattle.disk.specs.Disk.{Disk, Image, settled, may_leave}
 use Rattle.slots.specs.Opening.{Found, Is, Not, BadSlot, BadJournal, Opening, opening}
 use Rattle.slots.specs.Saving.{save_acts}
-use Rattle.slots.specs.Turns.{Turn, Idle, Event}
-use Rattle.slots.specs.TurnLaws.{Near}
 
 -- a slot is how many bytes its state has, these bytes, and nothing else
 abbrev pub counted_found : List ℕ → Found (List ℕ)
@@ -37,10 +35,6 @@ save_leaves n slot1 selector =
 abbrev pub at_rest : Disk
 at_rest = record { slot0 = settled (slot (1 ∷ [])); slot1 = settled (slot (1 ∷ [])); selector = settled (0 ∷ []) }
 
--- nothing on any area
-abbrev pub blank : Disk
-blank = record { slot0 = settled []; slot1 = settled []; selector = settled [] }
-
 -- a save whose selector is written before its slot is synced
 abbrev pub hasty_acts : List ℕ → List Act
 hasty_acts bytes = Wrote 1 0 bytes ∷ Cut 1 (length bytes) ∷ Wrote 2 0 (1 ∷ []) ∷ Synced 1 ∷ Synced 2 ∷ []
@@ -59,15 +53,3 @@ gated_found (kept ∷ rest) = journal kept rest
 -- a node of this computer
 abbrev pub node_at : ℕ → Address
 node_at port = record { ip = 127 ∷ 0 ∷ 0 ∷ 1 ∷ []; port = port }
-
--- a turn without an event, one with a datagram and its answer, and one whose answer is lost
-abbrev pub three_turns : List (Turn (List ℕ))
-three_turns =
-    Idle 5 (Quiet 300 ∷ [])
-    ∷ Event 305 (Took 100 (node_at 7001) (8 ∷ []) ∷ []) (save_acts 0 (slot (2 ∷ []))) (2 ∷ []) 1 (Sent (node_at 7001) (9 ∷ []) ∷ [])
-    ∷ Event 405 [] (save_acts 1 (slot (3 ∷ []))) (3 ∷ []) 2 (SendFailed (node_at 7002) (7 ∷ []) ∷ [])
-    ∷ []
-
--- that after so many of their acts, from the state 1 on, this image is as it is to be
-abbrev pub IsNear : ℕ → List ℕ → List ℕ → List ℕ → Type 0
-IsNear n slot0 slot1 selector = Near counted_found three_turns (1 ∷ []) n (image_of slot0 slot1 selector)
