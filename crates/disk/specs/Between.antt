@@ -1,5 +1,5 @@
 -- What a crash may leave where an area's length may be between two of those that it had, as file systems leave it that allocate late,
--- or that are full. The model's own test of an area stands beside this one, so laws have the test as a parameter.
+-- or that are full. The model's own test stands beside this one, and the laws take either.
 use Rattle.std.specs.Prelude.{ℕ, max, Bool, ◌&&◌, nat_le, List, [], ◌∷◌, length}
 use Rattle.disk.specs.Acts.{Act}
 use Rattle.disk.specs.Disk.{Area, Disk, Image, after, least, agrees}

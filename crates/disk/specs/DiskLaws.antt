@@ -2,7 +2,7 @@
 use Rattle.std.specs.Prelude.{◌≡◌, ◌↔◌, ℕ, suc, ◌<◌, ◌≤◌, true, false, List, [], ◌∷◌, length, take, slice_get, ◌⊎◌}
 use Rattle.disk.specs.Acts.{StoreCall, ReadAt, WriteAt, CutTo, Sync, Act, Wrote, Cut, Synced, StoreFailed}
 use Rattle.disk.specs.Areas.{area_at}
-use Rattle.disk.specs.Disk.{Area, Disk, Image, contents, NothingPending, failed, effect, after, is_pending, is_one_of, may_become, may_hold}
+use Rattle.disk.specs.Disk.{Area, Disk, Image, contents, NothingPending, failed, effect, after, is_pending, is_one_of, may_become, may_hold, may_leave}
 use Rattle.disk.specs.Between.{Crash, holds_by, leaves_by, may_become_between, may_hold_between}
 
 -- The areas as they read are always one of the images.
@@ -27,7 +27,7 @@ pub record Permits (area : Area) (image : List ℕ) : Type 0 where
 abbrev pub TestSays : Type 0
 TestSays = (area : Area) (image : List ℕ) → (may_become area image ≡ true) ↔ Permits area image
 
--- the same with any length that is not below each that the area has or had, nor above each
+-- the same where the length is no less than some that the area has or had, and no greater than some
 pub record PermitsBetween (area : Area) (image : List ℕ) : Type 0 where
   pub least : (n : ℕ) × (is_one_of n (length area.bytes ∷ area.lengths) ≡ true) × (n ≤ length image)
   pub greatest : (n : ℕ) × (is_one_of n (length area.bytes ∷ area.lengths) ≡ true) × (length image ≤ n)
@@ -36,8 +36,12 @@ pub record PermitsBetween (area : Area) (image : List ℕ) : Type 0 where
 abbrev pub TestBetweenSays : Type 0
 TestBetweenSays = (area : Area) (image : List ℕ) → (may_become_between area image ≡ true) ↔ PermitsBetween area image
 
--- All that the model permits, the test with lengths between permits too; and of an area what it permits besides has a length that the
--- area never had.
+-- By the model's own test of an area, what a crash may leave is as the model has it.
+abbrev pub ModelIsByItsTest : Type 0
+ModelIsByItsTest = (first : Disk) (acts : List Act) (image : Image) → leaves_by may_become first acts image ≡ may_leave first acts image
+
+-- All that the model permits, the test with lengths between permits too; and what it permits of an area besides has a length that the
+-- area did not have.
 abbrev pub BetweenIsMore : Type 0
 BetweenIsMore = (disk : Disk) (image : Image) → may_hold disk image ≡ true → may_hold_between disk image ≡ true
 

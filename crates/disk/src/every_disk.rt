@@ -1,6 +1,6 @@
 ghost use Rattle.disk.specs.Between.{may_become_between};
 ghost use Rattle.disk.specs.Disk.{may_become};
-ghost use Rattle.disk.specs.DiskLaws.{ActsOnlyAdd, BetweenIsMore, FailureMayDoNothing, FaultsAddNothing, FrontsAreCutShort, OnlyLengthsAreMore, OthersAreAsBefore, ReadsAreAnImage, SettledStays, SyncOnlyTakesAway, TestBetweenSays, TestSays};
+ghost use Rattle.disk.specs.DiskLaws.{ActsOnlyAdd, BetweenIsMore, FailureMayDoNothing, FaultsAddNothing, FrontsAreCutShort, ModelIsByItsTest, OnlyLengthsAreMore, OthersAreAsBefore, ReadsAreAnImage, SettledStays, SyncOnlyTakesAway, TestBetweenSays, TestSays};
 ghost use Rattle.disk.specs.Images.{WordsGiveImages};
 
 /// What holds of every disk, whatever its areas hold and whatever is pending on them.
@@ -16,6 +16,9 @@ pub fn laws()
 
     // The test in words: an image has one of the lengths that its area had, and the bytes that are not pending.
     ensures test { TestSays }
+
+    // By the test of an area, what a crash may leave is as the model has it.
+    ensures model { ModelIsByItsTest }
 
     // A byte that is not pending is as it was before the pending acts.
     ensures before { OthersAreAsBefore }
@@ -33,17 +36,17 @@ pub fn laws()
     ensures add { ActsOnlyAdd may_become }
 {}
 
-/// What holds where a crash may leave a length between too.
+/// What holds where a crash may also leave an area with a length between two of those that it had.
 pub fn laws_between()
-    // The test in words: an image is neither shorter nor longer than all lengths that its area had, and has the bytes that are not
-    // pending.
+    // The test in words: an image is no shorter than some length that its area had and no longer than some, and has the bytes that
+    // are not pending.
     ensures test { TestBetweenSays }
 
-    // It permits all that is permitted without, and of an area nothing besides that has a length that the area had.
+    // It permits all that the model permits, and what it permits of an area besides has a length that the area did not have.
     ensures more { BetweenIsMore }
     ensures lengths { OnlyLengthsAreMore }
 
-    // The same laws as without.
+    // The laws of the model hold by it too.
     ensures reads { ReadsAreAnImage may_become_between }
     ensures settled { SettledStays may_become_between }
     ensures sync { SyncOnlyTakesAway may_become_between }

@@ -3,6 +3,7 @@ use Rattle.std.specs.Prelude.{ℕ, ◌%◌, ◌==◌, Bool, if◌then◌else◌,
 use Rattle.outside.specs.declared.device.Address.{Address}
 use Rattle.disk.specs.Acts.{Act, Wrote, Cut, Synced}
 use Rattle.disk.specs.Disk.{Disk, Image, settled, may_leave}
+use Rattle.disk.specs.Between.{may_leave_between}
 use Rattle.slots.specs.Opening.{Found, Is, Not, BadSlot, BadJournal, Opening, opening}
 use Rattle.slots.specs.Saving.{save_acts}
 
@@ -20,11 +21,16 @@ image_of slot0 slot1 selector = record { slot0 = slot0; slot1 = slot1; selector 
 abbrev pub opened_as : List ℕ → List ℕ → List ℕ → Opening (List ℕ)
 opened_as slot0 slot1 selector = opening counted_found (image_of slot0 slot1 selector)
 
--- whether a crash after these acts may leave this image, where slot 0 held this at first, slot 1 the state 1, and the selector 0
+-- slot 0 holds this, slot 1 the state 1, and the selector is 0
+abbrev pub with_slot0 : List ℕ → Disk
+with_slot0 first = record { slot0 = settled first; slot1 = settled (slot (1 ∷ [])); selector = settled (0 ∷ []) }
+
+-- whether a crash after these acts may then leave this image, by the model and with lengths between
 abbrev pub leaves : List ℕ → List Act → List ℕ → List ℕ → List ℕ → Bool
-leaves first acts slot0 slot1 selector =
-    may_leave (record { slot0 = settled first; slot1 = settled (slot (1 ∷ [])); selector = settled (0 ∷ []) }) acts
-    (image_of slot0 slot1 selector)
+leaves first acts slot0 slot1 selector = may_leave (with_slot0 first) acts (image_of slot0 slot1 selector)
+
+abbrev pub leaves_between : List ℕ → List Act → List ℕ → List ℕ → List ℕ → Bool
+leaves_between first acts slot0 slot1 selector = may_leave_between (with_slot0 first) acts (image_of slot0 slot1 selector)
 
 -- whether a crash after so many acts of saving the state 2, 2 may leave these in slot 1 and in the selector, and slot 0 as it was
 abbrev pub save_leaves : ℕ → List ℕ → List ℕ → Bool
@@ -33,7 +39,7 @@ save_leaves n slot1 selector =
 
 -- at rest as the state 1, under the selector 0
 abbrev pub at_rest : Disk
-at_rest = record { slot0 = settled (slot (1 ∷ [])); slot1 = settled (slot (1 ∷ [])); selector = settled (0 ∷ []) }
+at_rest = with_slot0 (slot (1 ∷ []))
 
 -- a save whose selector is written before its slot is synced
 abbrev pub hasty_acts : List ℕ → List Act

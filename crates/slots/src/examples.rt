@@ -1,13 +1,14 @@
 ghost use Rattle.std.specs.Prelude.{◌≡◌, ℕ, true, false, [], ◌∷◌, ◌++◌, take, length};
 ghost use Rattle.disk.specs.Acts.{Wrote, Cut, Synced, Now, Quiet, Took, Sent, SendFailed};
-ghost use Rattle.disk.specs.Disk.{overwritten, after};
+ghost use Rattle.disk.specs.Between.{may_become_between};
+ghost use Rattle.disk.specs.Disk.{overwritten, after, may_become};
 ghost use Rattle.slots.specs.Opening.{Is, Not, BadSelector, BadSlot, BadJournal, Fresh, Held, Refused};
 ghost use Rattle.slots.specs.Saving.{next, save_acts, open_acts, move_acts};
 ghost use Rattle.slots.specs.SavingLaws.{Ready};
 ghost use Rattle.slots.specs.PatchLaws.{patch_acts, TornIsEither};
 ghost use Rattle.slots.specs.TurnLaws.{Keeps, IsFront};
 ghost use Rattle.slots.specs.Turns.{datagrams};
-ghost use Rattle.slots.specs.Examples.{counted_found, gated_found, slot, opened_as, leaves, save_leaves, at_rest, hasty_acts, node_at};
+ghost use Rattle.slots.specs.Examples.{counted_found, gated_found, slot, opened_as, leaves, leaves_between, save_leaves, at_rest, hasty_acts, node_at};
 
 /// What areas open as: the selector's parity names the slot, and the other slot may be anything.
 pub fn worked_openings()
@@ -52,7 +53,25 @@ pub fn worked_journals()
     ensures torn_record { leaves (1 ∷ 0 ∷ []) (take 1 (patch_acts 0 2 (2 ∷ 0 ∷ []))) (1 ∷ 0 ∷ 9 ∷ 9 ∷ []) (slot (1 ∷ [])) (0 ∷ []) ≡ true }
     ensures torn_gate { leaves (1 ∷ 0 ∷ 2 ∷ 0 ∷ []) (take 1 (patch_acts 0 1 (1 ∷ [])))
         (1 ∷ 77 ∷ 2 ∷ 0 ∷ []) (slot (1 ∷ [])) (0 ∷ []) ≡ true }
-    ensures any_gate { TornIsEither gated_found 1 2 (1 ∷ 0 ∷ 2 ∷ 0 ∷ []) 1 (1 ∷ []) }
+    ensures any_gate { TornIsEither may_become gated_found 1 2 (1 ∷ 0 ∷ 2 ∷ 0 ∷ []) 1 (1 ∷ []) }
+{}
+
+/// Lengths between: of a slot while it is written, which the selector does not name yet, and of a record while its gate is closed;
+/// none of a gate or a selector, which are written over a byte.
+pub fn worked_between()
+    ensures slot { leaves_between (slot (1 ∷ [])) (take 1 (save_acts 0 (slot (2 ∷ 2 ∷ 2 ∷ []))))
+        (slot (1 ∷ [])) (3 ∷ 9 ∷ 9 ∷ []) (0 ∷ []) ≡ true }
+    ensures slot_before { leaves (slot (1 ∷ [])) (take 1 (save_acts 0 (slot (2 ∷ 2 ∷ 2 ∷ []))))
+        (slot (1 ∷ [])) (3 ∷ 9 ∷ 9 ∷ []) (0 ∷ []) ≡ false }
+    ensures slot_not_named { opened_as (slot (1 ∷ [])) (3 ∷ 9 ∷ 9 ∷ []) (0 ∷ []) ≡ Held (1 ∷ []) 0 }
+    ensures slot_synced { leaves_between (slot (1 ∷ [])) (take 3 (save_acts 0 (slot (2 ∷ 2 ∷ 2 ∷ []))))
+        (slot (1 ∷ [])) (3 ∷ 9 ∷ 9 ∷ []) (0 ∷ []) ≡ false }
+    ensures selector { leaves_between (slot (1 ∷ [])) (take 4 (save_acts 0 (slot (2 ∷ [])))) (slot (1 ∷ [])) (slot (2 ∷ [])) [] ≡ false }
+    ensures record { leaves_between (1 ∷ 0 ∷ []) (take 1 (patch_acts 0 2 (2 ∷ 0 ∷ []))) (1 ∷ 0 ∷ 9 ∷ []) (slot (1 ∷ [])) (0 ∷ []) ≡ true }
+    ensures record_before { leaves (1 ∷ 0 ∷ []) (take 1 (patch_acts 0 2 (2 ∷ 0 ∷ []))) (1 ∷ 0 ∷ 9 ∷ []) (slot (1 ∷ [])) (0 ∷ []) ≡ false }
+    ensures record_does_not_count { gated_found (1 ∷ 0 ∷ 9 ∷ []) ≡ Is 1 }
+    ensures gate { leaves_between (1 ∷ 0 ∷ 2 ∷ 0 ∷ []) (take 1 (patch_acts 0 1 (1 ∷ []))) (1 ∷ 1 ∷ []) (slot (1 ∷ [])) (0 ∷ []) ≡ false }
+    ensures any_gate { TornIsEither may_become_between gated_found 1 2 (1 ∷ 0 ∷ 2 ∷ 0 ∷ []) 1 (1 ∷ []) }
 {}
 
 /// In another order a crash may leave what opens as neither the old state nor the new one: with a selector before its slot's sync,

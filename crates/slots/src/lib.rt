@@ -8,9 +8,9 @@ mod patch;
 mod saving;
 
 pub use examples::{
-    worked_acts, worked_datagrams, worked_journals, worked_openings, worked_saves, worked_starts,
-    worked_ways, worked_wrong_orders,
+    worked_acts, worked_between, worked_datagrams, worked_journals, worked_openings, worked_saves,
+    worked_starts, worked_ways, worked_wrong_orders,
 };
-pub use keeping::ways_to_keep;
-pub use patch::patches;
-pub use saving::laws;
+pub use keeping::{ways_to_keep, ways_to_keep_between};
+pub use patch::{patches, patches_between};
+pub use saving::{laws, laws_between};

@@ -1,3 +1,4 @@
+use Rattle.std.proofs.Common.{refl}
 use Rattle.disk.specs.Disk.{may_become}
 use Rattle.disk.proofs.Becoming.{test_says}
 use Rattle.disk.proofs.Between.{by_model}
@@ -13,6 +14,7 @@ returns c = record {
   settled = settled_stays may_become by_model;
   sync = sync_takes_away may_become by_model;
   test = test_says;
+  model = λ first acts image. refl;
   before = others_as_before;
   faults = faults_add_nothing_by may_become;
   fronts = fronts_are_cut_short;

@@ -1,11 +1,13 @@
-use Rattle.slots.proofs.Turning.{save_is_such, nothing_is_such, both_are_such}
+use Rattle.disk.specs.Disk.{may_become}
+use Rattle.disk.proofs.Between.{by_model}
+use Rattle.slots.proofs.Turning.{keeps_save, keeps_nothing, keeps_both}
 use Rattle.slots.proofs.Patching.{patch_is_such}
 use Rattle.slots.proofs.keeping.ways_to_keep.Goals as goal
 
 pub returns : goal.returns
 returns g c = record {
-  a_save = save_is_such;
-  a_patch = patch_is_such;
-  nothing = nothing_is_such;
-  both = both_are_such;
+  a_save = keeps_save may_become by_model;
+  a_patch = patch_is_such may_become by_model;
+  nothing = keeps_nothing may_become by_model;
+  both = keeps_both may_become by_model;
 }
