@@ -47,8 +47,8 @@ BetweenIsMore = (disk : Disk) (image : Image) → may_hold disk image ≡ true �
 
 abbrev pub OnlyLengthsAreMore : Type 0
 OnlyLengthsAreMore =
-    (area : Area) (image : List ℕ) → may_become_between area image ≡ true → is_one_of (length image) (length area.bytes ∷ area.lengths) ≡ true →
-    may_become area image ≡ true
+    (area : Area) (image : List ℕ) → may_become_between area image ≡ true →
+    is_one_of (length image) (length area.bytes ∷ area.lengths) ≡ true → may_become area image ≡ true
 
 abbrev pub IsNoSync : Act → Type 0
 IsNoSync (Synced area) = ⊥

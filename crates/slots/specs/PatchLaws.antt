@@ -16,7 +16,8 @@ TornIsEither crash found old new slot at bytes =
     (torn : List ℕ) → crash (written at bytes (settled slot)) torn ≡ true → (found torn ≡ Is old) ⊎ (found torn ≡ Is new)
 
 pub record Patched (crash : Crash) {K : Type 0} (found : List ℕ → Found K) (old new : K) (s : ℕ) (acts : List Act) (disk : Disk) : Type 0 where
-  pub each : (n : ℕ) (image : Image) → leaves_by crash disk (take n acts) image ≡ true → OpensAs found old image ⊎ OpensAs found new image
+  pub each : (n : ℕ) (image : Image) → leaves_by crash disk (take n acts) image ≡ true →
+      OpensAs found old image ⊎ OpensAs found new image
   pub done : Rests found new s (after disk acts)
 
 -- A patch that is harmless where it is torn leaves the old state or the new one at each moment.

@@ -16,7 +16,8 @@ pub record Saved (crash : Crash) {K : Type 0} (found : List ℕ → Found K) (ol
   -- while the other slot is written, cut and synced: as before
   pub slot : (n : ℕ) (image : Image) → n ≤ 3 → leaves_by crash disk (take n acts) image ≡ true → opening found image ≡ Held old s
   -- from then on, while the selector's byte may be torn: as either
-  pub flip : (n : ℕ) (image : Image) → leaves_by crash disk (take n acts) image ≡ true → OpensAs found old image ⊎ OpensAs found new image
+  pub flip : (n : ℕ) (image : Image) → leaves_by crash disk (take n acts) image ≡ true →
+      OpensAs found old image ⊎ OpensAs found new image
   -- the same where a fault cuts the save short
   pub short : (did : List Act) (image : Image) → IsCutShort acts did → leaves_by crash disk did image ≡ true →
       OpensAs found old image ⊎ OpensAs found new image

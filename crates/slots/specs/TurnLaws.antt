@@ -14,7 +14,8 @@ use Rattle.slots.specs.Turns.{OnAreas}
 -- Acts that make a state durable: at each moment of them the areas open as the old state or the new one, and in the end as the new
 -- one, at rest. The acts of a save are such, and so are those of a patch.
 pub record KeepsBy (crash : Crash) {K : Type 0} (found : List ℕ → Found K) (old new : K) (selector : ℕ) (acts : List Act) (disk : Disk) : Type 0 where
-  pub each : (n : ℕ) (image : Image) → leaves_by crash disk (take n acts) image ≡ true → OpensAs found old image ⊎ OpensAs found new image
+  pub each : (n : ℕ) (image : Image) → leaves_by crash disk (take n acts) image ≡ true →
+      OpensAs found old image ⊎ OpensAs found new image
   pub done : Rests found new selector (after disk acts)
   pub only : Every OnAreas acts
 
@@ -36,7 +37,8 @@ PatchIsSuch crash K =
 
 -- no act, where nothing is new
 abbrev pub NothingIsSuch : Crash → Type 0 → Type 0
-NothingIsSuch crash K = (found : List ℕ → Found K) (disk : Disk) (s : ℕ) (kept : K) → Rests found kept s disk → KeepsBy crash found kept kept s [] disk
+NothingIsSuch crash K =
+    (found : List ℕ → Found K) (disk : Disk) (s : ℕ) (kept : K) → Rests found kept s disk → KeepsBy crash found kept kept s [] disk
 
 -- acts that change nothing that counts, and then others: a record, and then its gate
 abbrev pub BothAreSuch : Crash → Type 0 → Type 0
