@@ -6,6 +6,7 @@ use Rattle.disk.specs.Areas.{area_at, changed}
 use Rattle.disk.specs.Disk.{Area, Disk, Image, contents, synced, after, is_pending, agrees, may_become, may_hold, may_leave}
 use Rattle.disk.specs.Images.{Trail, started, follow, followed, torn_from, torn, image_of_kind, image_by_word}
 use Rattle.disk.proofs.Becoming.{becomes_self}
+use Rattle.disk.proofs.Between.{by_model}
 use Rattle.disk.proofs.Disks.{holds_self}
 use Rattle.disk.proofs.Failing.{act_adds}
 
@@ -27,9 +28,9 @@ synced_holds (suc (suc n)) disk stood m =
 
 stands : (act : Act) (trail : Trail) → may_hold trail.disk trail.stood ≡ true → may_hold (follow act trail).disk (follow act trail).stood ≡ true
 stands (Synced area) trail m = synced_holds area trail.disk trail.stood m
-stands (Wrote area at bytes) trail m = act_adds (Wrote area at bytes) trail.disk trail.stood tt m
-stands (Cut area len) trail m = act_adds (Cut area len) trail.disk trail.stood tt m
-stands (StoreFailed call) trail m = act_adds (StoreFailed call) trail.disk trail.stood tt m
+stands (Wrote area at bytes) trail m = act_adds may_become by_model (Wrote area at bytes) trail.disk trail.stood tt m
+stands (Cut area len) trail m = act_adds may_become by_model (Cut area len) trail.disk trail.stood tt m
+stands (StoreFailed call) trail m = act_adds may_become by_model (StoreFailed call) trail.disk trail.stood tt m
 stands (Began at dir) trail m = m
 stands (BeginFailed at dir) trail m = m
 stands (Now ms) trail m = m
@@ -69,11 +70,11 @@ torn_holds byte disk = and_from _ _ (becomes_torn byte disk.slot0) (and_from _ _
 
 each_kind : (kind : ℕ) (trail : Trail) → may_hold trail.disk trail.stood ≡ true → may_hold trail.disk (image_of_kind kind trail) ≡ true
 each_kind zero trail m = m
-each_kind (suc zero) trail m = holds_self trail.disk
+each_kind (suc zero) trail m = holds_self may_become by_model trail.disk
 each_kind (suc (suc zero)) trail m = torn_holds 255 trail.disk
 each_kind (suc (suc (suc n))) trail m = torn_holds 0 trail.disk
 
 pub words_give_images : (first : Disk) (acts : List Act) (word : ℕ) → may_leave first acts (image_by_word first acts word) ≡ true
 words_give_images first acts word =
     subst (λ (d : Disk). may_hold d (image_by_word first acts word) ≡ true) (disk_followed (started first) acts)
-    (each_kind (word % 4) (followed (started first) acts) (stood_holds (started first) acts (holds_self first)))
+    (each_kind (word % 4) (followed (started first) acts) (stood_holds (started first) acts (holds_self may_become by_model first)))

@@ -1,5 +1,6 @@
 pub mod Becoming
 pub mod Untouched
+pub mod Between
 pub mod CutShort
 pub mod Disks
 pub mod Failing

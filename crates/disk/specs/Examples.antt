@@ -2,6 +2,7 @@
 use Rattle.std.specs.Prelude.{ℕ, Bool, List, []}
 use Rattle.disk.specs.Acts.{Act}
 use Rattle.disk.specs.Disk.{Area, Disk, settled, may_leave}
+use Rattle.disk.specs.Between.{may_leave_between}
 use Rattle.disk.specs.Images.{image_by_word}
 
 -- a disk with this slot 0, the other areas being empty
@@ -15,6 +16,11 @@ leaves_from area acts image = may_leave (on_slot area) acts (record { slot0 = im
 -- the same where it held these bytes at first, with nothing pending
 abbrev pub leaves : List ℕ → List Act → List ℕ → Bool
 leaves first acts image = leaves_from (settled first) acts image
+
+-- the same with lengths between
+abbrev pub leaves_between : List ℕ → List Act → List ℕ → Bool
+leaves_between first acts image =
+    may_leave_between (on_slot (settled first)) acts (record { slot0 = image; slot1 = []; selector = [] })
 
 -- the image of slot 0 by a word, after these acts
 abbrev pub worded : List ℕ → List Act → ℕ → List ℕ

@@ -2,7 +2,7 @@ ghost use Rattle.std.specs.Prelude.{◌≡◌, true, false, [], ◌∷◌};
 ghost use Rattle.disk.specs.Acts.{Wrote, Cut, Synced, StoreFailed, ReadAt, WriteAt, CutTo, Sync, Quiet};
 ghost use Rattle.disk.specs.Disk.{written, cut, settled};
 ghost use Rattle.disk.specs.DiskLaws.{IsCutShort};
-ghost use Rattle.disk.specs.Examples.{leaves, leaves_from, worded};
+ghost use Rattle.disk.specs.Examples.{leaves, leaves_between, leaves_from, worded};
 
 /// A write that is torn: any bytes in its range, the others as they were, the length as it was.
 pub fn worked_writes()
@@ -32,6 +32,25 @@ pub fn worked_cuts()
     ensures both_new { leaves (1 ∷ 2 ∷ 3 ∷ 4 ∷ []) (Cut 0 1 ∷ Wrote 0 1 (8 ∷ 9 ∷ []) ∷ []) (1 ∷ 5 ∷ 5 ∷ []) ≡ true }
     ensures both_old { leaves (1 ∷ 2 ∷ 3 ∷ 4 ∷ []) (Cut 0 1 ∷ Wrote 0 1 (8 ∷ 9 ∷ []) ∷ []) (1 ∷ 5 ∷ 5 ∷ 5 ∷ []) ≡ true }
     ensures both_none { leaves (1 ∷ 2 ∷ 3 ∷ 4 ∷ []) (Cut 0 1 ∷ Wrote 0 1 (8 ∷ 9 ∷ []) ∷ []) (1 ∷ 8 ∷ []) ≡ false }
+{}
+
+/// The test with lengths between: any from the least to the greatest of those before and after the acts, and no other; the bytes that
+/// are not pending as they were. After a sync, or where no act changes it, the length is what a read gives.
+pub fn worked_between()
+    ensures longer { leaves_between (1 ∷ []) (Wrote 0 3 (9 ∷ []) ∷ []) (1 ∷ 7 ∷ []) ≡ true }
+    ensures longer_before { leaves (1 ∷ []) (Wrote 0 3 (9 ∷ []) ∷ []) (1 ∷ 7 ∷ []) ≡ false }
+    ensures too_long { leaves_between (1 ∷ []) (Wrote 0 3 (9 ∷ []) ∷ []) (1 ∷ 0 ∷ 0 ∷ 9 ∷ 0 ∷ []) ≡ false }
+    ensures too_short { leaves_between (1 ∷ []) (Wrote 0 3 (9 ∷ []) ∷ []) [] ≡ false }
+    ensures front { leaves_between (1 ∷ []) (Wrote 0 3 (9 ∷ []) ∷ []) (2 ∷ 0 ∷ []) ≡ false }
+    ensures old { leaves_between (1 ∷ []) (Wrote 0 3 (9 ∷ []) ∷ []) (1 ∷ []) ≡ true }
+    ensures new { leaves_between (1 ∷ []) (Wrote 0 3 (9 ∷ []) ∷ []) (1 ∷ 0 ∷ 0 ∷ 9 ∷ []) ≡ true }
+    ensures cut { leaves_between (1 ∷ 2 ∷ 3 ∷ 4 ∷ []) (Cut 0 2 ∷ []) (1 ∷ 2 ∷ 8 ∷ []) ≡ true }
+    ensures cut_before { leaves (1 ∷ 2 ∷ 3 ∷ 4 ∷ []) (Cut 0 2 ∷ []) (1 ∷ 2 ∷ 8 ∷ []) ≡ false }
+    ensures cut_too_far { leaves_between (1 ∷ 2 ∷ 3 ∷ 4 ∷ []) (Cut 0 2 ∷ []) (1 ∷ []) ≡ false }
+    ensures cut_front { leaves_between (1 ∷ 2 ∷ 3 ∷ 4 ∷ []) (Cut 0 2 ∷ []) (1 ∷ 8 ∷ 3 ∷ []) ≡ false }
+    ensures across_acts { leaves_between (1 ∷ 2 ∷ 3 ∷ 4 ∷ []) (Cut 0 1 ∷ Wrote 0 1 (8 ∷ 9 ∷ []) ∷ []) (1 ∷ 8 ∷ []) ≡ true }
+    ensures same_length { leaves_between (1 ∷ 2 ∷ []) (Wrote 0 0 (9 ∷ []) ∷ []) (9 ∷ []) ≡ false }
+    ensures synced { leaves_between (1 ∷ []) (Wrote 0 3 (9 ∷ []) ∷ Synced 0 ∷ []) (1 ∷ 0 ∷ []) ≡ false }
 {}
 
 /// A write or cut that failed counts as done, and a sync that failed as none.

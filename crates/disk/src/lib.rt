@@ -5,8 +5,8 @@
 mod every_disk;
 mod examples;
 
-pub use every_disk::{laws, worded_images};
+pub use every_disk::{laws, laws_between, worded_images};
 pub use examples::{
-    worked_cuts, worked_faults, worked_gaps, worked_images, worked_pending, worked_short_acts,
-    worked_syncs, worked_writes,
+    worked_between, worked_cuts, worked_faults, worked_gaps, worked_images, worked_pending,
+    worked_short_acts, worked_syncs, worked_writes,
 };

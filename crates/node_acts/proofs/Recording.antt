@@ -4,14 +4,16 @@ use Rattle.std.proofs.lemmas.Bool.{le-leb}
 use Rattle.disk.specs.Acts.{Act}
 use Rattle.disk.specs.Areas.{area_at}
 use Rattle.disk.specs.Disk.{Disk, overwritten, after}
+use Rattle.disk.specs.Between.{Crash}
+use Rattle.disk.proofs.Between.{IsCrash}
 use Rattle.raft_types.specs.Keeping.{KeptView}
 use Rattle.slots.specs.Opening.{Is, named}
 use Rattle.slots.specs.SavingLaws.{Rests}
 use Rattle.slots.specs.PatchLaws.{patch_acts, TornIsEither}
-use Rattle.slots.specs.TurnLaws.{Keeps}
+use Rattle.slots.specs.TurnLaws.{KeepsBy}
 use Rattle.slots.proofs.Elsewhere.{after_append}
 use Rattle.slots.proofs.Patching.{record_is_harmless, gate_is_either, patch_is_such}
-use Rattle.slots.proofs.Turning.{both_are_such}
+use Rattle.slots.proofs.Turning.{keeps_both}
 use Rattle.vst_base.specs.declared.stack.StackId.{StackId}
 use Rattle.wire_fields.specs.Formats.{Format, IsFormat}
 use Rattle.wire_messages.specs.EntryBytes.{entry}
@@ -101,9 +103,9 @@ module _ {C D : Type 0} (s : StackId) (f : Format C) (t : StackId) (g : Format D
       ∙ (ap (λ xs. (front ++ stands.gate ∷ []) ++ xs) (over_all (record_bytes f store kept) stands.more)
       ∙ append_assoc front (stands.gate ∷ []) after_gate))
 
-  torn_record : TornIsEither (found_by s f t g store.who) held held bytes (suc store.gate) (record_bytes f store kept)
-  torn_record =
-      record_is_harmless (found_by s f t g store.who) held bytes (suc store.gate) (record_bytes f store kept) (suc (length front)) (omega (arith, place)) (omega (arith, size))
+  torn_record : (crash : Crash) → IsCrash crash → TornIsEither crash (found_by s f t g store.who) held held bytes (suc store.gate) (record_bytes f store kept)
+  torn_record crash is_crash =
+      record_is_harmless crash is_crash (found_by s f t g store.who) held bytes (suc store.gate) (record_bytes f store kept) (suc (length front)) (omega (arith, place)) (omega (arith, size))
       (λ other e. stays_held other (e ∙ (ap (λ xs. take (suc (length front)) xs) stands.bytes ∙ take_front front stands.gate stands.more)))
 
   abbrev first : List Act
@@ -115,9 +117,10 @@ module _ {C D : Type 0} (s : StackId) (f : Format C) (t : StackId) (g : Format D
   abbrev mid : Disk
   mid = after disk first
 
-  keeps_record : Keeps (found_by s f t g store.who) held held store.selector first disk
-  keeps_record =
-      patch_is_such (found_by s f t g store.who) disk store.selector held held (suc store.gate) (record_bytes f store kept) (holds_rests s f t g store held disk h) torn_record
+  keeps_record : (crash : Crash) → IsCrash crash → KeepsBy crash (found_by s f t g store.who) held held store.selector first disk
+  keeps_record crash is_crash =
+      patch_is_such crash is_crash (found_by s f t g store.who) disk store.selector held held (suc store.gate) (record_bytes f store kept) (holds_rests s f t g store held disk h)
+      (torn_record crash is_crash)
       (stays_held (overwritten bytes (suc store.gate) (record_bytes f store kept)) (ap (λ xs. take (suc (length front)) xs) recorded ∙ take_front front stands.gate after_gate))
 
   mid_rests : Rests as_bytes (front ++ stands.gate ∷ after_gate) store.selector mid
@@ -148,11 +151,11 @@ module _ {C D : Type 0} (s : StackId) (f : Format C) (t : StackId) (g : Format D
       by (inl e) = inl (ap (found_by s f t g store.who) same ∙ (ap found_of e ∙ ap Is h.kept_is))
       by (inr e) = inr (ap (found_by s f t g store.who) same ∙ (ap found_of e ∙ ap Is patched_is))
 
-  torn_gate : TornIsEither (found_by s f t g store.who) held kept (area_at mid (named store.selector)).bytes store.gate (1 ∷ [])
-  torn_gate =
-      subst (λ xs. TornIsEither (found_by s f t g store.who) held kept xs store.gate (1 ∷ [])) (sym mid_bytes)
-      (subst (λ n. TornIsEither (found_by s f t g store.who) held kept (front ++ stands.gate ∷ after_gate) n (1 ∷ [])) (sym place)
-      (gate_is_either (found_by s f t g store.who) held kept (front ++ stands.gate ∷ after_gate) (length front) 1 there
+  torn_gate : (crash : Crash) → IsCrash crash → TornIsEither crash (found_by s f t g store.who) held kept (area_at mid (named store.selector)).bytes store.gate (1 ∷ [])
+  torn_gate crash is_crash =
+      subst (λ xs. TornIsEither crash (found_by s f t g store.who) held kept xs store.gate (1 ∷ [])) (sym mid_bytes)
+      (subst (λ n. TornIsEither crash (found_by s f t g store.who) held kept (front ++ stands.gate ∷ after_gate) n (1 ∷ [])) (sym place)
+      (gate_is_either crash is_crash (found_by s f t g store.who) held kept (front ++ stands.gate ∷ after_gate) (length front) 1 there
       (λ v. subst (λ xs. (found_by s f t g store.who xs ≡ Is held) ⊎ (found_by s f t g store.who xs ≡ Is kept)) (sym (around v)) (at_gate v))))
     where
       there : length front < length (front ++ stands.gate ∷ after_gate)
@@ -176,13 +179,14 @@ module _ {C D : Type 0} (s : StackId) (f : Format C) (t : StackId) (g : Format D
   is_then : found_by s f t g store.who (front ++ 1 ∷ after_gate) ≡ Is kept
   is_then = ap (λ r. found_of (state_of r)) found_then ∙ ap Is patched_is
 
-  keeps_gate : Keeps (found_by s f t g store.who) held kept store.selector second mid
-  keeps_gate =
-      patch_is_such (found_by s f t g store.who) mid store.selector held kept store.gate (1 ∷ []) keeps_record.done torn_gate
+  keeps_gate : (crash : Crash) → IsCrash crash → KeepsBy crash (found_by s f t g store.who) held kept store.selector second mid
+  keeps_gate crash is_crash =
+      patch_is_such crash is_crash (found_by s f t g store.who) mid store.selector held kept store.gate (1 ∷ []) (keeps_record crash is_crash).done (torn_gate crash is_crash)
       (ap (λ xs. found_by s f t g store.who (overwritten xs store.gate (1 ∷ []))) mid_bytes ∙ (ap (found_by s f t g store.who) opened ∙ is_then))
 
-  pub keeps_append : Keeps (found_by s f t g store.who) held kept store.selector (append_acts (named store.selector) store.gate (record_bytes f store kept)) disk
-  keeps_append = both_are_such (found_by s f t g store.who) disk store.selector store.selector held kept first second keeps_record keeps_gate
+  pub keeps_append : (crash : Crash) → IsCrash crash → KeepsBy crash (found_by s f t g store.who) held kept store.selector (append_acts (named store.selector) store.gate (record_bytes f store kept)) disk
+  keeps_append crash is_crash =
+      keeps_both crash is_crash (found_by s f t g store.who) disk store.selector store.selector held kept first second (keeps_record crash is_crash) (keeps_gate crash is_crash)
 
   abbrev store_then : StoreView
   store_then = store_of store.who store.selector (store.gate + length (record_bytes f store kept)) (store.left - 1) kept

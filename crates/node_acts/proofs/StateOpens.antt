@@ -4,8 +4,11 @@ use Rattle.std.proofs.lemmas.Bool.{cases_lt}
 use Rattle.std.proofs.lemmas.List.{take_all}
 use Rattle.disk.specs.Acts.{Act}
 use Rattle.disk.specs.Areas.{area_at, each}
-use Rattle.disk.specs.Disk.{Disk, Image, contents, synced, after, may_leave}
+use Rattle.disk.specs.Disk.{Disk, Image, contents, synced, after, may_become, may_leave}
+use Rattle.disk.specs.Between.{Crash, leaves_by}
 use Rattle.disk.specs.DiskLaws.{IsCutShort}
+use Rattle.disk.proofs.Between.{IsCrash, by_model}
+use Rattle.disk.proofs.CutShort.{faults_add_nothing_by}
 use Rattle.disk.proofs.Disks.{settled_stays}
 use Rattle.raft_types.specs.Keeping.{KeptView}
 use Rattle.slots.specs.Opening.{Held, named, opening}
@@ -13,7 +16,6 @@ use Rattle.slots.specs.Saving.{sync_acts, fresh_acts, open_acts}
 use Rattle.slots.specs.SavingLaws.{Rests}
 use Rattle.slots.proofs.Images.{held_from, contents_at}
 use Rattle.slots.proofs.Opens.{calm, opens, moves}
-use Rattle.slots.proofs.Turning.{shorts}
 use Rattle.vst_base.specs.declared.stack.StackId.{StackId}
 use Rattle.wire_fields.specs.Formats.{Format, IsFormat}
 use Rattle.node_body.specs.Bodies.{body, body_of}
@@ -46,17 +48,26 @@ synced_front (suc (suc zero)) l = absurd (omega (arith, l))
 synced_front (suc (suc (suc zero))) l = refl
 synced_front (suc (suc (suc (suc n)))) l = refl
 
-pub syncs_leave : (disk : Disk) (did : List Act) (image : Image) → IsCutShort sync_acts did → may_leave disk did image ≡ true → take 3 did ≡ sync_acts → image ≡ contents disk
-syncs_leave disk did image short_of m third = by (cases_lt 3 (length did))
+-- after three acts of those that were cut short, three of them at least were done
+three_done : (n l : ℕ) → (n ≡ l) ⊎ (suc n ≡ l) → 3 < l → 3 ≤ n
+three_done n l (inl e) h = omega (arith, e, h)
+three_done n l (inr e) h = omega (arith, e, h)
+
+pub syncs_leave_by : (crash : Crash) → IsCrash crash → (disk : Disk) (did : List Act) (image : Image) → IsCutShort sync_acts did → leaves_by crash disk did image ≡ true →
+    take 3 did ≡ sync_acts → image ≡ contents disk
+syncs_leave_by crash is_crash disk did image short_of m third = by (cases_lt 3 (length did))
   where
     by : (3 < length did) ⊎ (length did ≤ 3) → image ≡ contents disk
     by (inl l) =
-        let w = shorts disk sync_acts did image short_of m in
-        let long : 3 ≤ w.n = elim (w.count) [ inl e ↦ omega (arith, e, l) | inr e ↦ omega (arith, e, l) ] in
-        settled_stays (each synced disk) image (calm disk) (subst (λ acts. may_leave disk acts image ≡ true) (synced_front w.n long) w.holds)
+        let w = faults_add_nothing_by crash disk sync_acts did image short_of m in
+        settled_stays crash is_crash (each synced disk) image (calm disk)
+        (subst (λ acts. leaves_by crash disk acts image ≡ true) (synced_front w.0 (three_done w.0 (length did) w.1 l)) w.2)
     by (inr l) =
         let all : did ≡ sync_acts = sym (take_all 3 did l) ∙ third in
-        settled_stays (each synced disk) image (calm disk) (subst (λ acts. may_leave disk acts image ≡ true) all m)
+        settled_stays crash is_crash (each synced disk) image (calm disk) (subst (λ acts. leaves_by crash disk acts image ≡ true) all m)
+
+pub syncs_leave : (disk : Disk) (did : List Act) (image : Image) → IsCutShort sync_acts did → may_leave disk did image ≡ true → take 3 did ≡ sync_acts → image ≡ contents disk
+syncs_leave = syncs_leave_by may_become by_model
 
 module _ {C D : Type 0} (s : StackId) (f : Format C) (t : StackId) (g : Format D) (is_f : IsFormat f) (short : (c : C) → f.Fits c → length (f.spell c) ≤ MAX_COMMAND) where
   abbrev first : KeptView C
@@ -67,7 +78,7 @@ module _ {C D : Type 0} (s : StackId) (f : Format C) (t : StackId) (g : Format D
       Holds s f t g (store_at_base s f who 0 first) first (after disk (opening_acts s f t g who (contents disk)))
   fresh_is_held who disk none fits =
       let base = base_of s f who first in
-      let done : Rests as_bytes base 0 (after disk (open_acts disk.selector.bytes base)) = (opens as_bytes disk base base (λ e. refl)).fresh_done none in
+      let done : Rests as_bytes base 0 (after disk (open_acts disk.selector.bytes base)) = (opens may_become by_model as_bytes disk base base (λ e. refl)).fresh_done none in
       let fresh : Rests as_bytes base 0 (after disk (sync_acts ++ fresh_acts base)) = subst (λ bytes. Rests as_bytes base 0 (after disk (open_acts bytes base))) none done in
       let same : sync_acts ++ fresh_acts base ≡ opening_acts s f t g who (contents disk) = ap (λ bytes. sync_acts ++ acts_by_selector s f t g who (contents disk) bytes) (sym none) in
       holds_slot s f t g (store_at_base s f who 0 first) first base (after disk (opening_acts s f t g who (contents disk)))
@@ -131,59 +142,63 @@ module _ {C D : Type 0} (s : StackId) (f : Format C) (t : StackId) (g : Format D
       held_from (found_by s f t g who) (contents disk) found.journal.kept selector is
       (ap (found_by s f t g who) (contents_at disk (named selector)) ∙ ap (λ r. found_of (state_of r)) e)
 
-  -- nothing is written
-  as_read : (who : Who) (disk : Disk) (n : ℕ) (image : Image) (selector : ℕ) (rest : List ℕ) → disk.selector.bytes ≡ selector ∷ rest → 3 ≤ n → may_leave disk (take n sync_acts) image ≡ true →
-      IsAsFound (found_by s f t g who) first disk image
-  as_read who disk n image selector rest is l m =
-      inl
-      ((opens as_bytes disk [] [] (λ e. refl)).found_stays (λ e. cc (sym is ∙ e)) n image l
-      (subst (λ bytes. may_leave disk (take n (open_acts bytes [])) image ≡ true) (sym is) m))
+  module _ (crash : Crash) (is_crash : IsCrash crash) where
+    -- nothing is written
+    as_read : (who : Who) (disk : Disk) (n : ℕ) (image : Image) (selector : ℕ) (rest : List ℕ) → disk.selector.bytes ≡ selector ∷ rest → 3 ≤ n → leaves_by crash disk (take n sync_acts) image ≡ true →
+        IsAsFound (found_by s f t g who) first disk image
+    as_read who disk n image selector rest is l m =
+        inl
+        ((opens crash is_crash as_bytes disk [] [] (λ e. refl)).found_stays (λ e. cc (sym is ∙ e)) n image l
+        (subst (λ bytes. leaves_by crash disk (take n (open_acts bytes [])) image ≡ true) (sym is) m))
 
-  moment_on_slot : (who : Who) (disk : Disk) (n : ℕ) (image : Image) (selector : ℕ) (found : slot.Held C) (v : Version) → found.version ≡ v → OpeningFits s f t g who disk →
-      disk.selector.bytes ≡ selector ∷ [] → slot_found s f t g who (area_at disk (named selector)).bytes ≡ Ok found → 3 ≤ n →
-      may_leave disk (take n (sync_acts ++ renewing_acts s f who selector v found.journal.kept)) image ≡ true → IsAsFound (found_by s f t g who) first disk image
-  moment_on_slot who disk n image selector found One version fits is e l m =
-      let opens_so = opens_found who disk selector found is e in
-      inr
-      (inl (
-        found.journal.kept,
-        selector,
-        opens_so,
-        (moves (found_by s f t g who) disk selector found.journal.kept (base_of s f who found.journal.kept) opens_so
-            (base_is s f t g is_f short who found.journal.kept (fits.renewed selector found is e version))).stays n image l m,
-      ))
-  moment_on_slot who disk n image selector found Two version fits is e l m = as_read who disk n image selector [] is l m
+    moment_on_slot : (who : Who) (disk : Disk) (n : ℕ) (image : Image) (selector : ℕ) (found : slot.Held C) (v : Version) → found.version ≡ v → OpeningFits s f t g who disk →
+        disk.selector.bytes ≡ selector ∷ [] → slot_found s f t g who (area_at disk (named selector)).bytes ≡ Ok found → 3 ≤ n →
+        leaves_by crash disk (take n (sync_acts ++ renewing_acts s f who selector v found.journal.kept)) image ≡ true → IsAsFound (found_by s f t g who) first disk image
+    moment_on_slot who disk n image selector found One version fits is e l m =
+        let opens_so = opens_found who disk selector found is e in
+        inr
+        (inl (
+          found.journal.kept,
+          selector,
+          opens_so,
+          (moves crash is_crash (found_by s f t g who) disk selector found.journal.kept (base_of s f who found.journal.kept) opens_so
+              (base_is s f t g is_f short who found.journal.kept (fits.renewed selector found is e version))).stays n image l m,
+        ))
+    moment_on_slot who disk n image selector found Two version fits is e l m = as_read who disk n image selector [] is l m
 
-  moment_by_slot : (who : Who) (disk : Disk) (n : ℕ) (image : Image) (selector : ℕ) (r : Result (slot.Held C) Why) → OpeningFits s f t g who disk →
-      disk.selector.bytes ≡ selector ∷ [] → slot_found s f t g who (area_at disk (named selector)).bytes ≡ r → 3 ≤ n →
-      may_leave disk (take n (sync_acts ++ acts_on_slot s f who selector r)) image ≡ true → IsAsFound (found_by s f t g who) first disk image
-  moment_by_slot who disk n image selector (Ok found) fits is e l m = moment_on_slot who disk n image selector found found.version refl fits is e l m
-  moment_by_slot who disk n image selector (Err why) fits is e l m = as_read who disk n image selector [] is l m
+    moment_by_slot : (who : Who) (disk : Disk) (n : ℕ) (image : Image) (selector : ℕ) (r : Result (slot.Held C) Why) → OpeningFits s f t g who disk →
+        disk.selector.bytes ≡ selector ∷ [] → slot_found s f t g who (area_at disk (named selector)).bytes ≡ r → 3 ≤ n →
+        leaves_by crash disk (take n (sync_acts ++ acts_on_slot s f who selector r)) image ≡ true → IsAsFound (found_by s f t g who) first disk image
+    moment_by_slot who disk n image selector (Ok found) fits is e l m = moment_on_slot who disk n image selector found found.version refl fits is e l m
+    moment_by_slot who disk n image selector (Err why) fits is e l m = as_read who disk n image selector [] is l m
 
-  moment : (who : Who) (disk : Disk) (n : ℕ) (image : Image) (bytes : List ℕ) → OpeningFits s f t g who disk → disk.selector.bytes ≡ bytes → 3 ≤ n →
-      may_leave disk (take n (sync_acts ++ acts_by_selector s f t g who (contents disk) bytes)) image ≡ true → IsAsFound (found_by s f t g who) first disk image
-  moment who disk n image [] fits is l m =
-      let base = base_of s f who first in
-      inr
-      (inr (
-        is,
-        (opens (found_by s f t g who) disk first base (λ e. base_is s f t g is_f short who first (fits.first e))).fresh is n image l
-            (subst (λ xs. may_leave disk (take n (open_acts xs base)) image ≡ true) (sym is) m),
-      ))
-  moment who disk n image (selector ∷ []) fits is l m =
-      moment_by_slot who disk n image selector (slot_found s f t g who (area_at disk (named selector)).bytes) fits is refl l
-      (subst (λ xs. may_leave disk (take n (sync_acts ++ acts_on_slot s f who selector (slot_found s f t g who xs))) image ≡ true) (contents_at disk (named selector)) m)
-  moment who disk n image (a ∷ b ∷ rest) fits is l m = as_read who disk n image a (b ∷ rest) is l m
+    moment : (who : Who) (disk : Disk) (n : ℕ) (image : Image) (bytes : List ℕ) → OpeningFits s f t g who disk → disk.selector.bytes ≡ bytes → 3 ≤ n →
+        leaves_by crash disk (take n (sync_acts ++ acts_by_selector s f t g who (contents disk) bytes)) image ≡ true → IsAsFound (found_by s f t g who) first disk image
+    moment who disk n image [] fits is l m =
+        let base = base_of s f who first in
+        inr
+        (inr (
+          is,
+          (opens crash is_crash (found_by s f t g who) disk first base (λ e. base_is s f t g is_f short who first (fits.first e))).fresh is n image l
+              (subst (λ xs. leaves_by crash disk (take n (open_acts xs base)) image ≡ true) (sym is) m),
+        ))
+    moment who disk n image (selector ∷ []) fits is l m =
+        moment_by_slot who disk n image selector (slot_found s f t g who (area_at disk (named selector)).bytes) fits is refl l
+        (subst (λ xs. leaves_by crash disk (take n (sync_acts ++ acts_on_slot s f who selector (slot_found s f t g who xs))) image ≡ true) (contents_at disk (named selector)) m)
+    moment who disk n image (a ∷ b ∷ rest) fits is l m = as_read who disk n image a (b ∷ rest) is l m
+
+    pub opening_leaves_by : (who : Who) (disk : Disk) (did : List Act) (image : Image) → IsCutShort (opening_acts s f t g who (contents disk)) did → OpeningFits s f t g who disk →
+        leaves_by crash disk did image ≡ true → take 3 did ≡ sync_acts → IsAsFound (found_by s f t g who) first disk image
+    opening_leaves_by who disk did image short_of fits m third = by (cases_lt 3 (length did))
+      where
+        by : (3 < length did) ⊎ (length did ≤ 3) → IsAsFound (found_by s f t g who) first disk image
+        by (inl l) =
+            let w = faults_add_nothing_by crash disk (opening_acts s f t g who (contents disk)) did image short_of m in
+            moment who disk w.0 image disk.selector.bytes fits refl (three_done w.0 (length did) w.1 l) w.2
+        by (inr l) =
+            let all : did ≡ sync_acts = sym (take_all 3 did l) ∙ third in
+            moment who disk 3 image disk.selector.bytes fits refl (omega arith) (subst (λ acts. leaves_by crash disk acts image ≡ true) all m)
 
   pub opening_leaves : (who : Who) (disk : Disk) (did : List Act) (image : Image) → IsCutShort (opening_acts s f t g who (contents disk)) did → OpeningFits s f t g who disk →
       may_leave disk did image ≡ true → take 3 did ≡ sync_acts → IsAsFound (found_by s f t g who) first disk image
-  opening_leaves who disk did image short_of fits m third = by (cases_lt 3 (length did))
-    where
-      by : (3 < length did) ⊎ (length did ≤ 3) → IsAsFound (found_by s f t g who) first disk image
-      by (inl l) =
-          let w = shorts disk (opening_acts s f t g who (contents disk)) did image short_of m in
-          let long : 3 ≤ w.n = elim (w.count) [ inl e ↦ omega (arith, e, l) | inr e ↦ omega (arith, e, l) ] in
-          moment who disk w.n image disk.selector.bytes fits refl long w.holds
-      by (inr l) =
-          let all : did ≡ sync_acts = sym (take_all 3 did l) ∙ third in
-          moment who disk 3 image disk.selector.bytes fits refl (omega arith) (subst (λ acts. may_leave disk acts image ≡ true) all m)
+  opening_leaves = opening_leaves_by may_become by_model

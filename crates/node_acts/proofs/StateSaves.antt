@@ -2,12 +2,14 @@
 use Rattle.std.proofs.Common.{◌≡◌, ◌≢◌, ℕ, zero, suc, ◌+◌, ◌-◌, ◌≤◌, Bool, true, false, nat_eq, List, [], ◌∷◌, length, refl, sym, ap, subst, ◌∙◌, inr, arith, if◌then◌else◌, eqb-true, length-append}
 use Rattle.std.proofs.lemmas.Bool.{eq-eqb, false≢true}
 use Rattle.disk.specs.Acts.{Act}
-use Rattle.disk.specs.Disk.{Disk, NothingPending, after}
+use Rattle.disk.specs.Disk.{Disk, NothingPending, after, may_become}
+use Rattle.disk.specs.Between.{Crash, may_become_between}
+use Rattle.disk.proofs.Between.{IsCrash, by_model, by_between}
 use Rattle.raft_types.specs.Keeping.{KeptView}
 use Rattle.slots.specs.Opening.{Is, named}
 use Rattle.slots.specs.Saving.{next, save_acts}
-use Rattle.slots.specs.TurnLaws.{Keeps}
-use Rattle.slots.proofs.Turning.{save_is_such, nothing_is_such}
+use Rattle.slots.specs.TurnLaws.{KeepsBy}
+use Rattle.slots.proofs.Turning.{keeps_save, keeps_nothing}
 use Rattle.vst_base.specs.declared.stack.StackId.{StackId}
 use Rattle.wire_fields.specs.Formats.{Format, IsFormat}
 use Rattle.node_body.specs.BaseLaws.{base_is_found}
@@ -60,7 +62,7 @@ module _ {C D : Type 0} (s : StackId) (f : Format C) (t : StackId) (g : Format D
       else store_of store.who store.selector (store.gate + length (record_bytes f store kept)) (store.left - 1) kept
 
   record SavedBy (store : StoreView) (held kept : KeptView C) (disk : Disk) (same full : Bool) : Type 0 where
-    pub keeps : Keeps (found_by s f t g store.who) held kept (store_if store kept same full).selector (acts_if store kept same full) disk
+    pub keeps : (crash : Crash) → IsCrash crash → KeepsBy crash (found_by s f t g store.who) held kept (store_if store kept same full).selector (acts_if store kept same full) disk
     pub holds : Holds s f t g (store_if store kept same full) kept (after disk (acts_if store kept same full))
 
   positive : (n : ℕ) → n ≢ 0 → (m : ℕ) × (n ≡ suc m)
@@ -75,14 +77,16 @@ module _ {C D : Type 0} (s : StackId) (f : Format C) (t : StackId) (g : Format D
   saved_by store held kept disk h continues has true full same none =
       let is : held ≡ kept = held_same store held kept h.knows continues same in
       record {
-        keeps = subst (λ k. Keeps (found_by s f t g store.who) held k store.selector [] disk) is
-            (nothing_is_such (found_by s f t g store.who) disk store.selector held (holds_rests s f t g store held disk h));
+        keeps = λ crash is_crash.
+            subst (λ k. KeepsBy crash (found_by s f t g store.who) held k store.selector [] disk) is
+            (keeps_nothing crash is_crash (found_by s f t g store.who) disk store.selector held (holds_rests s f t g store held disk h));
         holds = subst (λ k. Holds s f t g store k disk) is h;
       }
   saved_by store held kept disk h continues has false true same none =
       let fits = (has same).base (eqb-true store.left 0 none) in
       record {
-        keeps = save_is_such (found_by s f t g store.who) disk store.selector held kept (base_of s f store.who kept) (holds_rests s f t g store held disk h) (base_is store.who kept fits);
+        keeps = λ crash is_crash.
+            keeps_save crash is_crash (found_by s f t g store.who) disk store.selector held kept (base_of s f store.who kept) (holds_rests s f t g store held disk h) (base_is store.who kept fits);
         holds = holds_base store.who store.selector kept disk h.pending h.selector fits;
       }
   saved_by store held kept disk h continues has false false same none =
@@ -97,4 +101,4 @@ module _ {C D : Type 0} (s : StackId) (f : Format C) (t : StackId) (g : Format D
       (is_held store kept ≡ false → HasBytes s f store kept) → StateSaved s f t g store held kept disk
   save_keeps_state store held kept disk h continues has =
       let saved = saved_by store held kept disk h continues has (is_held store kept) (nat_eq store.left 0) refl refl in
-      record { keeps = saved.keeps; holds = saved.holds }
+      record { keeps = saved.keeps may_become by_model; between = saved.keeps may_become_between by_between; holds = saved.holds }

@@ -2,13 +2,14 @@
 use Rattle.std.specs.Prelude.{◌≡◌, ◌≢◌, ℕ, true, false, List, [], ◌∷◌, length, take, Ok, ◌⊎◌}
 use Rattle.disk.specs.Acts.{Act}
 use Rattle.disk.specs.Areas.{area_at}
-use Rattle.disk.specs.Disk.{Disk, Image, contents, after, may_leave}
+use Rattle.disk.specs.Disk.{Disk, Image, contents, after}
+use Rattle.disk.specs.Between.{Crash, leaves_by, may_become_between}
 use Rattle.disk.specs.DiskLaws.{IsCutShort}
 use Rattle.raft_types.specs.Keeping.{KeptView}
 use Rattle.slots.specs.Opening.{Found, Fresh, Held, named, opening, OpensAs}
 use Rattle.slots.specs.Saving.{sync_acts}
 use Rattle.slots.specs.SavingLaws.{Rests}
-use Rattle.slots.specs.TurnLaws.{Keeps}
+use Rattle.slots.specs.TurnLaws.{Keeps, KeepsBy}
 use Rattle.vst_base.specs.declared.stack.StackId.{StackId}
 use Rattle.wire_fields.specs.Formats.{Format}
 use Rattle.wire_messages.specs.EntryBytes.{entry}
@@ -32,9 +33,12 @@ pub record HasBytes {C : Type 0} (s : StackId) (f : Format C) (store : StoreView
   pub added : store.left ≢ 0 → (change store.who.nodes (entry f)).Fits (record_to store kept)
 
 -- After a save: at each moment of it the areas open as the state that was held or as the one that is saved, in the end as that one,
--- and the node knows how they are.
+-- and the node knows how they are. So it is where a crash may leave lengths between, too.
 pub record StateSaved {C D : Type 0} (s : StackId) (f : Format C) (t : StackId) (g : Format D) (store : StoreView) (held kept : KeptView C) (disk : Disk) : Type 0 where
   pub keeps : Keeps (found_by s f t g store.who) held kept (store_after s f store kept).selector (state_acts s f store kept) disk
+  pub between :
+      KeepsBy may_become_between (found_by s f t g store.who) held kept (store_after s f store kept).selector
+      (state_acts s f store kept) disk
   pub holds : Holds s f t g (store_after s f store kept) kept (after disk (state_acts s f store kept))
 
 abbrev pub SaveKeepsState : {C D : Type 0} → StackId → Format C → StackId → Format D → Type 0
@@ -71,13 +75,14 @@ pub record OpeningFits {C D : Type 0} (s : StackId) (f : Format C) (t : StackId)
       slot_found s f t g who (area_at disk (named selector)).bytes ≡ Ok found → found.version ≡ One → (body s f).Fits (body_of who found.journal.kept)
 
 -- After three syncs and no more a crash leaves what was read.
-abbrev pub SyncsLeave : Type 0
-SyncsLeave =
-    (disk : Disk) (did : List Act) (image : Image) → IsCutShort sync_acts did → may_leave disk did image ≡ true → take 3 did ≡ sync_acts →
-    image ≡ contents disk
+abbrev pub SyncsLeave : Crash → Type 0
+SyncsLeave crash =
+    (disk : Disk) (did : List Act) (image : Image) → IsCutShort sync_acts did → leaves_by crash disk did image ≡ true →
+    take 3 did ≡ sync_acts → image ≡ contents disk
 
 -- At each moment of an opening, also where a fault cuts it short: from the third sync on a crash leaves the state that was found.
-abbrev pub OpeningLeaves : {C D : Type 0} → StackId → Format C → StackId → Format D → Type 0
-OpeningLeaves {C} s f t g =
+abbrev pub OpeningLeaves : Crash → {C D : Type 0} → StackId → Format C → StackId → Format D → Type 0
+OpeningLeaves crash {C} s f t g =
     (who : Who) (disk : Disk) (did : List Act) (image : Image) → IsCutShort (opening_acts s f t g who (contents disk)) did →
-    OpeningFits s f t g who disk → may_leave disk did image ≡ true → take 3 did ≡ sync_acts → IsAsFound (found_by s f t g who) first_kept disk image
+    OpeningFits s f t g who disk → leaves_by crash disk did image ≡ true → take 3 did ≡ sync_acts →
+    IsAsFound (found_by s f t g who) first_kept disk image

@@ -6,4 +6,4 @@ mod examples;
 mod laws;
 
 pub use examples::{worked_openings, worked_saves, worked_terms};
-pub use laws::{openings_leave_what_they_find, saves_keep_states};
+pub use laws::{openings_leave_between, openings_leave_what_they_find, saves_keep_states};

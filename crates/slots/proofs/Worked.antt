@@ -1,12 +1,16 @@
--- What rows of turns are proved by.
-use Rattle.std.proofs.Common.{◌≡◌, ℕ, suc, ◌≤◌, List, [], ◌∷◌, refl, arith, ◌⊎◌, inl, inr}
-use Rattle.disk.specs.Disk.{settled, NothingPending, after}
-use Rattle.slots.specs.Opening.{Why, Opening, Fresh, Held, Refused}
+-- What rows are proved by.
+use Rattle.std.proofs.Common.{◌≡◌, ℕ, ◌%◌, Bool, true, false, List, [], ◌∷◌, refl, arith, ◌⊎◌, inl, inr, cond, eqb}
+use Rattle.disk.specs.Disk.{may_become, settled, NothingPending}
+use Rattle.disk.specs.Between.{Crash}
+use Rattle.disk.proofs.Between.{IsCrash, by_model}
+use Rattle.slots.specs.Opening.{Why, Is, Opening, Fresh, Held, Refused}
 use Rattle.slots.specs.Saving.{save_acts}
 use Rattle.slots.specs.SavingLaws.{Rests}
+use Rattle.slots.specs.PatchLaws.{TornIsEither}
 use Rattle.slots.specs.TurnLaws.{Keeps}
-use Rattle.slots.specs.Examples.{counted_found, slot, at_rest}
-use Rattle.slots.proofs.Turning.{save_is_such}
+use Rattle.slots.specs.Examples.{counted_found, gated_found, journal, slot, at_rest}
+use Rattle.slots.proofs.Patching.{gate_is_either}
+use Rattle.slots.proofs.Turning.{keeps_save}
 
 -- by what answers differ
 abbrev pub first_of : List ℕ → ℕ
@@ -17,11 +21,6 @@ abbrev pub state_of : Opening (List ℕ) → ℕ
 state_of Fresh = 0
 state_of (Held kept s) = first_of kept
 state_of (Refused why) = 0
-
-abbrev pub selector_of : Opening (List ℕ) → ℕ
-selector_of Fresh = 0
-selector_of (Held kept s) = s
-selector_of (Refused why) = 0
 
 pub not_none : {T : Type 0} (x : T) (xs : List T) → x ∷ xs ≡ [] → ⊥
 not_none x xs e = absurd (cc e)
@@ -40,19 +39,12 @@ pub rests : Rests counted_found (1 ∷ []) 0 at_rest
 rests = record { pending = calm (slot (1 ∷ [])) (slot (1 ∷ [])) (0 ∷ []); opens = refl }
 
 pub first_save : Keeps counted_found (1 ∷ []) (2 ∷ []) 1 (save_acts 0 (slot (2 ∷ []))) at_rest
-first_save = save_is_such counted_found at_rest 0 (1 ∷ []) (2 ∷ []) (slot (2 ∷ [])) rests refl
+first_save = keeps_save may_become by_model counted_found at_rest 0 (1 ∷ []) (2 ∷ []) (slot (2 ∷ [])) rests refl
 
-pub second_save : Keeps counted_found (2 ∷ []) (3 ∷ []) 2 (save_acts 1 (slot (3 ∷ []))) (after at_rest (save_acts 0 (slot (2 ∷ []))))
-second_save =
-    save_is_such counted_found (after at_rest (save_acts 0 (slot (2 ∷ [])))) 1 (2 ∷ []) (3 ∷ []) (slot (3 ∷ [])) first_save.done refl
+-- a gate that may be any byte leaves the state before the record or the one after it
+by_parity : (is_even : Bool) → (cond is_even (Is 1) (journal 2 (0 ∷ [])) ≡ Is 1) ⊎ (cond is_even (Is 1) (journal 2 (0 ∷ [])) ≡ Is 2)
+by_parity true = inl refl
+by_parity false = inr refl
 
--- where as many were saved as were heard
-pub all_saved : (c h v : ℕ) → (c ≡ h) ⊎ (suc c ≡ h) → v ≤ c → v ≡ h → c ≡ h
-all_saved c h v (inl e) l z = e
-all_saved c h v (inr e) l z = absurd (omega arith)
-
-pub no_more : (n : ℕ) → n ≤ n
-no_more n = omega arith
-
-pub one_less : (n : ℕ) → n ≤ suc n
-one_less n = omega arith
+pub any_gate_is_either : (crash : Crash) → IsCrash crash → TornIsEither crash gated_found 1 2 (1 ∷ 0 ∷ 2 ∷ 0 ∷ []) 1 (1 ∷ [])
+any_gate_is_either crash is_crash = gate_is_either crash is_crash gated_found 1 2 (1 ∷ 0 ∷ 2 ∷ 0 ∷ []) 1 1 (omega arith) (λ v. by_parity (eqb (v % 2) 0))

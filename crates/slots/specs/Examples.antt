@@ -1,12 +1,11 @@
--- Slots that are easily computed, and turns, for examples.
+-- Slots that are easily computed, for examples.
 use Rattle.std.specs.Prelude.{ℕ, ◌%◌, ◌==◌, Bool, if◌then◌else◌, List, [], ◌∷◌, take, length}
 use Rattle.outside.specs.declared.device.Address.{Address}
-use Rattle.disk.specs.Acts.{Act, Took, Quiet, Sent, SendFailed, Wrote, Cut, Synced}
+use Rattle.disk.specs.Acts.{Act, Wrote, Cut, Synced}
 use Rattle.disk.specs.Disk.{Disk, Image, settled, may_leave}
+use Rattle.disk.specs.Between.{may_leave_between}
 use Rattle.slots.specs.Opening.{Found, Is, Not, BadSlot, BadJournal, Opening, opening}
 use Rattle.slots.specs.Saving.{save_acts}
-use Rattle.slots.specs.Turns.{Turn, Idle, Event}
-use Rattle.slots.specs.TurnLaws.{Near}
 
 -- a slot is how many bytes its state has, these bytes, and nothing else
 abbrev pub counted_found : List ℕ → Found (List ℕ)
@@ -22,11 +21,16 @@ image_of slot0 slot1 selector = record { slot0 = slot0; slot1 = slot1; selector 
 abbrev pub opened_as : List ℕ → List ℕ → List ℕ → Opening (List ℕ)
 opened_as slot0 slot1 selector = opening counted_found (image_of slot0 slot1 selector)
 
--- whether a crash after these acts may leave this image, where slot 0 held this at first, slot 1 the state 1, and the selector 0
+-- slot 0 holds this, slot 1 the state 1, and the selector is 0
+abbrev pub with_slot0 : List ℕ → Disk
+with_slot0 first = record { slot0 = settled first; slot1 = settled (slot (1 ∷ [])); selector = settled (0 ∷ []) }
+
+-- whether a crash after these acts may then leave this image, by the model and with lengths between
 abbrev pub leaves : List ℕ → List Act → List ℕ → List ℕ → List ℕ → Bool
-leaves first acts slot0 slot1 selector =
-    may_leave (record { slot0 = settled first; slot1 = settled (slot (1 ∷ [])); selector = settled (0 ∷ []) }) acts
-    (image_of slot0 slot1 selector)
+leaves first acts slot0 slot1 selector = may_leave (with_slot0 first) acts (image_of slot0 slot1 selector)
+
+abbrev pub leaves_between : List ℕ → List Act → List ℕ → List ℕ → List ℕ → Bool
+leaves_between first acts slot0 slot1 selector = may_leave_between (with_slot0 first) acts (image_of slot0 slot1 selector)
 
 -- whether a crash after so many acts of saving the state 2, 2 may leave these in slot 1 and in the selector, and slot 0 as it was
 abbrev pub save_leaves : ℕ → List ℕ → List ℕ → Bool
@@ -35,11 +39,7 @@ save_leaves n slot1 selector =
 
 -- at rest as the state 1, under the selector 0
 abbrev pub at_rest : Disk
-at_rest = record { slot0 = settled (slot (1 ∷ [])); slot1 = settled (slot (1 ∷ [])); selector = settled (0 ∷ []) }
-
--- nothing on any area
-abbrev pub blank : Disk
-blank = record { slot0 = settled []; slot1 = settled []; selector = settled [] }
+at_rest = with_slot0 (slot (1 ∷ []))
 
 -- a save whose selector is written before its slot is synced
 abbrev pub hasty_acts : List ℕ → List Act
@@ -59,15 +59,3 @@ gated_found (kept ∷ rest) = journal kept rest
 -- a node of this computer
 abbrev pub node_at : ℕ → Address
 node_at port = record { ip = 127 ∷ 0 ∷ 0 ∷ 1 ∷ []; port = port }
-
--- a turn without an event, one with a datagram and its answer, and one whose answer is lost
-abbrev pub three_turns : List (Turn (List ℕ))
-three_turns =
-    Idle 5 (Quiet 300 ∷ [])
-    ∷ Event 305 (Took 100 (node_at 7001) (8 ∷ []) ∷ []) (save_acts 0 (slot (2 ∷ []))) (2 ∷ []) 1 (Sent (node_at 7001) (9 ∷ []) ∷ [])
-    ∷ Event 405 [] (save_acts 1 (slot (3 ∷ []))) (3 ∷ []) 2 (SendFailed (node_at 7002) (7 ∷ []) ∷ [])
-    ∷ []
-
--- that after so many of their acts, from the state 1 on, this image is as it is to be
-abbrev pub IsNear : ℕ → List ℕ → List ℕ → List ℕ → Type 0
-IsNear n slot0 slot1 selector = Near counted_found three_turns (1 ∷ []) n (image_of slot0 slot1 selector)

@@ -1,13 +1,14 @@
-ghost use Rattle.std.specs.Prelude.{◌≡◌, true, false, [], ◌∷◌, ◌++◌, take, length};
-ghost use Rattle.disk.specs.Acts.{Wrote, Cut, Synced, Now, Quiet, Took, Sent};
-ghost use Rattle.disk.specs.Disk.{overwritten, after};
+ghost use Rattle.std.specs.Prelude.{◌≡◌, ℕ, true, false, [], ◌∷◌, ◌++◌, take, length};
+ghost use Rattle.disk.specs.Acts.{Wrote, Cut, Synced, Now, Quiet, Took, Sent, SendFailed};
+ghost use Rattle.disk.specs.Between.{may_become_between};
+ghost use Rattle.disk.specs.Disk.{overwritten, after, may_become};
 ghost use Rattle.slots.specs.Opening.{Is, Not, BadSelector, BadSlot, BadJournal, Fresh, Held, Refused};
 ghost use Rattle.slots.specs.Saving.{next, save_acts, open_acts, move_acts};
 ghost use Rattle.slots.specs.SavingLaws.{Ready};
 ghost use Rattle.slots.specs.PatchLaws.{patch_acts, TornIsEither};
-ghost use Rattle.slots.specs.TurnLaws.{Keeps, AreTurns, IsFront, StartsAs};
-ghost use Rattle.slots.specs.Turns.{Idle, Event, record_of, heard_events, saved_events, events, kept_after, last_selector, datagrams, said_first};
-ghost use Rattle.slots.specs.Examples.{counted_found, gated_found, slot, opened_as, leaves, save_leaves, at_rest, blank, hasty_acts, node_at, three_turns, IsNear};
+ghost use Rattle.slots.specs.TurnLaws.{Keeps, IsFront};
+ghost use Rattle.slots.specs.Turns.{datagrams};
+ghost use Rattle.slots.specs.Examples.{counted_found, gated_found, slot, opened_as, leaves, leaves_between, save_leaves, at_rest, hasty_acts, node_at};
 
 /// What areas open as: the selector's parity names the slot, and the other slot may be anything.
 pub fn worked_openings()
@@ -52,7 +53,25 @@ pub fn worked_journals()
     ensures torn_record { leaves (1 ∷ 0 ∷ []) (take 1 (patch_acts 0 2 (2 ∷ 0 ∷ []))) (1 ∷ 0 ∷ 9 ∷ 9 ∷ []) (slot (1 ∷ [])) (0 ∷ []) ≡ true }
     ensures torn_gate { leaves (1 ∷ 0 ∷ 2 ∷ 0 ∷ []) (take 1 (patch_acts 0 1 (1 ∷ [])))
         (1 ∷ 77 ∷ 2 ∷ 0 ∷ []) (slot (1 ∷ [])) (0 ∷ []) ≡ true }
-    ensures any_gate { TornIsEither gated_found 1 2 (1 ∷ 0 ∷ 2 ∷ 0 ∷ []) 1 (1 ∷ []) }
+    ensures any_gate { TornIsEither may_become gated_found 1 2 (1 ∷ 0 ∷ 2 ∷ 0 ∷ []) 1 (1 ∷ []) }
+{}
+
+/// Lengths between: of a slot while it is written, which the selector does not name yet, and of a record while its gate is closed;
+/// none of a gate or a selector, which are written over a byte.
+pub fn worked_between()
+    ensures slot { leaves_between (slot (1 ∷ [])) (take 1 (save_acts 0 (slot (2 ∷ 2 ∷ 2 ∷ []))))
+        (slot (1 ∷ [])) (3 ∷ 9 ∷ 9 ∷ []) (0 ∷ []) ≡ true }
+    ensures slot_before { leaves (slot (1 ∷ [])) (take 1 (save_acts 0 (slot (2 ∷ 2 ∷ 2 ∷ []))))
+        (slot (1 ∷ [])) (3 ∷ 9 ∷ 9 ∷ []) (0 ∷ []) ≡ false }
+    ensures slot_not_named { opened_as (slot (1 ∷ [])) (3 ∷ 9 ∷ 9 ∷ []) (0 ∷ []) ≡ Held (1 ∷ []) 0 }
+    ensures slot_synced { leaves_between (slot (1 ∷ [])) (take 3 (save_acts 0 (slot (2 ∷ 2 ∷ 2 ∷ []))))
+        (slot (1 ∷ [])) (3 ∷ 9 ∷ 9 ∷ []) (0 ∷ []) ≡ false }
+    ensures selector { leaves_between (slot (1 ∷ [])) (take 4 (save_acts 0 (slot (2 ∷ [])))) (slot (1 ∷ [])) (slot (2 ∷ [])) [] ≡ false }
+    ensures record { leaves_between (1 ∷ 0 ∷ []) (take 1 (patch_acts 0 2 (2 ∷ 0 ∷ []))) (1 ∷ 0 ∷ 9 ∷ []) (slot (1 ∷ [])) (0 ∷ []) ≡ true }
+    ensures record_before { leaves (1 ∷ 0 ∷ []) (take 1 (patch_acts 0 2 (2 ∷ 0 ∷ []))) (1 ∷ 0 ∷ 9 ∷ []) (slot (1 ∷ [])) (0 ∷ []) ≡ false }
+    ensures record_does_not_count { gated_found (1 ∷ 0 ∷ 9 ∷ []) ≡ Is 1 }
+    ensures gate { leaves_between (1 ∷ 0 ∷ 2 ∷ 0 ∷ []) (take 1 (patch_acts 0 1 (1 ∷ []))) (1 ∷ 1 ∷ []) (slot (1 ∷ [])) (0 ∷ []) ≡ false }
+    ensures any_gate { TornIsEither may_become_between gated_found 1 2 (1 ∷ 0 ∷ 2 ∷ 0 ∷ []) 1 (1 ∷ []) }
 {}
 
 /// In another order a crash may leave what opens as neither the old state nor the new one: with a selector before its slot's sync,
@@ -68,42 +87,23 @@ pub fn worked_wrong_orders()
     ensures in_one_other { gated_found (1 ∷ 1 ∷ 9 ∷ 0 ∷ []) ≡ Is 9 }
 {}
 
-/// A turn without an event, one with a datagram and its answer, and one whose answer is lost.
-pub fn worked_turns()
-    ensures acts { take 5 (record_of three_turns) ≡
-        Now 5 ∷ Quiet 300 ∷ Now 305 ∷ Took 100 (node_at 7001) (8 ∷ []) ∷ Wrote 1 0 (1 ∷ 2 ∷ []) ∷ [] }
-    ensures all_acts { length (record_of three_turns) ≡ 17 }
-    ensures none_heard { heard_events three_turns 3 ≡ 0 }
-    ensures one_heard { heard_events three_turns 4 ≡ 1 }
-    ensures still_one { heard_events three_turns 10 ≡ 1 }
-    ensures two_heard { heard_events three_turns 11 ≡ 2 }
-    ensures none_saved { saved_events three_turns 8 ≡ 0 }
-    ensures one_saved { saved_events three_turns 9 ≡ 1 }
-    ensures still_one_saved { saved_events three_turns 15 ≡ 1 }
-    ensures two_saved { saved_events three_turns 16 ≡ 2 }
-    ensures two_events { events three_turns ≡ 2 }
-    ensures kept_at_first { kept_after three_turns (1 ∷ []) 0 ≡ 1 ∷ [] }
-    ensures kept_after_one { kept_after three_turns (1 ∷ []) 1 ≡ 2 ∷ [] }
-    ensures kept_in_the_end { kept_after three_turns (1 ∷ []) 2 ≡ 3 ∷ [] }
-    ensures selector { last_selector three_turns 0 ≡ 2 }
-    ensures said_at_first { said_first three_turns 0 ≡ [] }
-    ensures said_after_one { said_first three_turns 1 ≡ (node_at 7001, 9 ∷ []) ∷ [] }
-    ensures not_shipped_before { IsFront ((node_at 7001, 9 ∷ []) ∷ []) (said_first three_turns 0) → ⊥ }
-    ensures sent { datagrams (record_of three_turns) ≡ (node_at 7001, 9 ∷ []) ∷ (node_at 7002, 7 ∷ []) ∷ [] }
+/// The datagrams of acts, sent or lost; and fronts of a list.
+pub fn worked_datagrams()
+    ensures sent { datagrams (Synced 2 ∷ Sent (node_at 7001) (9 ∷ []) ∷ Now 5 ∷ []) ≡ (node_at 7001, 9 ∷ []) ∷ [] }
+    ensures lost { datagrams (SendFailed (node_at 7002) (7 ∷ []) ∷ Sent (node_at 7001) [] ∷ []) ≡
+        (node_at 7002, 7 ∷ []) ∷ (node_at 7001, []) ∷ [] }
+    ensures heard { datagrams (Took 100 (node_at 7001) (8 ∷ []) ∷ Quiet 300 ∷ []) ≡ [] }
+    ensures front { IsFront {T = ℕ} (1 ∷ []) (1 ∷ 2 ∷ []) }
+    ensures no_front { IsFront {T = ℕ} (2 ∷ []) (1 ∷ 2 ∷ []) → ⊥ }
+    ensures front_of_none { IsFront {T = ℕ} (1 ∷ []) [] → ⊥ }
 {}
 
-/// Disks that are ready for a save, and what they start as: with nothing pending, the state and the selector that are there, or the
-/// first state where there is none.
+/// Disks that are ready for a save: with nothing pending, and this selector.
 pub fn worked_starts()
     ensures ready { Ready 0 at_rest }
     ensures ready_again { Ready 0 (after at_rest (Wrote 1 0 (9 ∷ []) ∷ Synced 1 ∷ [])) }
     ensures ready_while_pending { Ready 0 (after at_rest (Wrote 1 0 (9 ∷ []) ∷ [])) → ⊥ }
     ensures ready_under_another { Ready 1 at_rest → ⊥ }
-    ensures held { StartsAs counted_found (7 ∷ []) (1 ∷ []) 0 at_rest }
-    ensures fresh { StartsAs counted_found (7 ∷ []) (7 ∷ []) 0 blank }
-    ensures held_as_the_first { StartsAs counted_found (7 ∷ []) (7 ∷ []) 0 at_rest → ⊥ }
-    ensures held_under_another { StartsAs counted_found (7 ∷ []) (1 ∷ []) 2 at_rest → ⊥ }
-    ensures fresh_as_another { StartsAs counted_found (7 ∷ []) (1 ∷ []) 0 blank → ⊥ }
 {}
 
 /// Acts that keep a state: a save, and none where nothing is new. Not such are none where there is a new state, a selector before its
@@ -115,30 +115,4 @@ pub fn worked_ways()
     ensures hasty { Keeps counted_found (1 ∷ []) (2 ∷ 2 ∷ []) 1 (hasty_acts (slot (2 ∷ 2 ∷ []))) at_rest → ⊥ }
     ensures not_synced { Keeps counted_found (1 ∷ []) (2 ∷ []) 1 (take 4 (save_acts 0 (slot (2 ∷ [])))) at_rest → ⊥ }
     ensures elsewhere { Keeps counted_found (1 ∷ []) (1 ∷ []) 0 (Now 5 ∷ []) at_rest → ⊥ }
-{}
-
-/// Turns as they should be, and such as are not: from another state on, with a datagram before the event, with a state that is not
-/// saved, with a write after the save.
-pub fn worked_runs()
-    ensures three { AreTurns counted_found three_turns (1 ∷ []) at_rest }
-    ensures from_another { AreTurns counted_found three_turns (5 ∷ []) at_rest → ⊥ }
-    ensures sent_too_soon { AreTurns counted_found (Idle 5 (Sent (node_at 7001) [] ∷ []) ∷ []) (1 ∷ []) at_rest → ⊥ }
-    ensures not_saved { AreTurns counted_found (Event 5 [] [] (2 ∷ []) 0 [] ∷ []) (1 ∷ []) at_rest → ⊥ }
-    ensures written_too_late { AreTurns counted_found (Event 5 [] [] (1 ∷ []) 0 (Wrote 1 0 (9 ∷ []) ∷ []) ∷ []) (1 ∷ []) at_rest → ⊥ }
-{}
-
-/// What a crash may leave at moments of three turns: the old state or the new one while it is saved; from then on, and so from the
-/// first datagram on, the new one alone.
-pub fn worked_moments()
-    ensures before { IsNear 3 (slot (1 ∷ [])) (slot (1 ∷ [])) (0 ∷ []) }
-    ensures before_new { IsNear 3 (slot (1 ∷ [])) (slot (2 ∷ [])) (1 ∷ []) → ⊥ }
-    ensures saving_old { IsNear 8 (slot (1 ∷ [])) (slot (2 ∷ [])) (0 ∷ []) }
-    ensures saving_new { IsNear 8 (slot (1 ∷ [])) (slot (2 ∷ [])) (1 ∷ []) }
-    ensures saving_torn { IsNear 8 (slot (1 ∷ [])) (9 ∷ 9 ∷ 9 ∷ []) (1 ∷ []) → ⊥ }
-    ensures saved { IsNear 9 (slot (1 ∷ [])) (slot (2 ∷ [])) (1 ∷ []) }
-    ensures saved_old { IsNear 9 (slot (1 ∷ [])) (slot (2 ∷ [])) (0 ∷ []) → ⊥ }
-    ensures sent { IsNear 10 (slot (1 ∷ [])) (slot (2 ∷ [])) (1 ∷ []) }
-    ensures sent_old { IsNear 10 (slot (1 ∷ [])) (slot (2 ∷ [])) (0 ∷ []) → ⊥ }
-    ensures in_the_end { IsNear 17 (slot (3 ∷ [])) (slot (2 ∷ [])) (2 ∷ []) }
-    ensures in_the_end_old { IsNear 17 (slot (3 ∷ [])) (slot (2 ∷ [])) (1 ∷ []) → ⊥ }
 {}
