@@ -1,0 +1,89 @@
+"""What the commands of the tools have in common: words that are numbers, and complaints of one line."""
+from __future__ import annotations
+
+import argparse
+import math
+import signal
+import sys
+from collections.abc import Callable
+from typing import NoReturn
+
+USAGE, INTERRUPTED = 2, 130
+MOST_SECONDS = 86_400.0
+
+
+class Parser(argparse.ArgumentParser):
+    """A parser whose complaint is one line."""
+
+    def __init__(self, prog: str, doc: str | None = None) -> None:
+        super().__init__(prog=prog, description=doc, formatter_class=argparse.RawDescriptionHelpFormatter, allow_abbrev=False)
+
+    def error(self, message: str) -> NoReturn:
+        """Says what is wrong with the words, and ends."""
+        self.exit(USAGE, f"{self.prog}: {message}; --help tells more\n")
+
+
+def seconds(text: str) -> float:
+    """A time of more than no seconds and of a day at most."""
+    value = number(text)
+    if not 0 < value <= MOST_SECONDS:
+        raise argparse.ArgumentTypeError(f"{text} is not above 0 and at most {MOST_SECONDS:g}")
+    return value
+
+
+def number(text: str) -> float:
+    """A finite number."""
+    try:
+        value = float(text)
+    except ValueError:
+        value = math.nan
+    if not math.isfinite(value):
+        raise argparse.ArgumentTypeError(f"{text} is no number")
+    return value
+
+
+def between(low: float, high: float) -> Callable[[str], float]:
+    """What reads a number from the one to the other."""
+
+    def read(text: str) -> float:
+        value = number(text)
+        if not low <= value <= high:
+            raise argparse.ArgumentTypeError(f"{text} is not in {low:g} to {high:g}")
+        return value
+
+    return read
+
+
+def whole(low: int, high: int) -> Callable[[str], int]:
+    """What reads a whole number from the one to the other."""
+
+    def read(text: str) -> int:
+        try:
+            value = int(text)
+        except ValueError:
+            raise argparse.ArgumentTypeError(f"{text} is no whole number") from None
+        if not low <= value <= high:
+            raise argparse.ArgumentTypeError(f"{text} is not in {low} to {high}")
+        return value
+
+    return read
+
+
+def said(wrong: Exception) -> str:
+    """What went wrong, without the number that the system gives it."""
+    if isinstance(wrong, OSError) and wrong.strerror:
+        what = wrong.strerror[0].lower() + wrong.strerror[1:]
+        return f"{wrong.filename}: {what}" if wrong.filename is not None else what
+    return str(wrong)
+
+
+def complain(prog: str, why: object, status: int) -> int:
+    """Says why on standard error, and answers the status."""
+    print(f"{prog}: {said(why) if isinstance(why, Exception) else why}", file=sys.stderr)
+    return status
+
+
+def end_like_interrupts() -> None:
+    """Lets the signals that ask a process to end come as a Ctrl-C does, so that what it started is ended too."""
+    for asked in (signal.SIGTERM, signal.SIGHUP):
+        signal.signal(asked, signal.default_int_handler)
