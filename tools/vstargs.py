@@ -5,11 +5,13 @@ import argparse
 import math
 import signal
 import sys
+import time
 from collections.abc import Callable
 from typing import NoReturn
 
 USAGE, INTERRUPTED = 2, 130
 MOST_SECONDS = 86_400.0
+SAME_SECONDS = 1.0
 
 
 class Parser(argparse.ArgumentParser):
@@ -83,7 +85,19 @@ def complain(prog: str, why: object, status: int) -> int:
     return status
 
 
-def end_like_interrupts() -> None:
-    """Lets the signals that ask a process to end come as a Ctrl-C does, so that what it started is ended too."""
-    for asked in (signal.SIGTERM, signal.SIGHUP):
-        signal.signal(asked, signal.default_int_handler)
+def take_interrupts() -> None:
+    """Lets the signals that ask a process to end come as a Ctrl-C does, so that what it started is ended too.
+
+    What comes again within a second, as `timeout` sends it, is the same one.
+    """
+    last = -math.inf
+
+    def interrupt(*_: object) -> None:
+        nonlocal last
+        again, last = time.monotonic() < last + SAME_SECONDS, time.monotonic()
+        if not again:
+            raise KeyboardInterrupt
+
+    for asked in (signal.SIGINT, signal.SIGTERM, signal.SIGHUP):
+        if signal.getsignal(asked) is not signal.SIG_IGN:
+            signal.signal(asked, interrupt)
