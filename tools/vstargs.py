@@ -9,6 +9,9 @@ import time
 from collections.abc import Callable
 from typing import NoReturn
 
+if sys.version_info < (3, 11):
+    sys.exit("the tools need Python 3.11 or a later one")
+
 USAGE, INTERRUPTED = 2, 130
 MOST_SECONDS = 86_400.0
 SAME_SECONDS = 1.0

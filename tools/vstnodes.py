@@ -180,9 +180,11 @@ class NodeProcess:
 
     def told(self) -> NodeStatus:
         """How it is now."""
+        now = time.monotonic()
         pid = self.process.pid if self.process is not None and self.state == RUNNING else None
-        again = max(self.again - time.monotonic(), 0.0) if self.again is not None else None
-        return NodeStatus(self.me, self.state, pid, self.serves, self.how, self.starts, self.backoff.short, again)
+        again = max(self.again - now, 0.0) if self.again is not None else None
+        short = self.backoff.short if now < self.begun + LONG_RUN_S else 0
+        return NodeStatus(self.me, self.state, pid, self.serves, self.how, self.starts, short, again)
 
 
 class Nodes:
