@@ -231,8 +231,8 @@ class Room:
         missing = self.missing(me)
         if missing is not None and self.ran(me).exists():
             raise ClusterError(
-                f"node {me} has run, and {missing}: put its files back, as without them it forgets what it has promised; "
-                f"`restart {me} --fresh` begins it anew all the same"
+                f"node {me} has run, and {missing}: without its files it forgets what it has promised; put them back, "
+                f"or begin it anew by `restart {me} --fresh`"
             )
 
     def begin_anew(self, me: int) -> None:
