@@ -176,13 +176,22 @@ class Room:
         try:
             return read_plan(file.read_text(encoding="ascii"))
         except (FileNotFoundError, NotADirectoryError) as missing:
-            raise ClusterError(f"no cluster in {self.path}: `cluster start` makes one") from missing
+            raise self.none() from missing
         except ValueError as wrong:
             raise ClusterError(f"{file} is damaged: {wrong}") from wrong
 
     def is_there(self) -> bool:
         """Whether there is a cluster in it still."""
         return (self.path / "cluster.json").exists()
+
+    def check(self) -> None:
+        """Refuses a directory without a cluster."""
+        if not self.is_there():
+            raise self.none()
+
+    def none(self) -> ClusterError:
+        """That there is no cluster."""
+        return ClusterError(f"no cluster in {self.path}: `cluster start` makes one")
 
     def configure(self, me: int, config: str) -> None:
         """Writes the configuration of a node."""
@@ -231,7 +240,7 @@ class Room:
         missing = self.missing(me)
         if missing is not None and self.ran(me).exists():
             raise ClusterError(
-                f"node {me} has run, and {missing}: without its files it forgets what it has promised; put them back, "
+                f"it has run, and {missing}: without its files it forgets what it has promised; put them back, "
                 f"or begin it anew by `restart {me} --fresh`"
             )
 

@@ -13,6 +13,7 @@ from dataclasses import dataclass
 from pathlib import Path
 
 import vstudp
+from vstargs import said
 from vstcluster import ClusterError, Plan, Room
 from vstwhy import why_ended
 
@@ -86,7 +87,7 @@ class NodeProcess:
     def start(self) -> None:
         """Starts it on what its state holds."""
         if self.state == RUNNING:
-            raise ClusterError(f"node {self.me} runs already")
+            raise ClusterError("it runs already")
         self.again = None
         self.room.check_state(self.me)
         words = [self.plan.program, "node", "--me", str(self.me), "--turns", str(self.plan.turns), "--state", f"node{self.me}"]
@@ -96,7 +97,7 @@ class NodeProcess:
                 # a group of its own, so that a Ctrl-C is not for it
                 self.process = subprocess.Popen(words, cwd=self.room.path, stdin=config, stdout=out, stderr=err, process_group=0)
             except OSError as wrong:
-                raise ClusterError(f"{self.plan.program} can't be started: {wrong.strerror}") from wrong
+                raise ClusterError(f"its program {self.plan.program} can't be run: {wrong.strerror}") from wrong
         self.state, self.serves, self.knocked, self.begun = RUNNING, False, False, time.monotonic()
         self.starts += 1
 
@@ -105,7 +106,7 @@ class NodeProcess:
         try:
             self.start()
         except (ClusterError, OSError) as wrong:
-            self.state, self.how = ENDED, f"not started: {wrong}"
+            self.state, self.how = ENDED, f"not started: {said(wrong)}"
 
     def send(self, by: signal.Signals) -> None:
         """Sends it a signal."""
@@ -234,7 +235,10 @@ class Nodes:
         node = self.node(number)
         if fresh and node.state != RUNNING:
             self.room.begin_anew(number)
-        node.start()
+        try:
+            node.start()
+        except ClusterError as wrong:
+            raise ClusterError(f"node {number} is not started: {wrong}") from wrong
         node.backoff = Backoff()
         self.note()
 

@@ -1,21 +1,16 @@
-"""The tools as commands."""
+"""The tools as commands that a user gives."""
 from __future__ import annotations
 
-import contextlib
-import io
 import signal
 import subprocess
 import time
-from unittest import mock
 
-import vstasker
-import vstcluster
-from support import FAKE, PATIENCE, TOOLS, InFolder, awaits, load, tool
+from support import FAKE, PATIENCE, TOOLS, InFolder, awaits, tool
 from vstcluster import Room
 
 
 class Commands(InFolder):
-    """The tools as commands."""
+    """`cluster` and `client`."""
 
     def setUp(self) -> None:
         super().setUp()
@@ -63,17 +58,3 @@ class Commands(InFolder):
             client.send_signal(signal.SIGINT)
             self.assertEqual(client.communicate(timeout=PATIENCE)[1], "client: interrupted; the request may still be carried out\n")
         self.assertEqual(client.returncode, 130)
-
-    def test_judge(self) -> None:
-        done = tool("judge", "--nodes", 2, "--clients", 2, "--seconds", 1.2, "--vst", FAKE, "--kills", 60)
-        self.assertEqual((done.returncode, done.stdout.splitlines()[-1]), (0, "verdict: permitted"), done.stderr)
-        self.assertIn("1 s: ", done.stderr)
-
-    def test_judge_that_is_told_nothing(self) -> None:
-        judge = load("judge")
-        words = judge.parser().parse_args(["--nodes", "1", "--clients", "1", "--seconds", "0.2"])
-        plan = vstcluster.make_plan("kv/raft", 1, 1, FAKE)
-        self.room.make(plan)
-        (self.room.path / "fake").write_text("mute", encoding="ascii")
-        with mock.patch.object(vstasker, "ASK_SECONDS", 0.3), contextlib.redirect_stdout(io.StringIO()), self.refused("no verdict"):
-            judge.judge(self.room, plan, words)

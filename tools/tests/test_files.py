@@ -41,7 +41,7 @@ class Directory(InFolder):
         selector.write_bytes(b"\0")
         self.room.check_state(1)
         selector.write_bytes(b"")
-        with self.refused("node 1 has run, and node1/selector is empty"):
+        with self.refused("it has run, and node1/selector is empty"):
             self.room.check_state(1)
         selector.unlink()
         with self.refused("node1/selector is missing"):

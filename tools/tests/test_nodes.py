@@ -65,7 +65,7 @@ class Processes(InFolder):
         nodes.poll()
         nodes.kill(0)
         shutil.rmtree(self.room.state(0))
-        with self.refused("its directory node0 is gone"):
+        with self.refused("node 0 is not started: it has run, and its directory node0 is gone"):
             nodes.restart(0)
         nodes.restart(0, fresh=True)
         nodes.settle(nodes.all)
@@ -90,7 +90,7 @@ class Processes(InFolder):
         text.write_text("no program", encoding="ascii")
         text.chmod(0o755)
         nodes = self.started(1, program=str(text))
-        self.assertRegex(nodes.told()[0].text(), "^node 0: not started: .*text can't be started: ")
+        self.assertRegex(nodes.told()[0].text(), "^node 0: not started: its program .*text can't be run: ")
 
     def test_faults_are_done_and_undone(self) -> None:
         nodes = self.started(3)
