@@ -149,6 +149,8 @@ def supervise(room: Room, words: list[str]) -> list[NodeStatus]:
     while time.monotonic() < limit:
         if process.poll() is not None:
             raise ClusterError(f"the supervisor ended with status {process.returncode}: see {room.path / 'supervisor.log'}")
+        if not room.is_there():
+            raise ClusterError(f"{room.path} was moved or removed while its nodes were starting")
         try:
             return ask(room, "status")
         except ClusterError:
