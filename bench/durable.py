@@ -20,6 +20,7 @@ from pathlib import Path
 sys.path.insert(0, str(Path(__file__).resolve().parent.parent / "tools"))
 
 import vstcluster  # noqa: E402
+import vstnodes  # noqa: E402
 from vstclient import Client, Slot  # noqa: E402
 from vstcluster import ClusterError, Plan, Room  # noqa: E402
 
@@ -86,7 +87,7 @@ def rows(program: Path, place: Path, nodes: int, seconds: float) -> list[str]:
             room = Room(Path(folder))
             room.make(plan)
             syncs = two_syncs(room.path)
-            with vstcluster.running(room, plan):
+            with vstnodes.running(room, plan):
                 elect(room, plan)
                 times, took = measure(room, plan, clients, seconds)
             syncs += two_syncs(room.path)

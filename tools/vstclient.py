@@ -1,16 +1,19 @@
 """A client of a cluster: it has a slot, finds the leader, and asks again until it is answered."""
 from __future__ import annotations
 
+import errno
 import fcntl
 import os
 import socket
 import time
 from dataclasses import dataclass
+from pathlib import Path
 from typing import Protocol
 
 import vstwire
-from vstcluster import ClusterError, Plan, Room, address_of
-from vstwire import Reply, Words
+from vstcluster import ClusterError, Plan, Room
+from vstudp import address_of
+from vstwire import MAX_NUMBER, Reply, Words
 
 PATIENCE_S = 0.3
 MAX_PATIENCE_S = 2.0
@@ -45,15 +48,16 @@ class Slot:
 
     def __init__(self, room: Room, plan: Plan, client: int, stride: int = 1) -> None:
         self.client, self.stride = client, stride
-        self.file = os.open(room.path / "clients" / f"slot{client}", os.O_RDWR | os.O_CREAT, 0o644)
+        path = room.slot(client)
+        self.file = os.open(path, os.O_RDWR)
         self.socket = socket.socket(socket.AF_INET, socket.SOCK_DGRAM)
         try:
             fcntl.flock(self.file, fcntl.LOCK_EX | fcntl.LOCK_NB)
             self.socket.bind(address_of(plan.clients[client]))
-        except OSError:
+            self.next = self.limit = read_number(path, os.pread(self.file, 64, 0))
+        except (OSError, ClusterError):
             self.close()
             raise
-        self.next = self.limit = int(os.pread(self.file, 32, 0) or b"1")
 
     def number(self) -> int:
         """A number over all that the slot has had."""
@@ -76,13 +80,24 @@ class Slot:
         self.close()
 
 
+def read_number(path: Path, data: bytes) -> int:
+    """The next number of a slot. A slot has one from the begin; with one that is too low its requests would be taken for old ones."""
+    text = data.strip()
+    if not text.isdigit() or not 1 <= int(text) <= MAX_NUMBER:
+        raise ClusterError(f"{path} is damaged: it does not hold the next number of client {path.name.removeprefix('slot')}")
+    return int(text)
+
+
 def free_slot(room: Room, plan: Plan) -> Slot:
     """A slot that nobody uses."""
+    if not plan.clients:
+        raise ClusterError(f"the cluster in {room.path} has no client slots: `cluster start --clients N` makes one that has")
     for client in range(len(plan.clients)):
         try:
             return Slot(room, plan, client)
-        except OSError:
-            continue
+        except OSError as wrong:
+            if wrong.errno not in (errno.EWOULDBLOCK, errno.EADDRINUSE):
+                raise
     raise ClusterError(f"no client slot is free: all {len(plan.clients)} are in use")
 
 
@@ -97,22 +112,23 @@ class Client:
         self.node = 0
         # how long it waits for a node at first: some times what the last answer took, since asking again puts load on a slow cluster
         self.patience = PATIENCE_S
+        # how many datagrams the last request took, or has taken so far
+        self.sends = 0
 
     def ask(self, words: Words, seconds: float) -> Answer:
         """Asks for a command until it is answered or the time is over. The nodes execute it once at most."""
         number = self.slot.number()
         begun = time.monotonic()
-        limit, patience, sends, refused = begun + seconds, self.patience, 0, 0
+        limit, patience, refused, self.sends = begun + seconds, self.patience, 0, 0
         if self.witness:
             self.witness.asks(self.node, self.slot.client, number, words)
         while (left := limit - time.monotonic()) > 0:
             self.send(number, words)
-            sends += 1
             reply = self.listen(number, min(patience, left))
             if reply is not None and reply.what != "notleader":
                 self.node = reply.node
                 self.patience = min(max(PATIENCE_S, PATIENT_TIMES * (time.monotonic() - begun)), MAX_PATIENCE_S)
-                return Answer(reply, sends)
+                return Answer(reply, self.sends)
             self.node = (self.node + 1) % len(self.peers)
             if reply is None:
                 patience = min(patience * 1.5, MAX_PATIENCE_S)
@@ -120,11 +136,12 @@ class Client:
             refused += 1
             if refused % len(self.peers) == 0:
                 time.sleep(min(ELECTION_PAUSE_S, left))
-        return Answer(None, sends)
+        return Answer(None, self.sends)
 
     def send(self, number: int, words: Words) -> None:
         """Sends a request to the node whose turn it is. A datagram that can't be sent is lost like any other."""
         data = vstwire.spell_request(self.plan.stack, self.name, self.slot.client, self.node, number, words)
+        self.sends += 1
         try:
             self.slot.socket.sendto(data, self.peers[self.node])
         except OSError:

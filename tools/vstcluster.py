@@ -1,4 +1,4 @@
-"""A cluster of nodes on this machine: its directory, its nodes as processes, and the supervisor that looks after them.
+"""What the nodes of a cluster on this machine share, and the cluster's directory.
 
 The directory of a cluster holds
 
@@ -6,6 +6,8 @@ The directory of a cluster holds
     nodeN.toml         the configuration of node N
     nodeN/             its state
     nodeN.out, .err    what it wrote
+    nodeN.lost-K       what was left of its state when it was begun anew
+    ran/nodeN          there once node N has kept a state
     clients/slotC      the number that the next request of client slot C takes; locked while the slot is in use
     supervisor.lock    locked while the supervisor runs
     supervisor.log     what it wrote, if anything
@@ -14,21 +16,17 @@ The directory of a cluster holds
 """
 from __future__ import annotations
 
-import fcntl
 import json
 import os
 import random
-import signal
-import socket
-import subprocess
-import sys
-import time
-from collections.abc import Iterator
-from contextlib import closing, contextmanager
-from dataclasses import asdict, dataclass
+import re
+from collections.abc import Sequence
+from dataclasses import asdict, dataclass, fields
+from itertools import count
 from pathlib import Path
 
 import vstwire
+from vstudp import is_free
 
 HOME = Path(__file__).resolve().parent.parent
 PROGRAM = HOME / "crates" / "vst" / "out" / "vst"
@@ -39,7 +37,9 @@ ELECTION_STEP_MS = 10
 MAX_TURNS = 1_000_000_000
 PORTS = range(20_000, 32_000)
 PORT_TRIES = 50
-ASK_SECONDS = 15.0
+
+ADDRESS = re.compile(r"(\d{1,3}\.){3}\d{1,3}:\d{1,5}")
+NAME = re.compile(r"[0-9a-f]{32}")
 
 
 class ClusterError(Exception):
@@ -67,13 +67,13 @@ class Plan:
     program: str
     turns: int = MAX_TURNS
 
-    def config(self, me: int, election: int | None = None) -> str:
-        """The configuration of a node, with its own election time unless another is given."""
-        lists = {key: ", ".join(f'"{address}"' for address in getattr(self, key)) for key in ("peers", "clients")}
+    def config(self, me: int, election: int | None = None, peers: Sequence[str] | None = None) -> str:
+        """The configuration of a node, with its own election time and the cluster's peers unless others are given."""
+        lists = [", ".join(f'"{address}"' for address in addresses) for addresses in (peers or self.peers, self.clients)]
         return (
             f'stack = "{self.stack}"\n'
-            f"peers = [{lists['peers']}]\n"
-            f"clients = [{lists['clients']}]\n"
+            f"peers = [{lists[0]}]\n"
+            f"clients = [{lists[1]}]\n"
             f"heartbeat_ms = {HEARTBEAT_MS}\n"
             f"election_ms = {election or election_ms(me)}\n"
             f'cluster = "{self.name}"\n'
@@ -84,20 +84,31 @@ class Plan:
         return bytes.fromhex(self.name)
 
 
-def address_of(text: str) -> tuple[str, int]:
-    """An address in the form that sockets take."""
-    host, port = text.rsplit(":", 1)
-    return host, int(port)
+def are_addresses(value: object, least: int, most: int) -> bool:
+    """Whether it is a list of so many addresses."""
+    return isinstance(value, list) and least <= len(value) <= most and all(isinstance(one, str) and ADDRESS.fullmatch(one) for one in value)
 
 
-def is_free(address: str) -> bool:
-    """Whether a UDP port can be bound now."""
-    with closing(socket.socket(socket.AF_INET, socket.SOCK_DGRAM)) as probe:
-        try:
-            probe.bind(address_of(address))
-        except OSError:
-            return False
-    return True
+def read_plan(text: str) -> Plan:
+    """The plan that a text of JSON holds; raises ValueError where it holds none."""
+    try:
+        held = json.loads(text)
+    except ValueError:
+        raise ValueError("it is no JSON") from None
+    if not isinstance(held, dict) or set(held) != {field.name for field in fields(Plan)}:
+        raise ValueError("it does not have the keys of a cluster")
+    fits = {
+        "stack": held["stack"] in vstwire.CLUSTER_STACKS,
+        "name": isinstance(held["name"], str) and NAME.fullmatch(held["name"]) is not None,
+        "peers": are_addresses(held["peers"], 1, vstwire.MAX_NODES),
+        "clients": are_addresses(held["clients"], 0, vstwire.MAX_CLIENTS),
+        "program": isinstance(held["program"], str),
+        "turns": type(held["turns"]) is int and 1 <= held["turns"] <= MAX_TURNS,
+    }
+    for key, fit in fits.items():
+        if not fit:
+            raise ValueError(f"it has a wrong value for {key}")
+    return Plan(**{key: tuple(value) if isinstance(value, list) else value for key, value in held.items()})
 
 
 def addresses(base: int, nodes: int, clients: int) -> tuple[tuple[str, ...], tuple[str, ...]]:
@@ -148,24 +159,47 @@ class Room:
         """Makes the directory of a new cluster. One that has a cluster already is left as it is."""
         if (self.path / "cluster.json").exists():
             raise ClusterError(f"{self.path} has a cluster already: `resume` starts its nodes again")
-        self.path.mkdir(parents=True, exist_ok=True)
-        (self.path / "clients").mkdir(exist_ok=True)
+        if self.path.exists() and not self.path.is_dir():
+            raise ClusterError(f"{self.path} is no directory")
+        for folder in ("clients", "ran"):
+            (self.path / folder).mkdir(parents=True, exist_ok=True)
+        for client in range(len(plan.clients)):
+            self.slot(client).write_text("1\n", encoding="ascii")
         for me in range(len(plan.peers)):
             self.state(me).mkdir()
-            (self.path / f"node{me}.toml").write_text(plan.config(me), encoding="ascii")
+            self.configure(me, plan.config(me))
         self.write("cluster.json", json.dumps(asdict(plan), indent=1) + "\n")
 
     def plan(self) -> Plan:
         """What its nodes share."""
+        file = self.path / "cluster.json"
         try:
-            fields = json.loads((self.path / "cluster.json").read_text(encoding="ascii"))
-        except FileNotFoundError as missing:
-            raise ClusterError(f"no cluster in {self.path}: `cluster start` makes one") from missing
-        return Plan(**{key: tuple(value) if isinstance(value, list) else value for key, value in fields.items()})
+            return read_plan(file.read_text(encoding="ascii"))
+        except (FileNotFoundError, NotADirectoryError) as missing:
+            raise self.none() from missing
+        except ValueError as wrong:
+            raise ClusterError(f"{file} is damaged: {wrong}") from wrong
 
-    def state(self, me: int) -> Path:
-        """The state of a node."""
-        return self.path / f"node{me}"
+    def is_there(self) -> bool:
+        """Whether there is a cluster in it still."""
+        return (self.path / "cluster.json").exists()
+
+    def check(self) -> None:
+        """Refuses a directory without a cluster."""
+        if not self.is_there():
+            raise self.none()
+
+    def none(self) -> ClusterError:
+        """That there is no cluster."""
+        return ClusterError(f"no cluster in {self.path}: `cluster start` makes one")
+
+    def configure(self, me: int, config: str) -> None:
+        """Writes the configuration of a node."""
+        (self.path / f"node{me}.toml").write_text(config, encoding="ascii")
+
+    def slot(self, client: int) -> Path:
+        """Where the next number of a client slot stands."""
+        return self.path / "clients" / f"slot{client}"
 
     def write(self, name: str, text: str) -> None:
         """Writes a file as a whole: a reader finds the old one or the new one."""
@@ -173,303 +207,49 @@ class Room:
         part.write_text(text, encoding="ascii")
         part.replace(self.path / name)
 
+    # The states of nodes. Who starts a node on nothing that once kept a term, a vote and a log lets it forget what it has promised.
 
-# Nodes as processes
+    def state(self, me: int) -> Path:
+        """The state of a node."""
+        return self.path / f"node{me}"
 
-RUNNING, KILLED, ENDED = "running", "killed", "ended"
-
-
-@dataclass(frozen=True)
-class NodeStatus:
-    """How a node is: running, killed, or ended with a status and its last line."""
-
-    node: int
-    state: str
-    pid: int | None
-    status: int | None
-    line: str
-    starts: int
-
-    def text(self) -> str:
-        """It in words."""
-        if self.state == RUNNING:
-            again = f", started {self.starts} times" if self.starts > 1 else ""
-            return f"node {self.node}: running, process {self.pid}{again}"
-        if self.state == KILLED:
-            return f"node {self.node}: killed"
-        how = f"status {self.status}" if self.status is None or self.status >= 0 else f"signal {-self.status}"
-        return f"node {self.node}: ended with {how}{': ' + self.line if self.line else ''}"
-
-
-class NodeProcess:
-    """A node of a cluster, which runs or not."""
-
-    def __init__(self, room: Room, plan: Plan, me: int) -> None:
-        self.room, self.plan, self.me = room, plan, me
-        self.process: subprocess.Popen[bytes] | None = None
-        self.state = ENDED
-        self.status: int | None = None
-        self.starts = 0
-
-    def start(self) -> None:
-        """Starts it on what its state holds."""
-        if self.state == RUNNING:
-            raise ClusterError(f"node {self.me} runs already")
-        state = str(self.room.state(self.me).resolve())
-        words = [self.plan.program, "node", "--me", str(self.me), "--turns", str(self.plan.turns), "--state", state]
-        base = self.room.path / f"node{self.me}"
-        with open(f"{base}.toml", "rb") as config, open(f"{base}.out", "wb") as out, open(f"{base}.err", "wb") as err:
-            self.process = subprocess.Popen(words, stdin=config, stdout=out, stderr=err)
-        self.state, self.status = RUNNING, None
-        self.starts += 1
-
-    def kill(self, by: signal.Signals = signal.SIGKILL) -> None:
-        """Ends it by a signal, and waits until it has ended."""
-        if self.state != RUNNING or self.process is None:
-            raise ClusterError(f"node {self.me} does not run")
-        self.process.send_signal(by)
+    def missing(self, me: int) -> str | None:
+        """What is missing of the state of a node, if it keeps none."""
+        selector = self.state(me) / "selector"
         try:
-            self.process.wait(timeout=3.0)
-        except subprocess.TimeoutExpired:
-            self.process.kill()
-            self.process.wait(timeout=3.0)
-        self.state, self.status = KILLED, self.process.returncode
-
-    def poll(self) -> None:
-        """Looks whether it has ended by itself. A node that has taken all its turns is started again, and another is left as it ended."""
-        if self.state != RUNNING or self.process is None or self.process.poll() is None:
-            return
-        self.state, self.status = ENDED, self.process.returncode
-        if self.status == 0:
-            self.start()
-
-    def line(self) -> str:
-        """The last line on its standard error."""
-        try:
-            lines = (self.room.path / f"node{self.me}.err").read_text(encoding="ascii", errors="replace").splitlines()
+            return None if selector.stat().st_size else f"node{me}/selector is empty"
         except FileNotFoundError:
-            return ""
-        return lines[-1] if lines else ""
-
-    def told(self) -> NodeStatus:
-        """How it is now."""
-        pid = self.process.pid if self.process is not None and self.state == RUNNING else None
-        return NodeStatus(self.me, self.state, pid, self.status, self.line(), self.starts)
-
-
-class Nodes:
-    """The nodes of a cluster, as children of this process."""
-
-    def __init__(self, room: Room, plan: Plan) -> None:
-        self.room = room
-        self.all = [NodeProcess(room, plan, me) for me in range(len(plan.peers))]
-
-    def start(self) -> None:
-        """Starts all."""
-        for node in self.all:
-            node.start()
-        self.note()
-
-    def poll(self) -> None:
-        """Starts those again that have taken all their turns."""
-        before = self.pids()
-        for node in self.all:
-            node.poll()
-        if self.pids() != before:
-            self.note()
-
-    def node(self, number: int) -> NodeProcess:
-        """One of them."""
-        if not 0 <= number < len(self.all):
-            raise ClusterError(f"no node {number}: there are {len(self.all)}, numbered from 0")
-        return self.all[number]
-
-    def kill(self, number: int) -> None:
-        """Kills one with signal 9."""
-        self.node(number).kill()
-        self.note()
-
-    def restart(self, number: int) -> None:
-        """Starts one that doesn't run."""
-        self.node(number).start()
-        self.note()
-
-    def stop(self) -> None:
-        """Ends all that run."""
-        for node in self.all:
-            if node.state == RUNNING:
-                node.kill(signal.SIGTERM)
-        self.note()
-
-    def pids(self) -> dict[str, int]:
-        """The processes of those that run."""
-        told = (node.told() for node in self.all)
-        return {str(status.node): status.pid for status in told if status.pid is not None}
-
-    def note(self) -> None:
-        """Writes down which processes run."""
-        self.room.write("pids.json", json.dumps(self.pids()) + "\n")
-
-    def told(self) -> list[NodeStatus]:
-        """How they are now."""
-        return [node.told() for node in self.all]
-
-
-@contextmanager
-def running(room: Room, plan: Plan) -> Iterator[Nodes]:
-    """A cluster of this process alone: its nodes are started, and at the end those that run are ended."""
-    nodes = Nodes(room, plan)
-    try:
-        nodes.start()
-        yield nodes
-    finally:
-        nodes.stop()
-
-
-def left_running(room: Room) -> dict[int, int]:
-    """Nodes that run without their supervisor, by number, with their processes."""
-    try:
-        noted = json.loads((room.path / "pids.json").read_text(encoding="ascii"))
-    except FileNotFoundError:
-        return {}
-    found = {}
-    for me, pid in noted.items():
-        try:
-            words = Path(f"/proc/{pid}/cmdline").read_bytes().split(b"\0")
+            return f"node{me}/selector is missing" if self.state(me).is_dir() else f"its directory node{me} is gone"
         except OSError:
-            continue
-        if os.fsencode(room.state(int(me)).resolve()) in words:
-            found[int(me)] = pid
-    return found
+            return None
 
+    def ran(self, me: int) -> Path:
+        """What is there once a node has kept a state. It stands outside of the node's directory, and so outlives it."""
+        return self.path / "ran" / f"node{me}"
 
-# The supervisor
+    def mark(self, me: int) -> None:
+        """Notes that a node has run, once it keeps a state."""
+        selector = self.state(me) / "selector"
+        if not self.ran(me).exists() and selector.is_file() and selector.stat().st_size:
+            self.ran(me).parent.mkdir(exist_ok=True)
+            self.ran(me).touch()
 
+    def check_state(self, me: int) -> None:
+        """Refuses a node that has run and whose state is lost."""
+        self.mark(me)
+        missing = self.missing(me)
+        if missing is not None and self.ran(me).exists():
+            raise ClusterError(
+                f"it has run, and {missing}: without its files it forgets what it has promised; put them back, "
+                f"or begin it anew by `restart {me} --fresh`"
+            )
 
-@contextmanager
-def near(room: Room) -> Iterator[str]:
-    """A short path of the control socket, as paths of sockets are short."""
-    folder = os.open(room.path, os.O_PATH | os.O_DIRECTORY)
-    try:
-        yield f"/proc/self/fd/{folder}/control"
-    finally:
-        os.close(folder)
-
-
-def ask(room: Room, do: str, node: int | None = None) -> list[NodeStatus]:
-    """Asks the supervisor of a cluster, and answers how its nodes are then."""
-    try:
-        with near(room) as path, closing(socket.socket(socket.AF_UNIX)) as line:
-            line.settimeout(ASK_SECONDS)
-            line.connect(path)
-            line.sendall(json.dumps({"do": do, "node": node}).encode("ascii") + b"\n")
-            answer = json.loads(line.makefile("rb").readline() or b"{}")
-    except (FileNotFoundError, ConnectionRefusedError) as gone:
-        left = left_running(room)
-        if left:
-            raise ClusterError(f"the supervisor of {room.path} is gone, and node {min(left)} still runs: `stop` ends it") from gone
-        raise ClusterError(f"the cluster in {room.path} is stopped: `resume` starts its nodes again") from gone
-    except (TimeoutError, ConnectionError) as slow:
-        raise ClusterError(f"the supervisor of {room.path} doesn't answer") from slow
-    if "nodes" not in answer:
-        raise ClusterError(answer.get("error", f"the supervisor of {room.path} ended"))
-    return [NodeStatus(**status) for status in answer["nodes"]]
-
-
-class Supervisor:
-    """Looks after the nodes of a cluster until it is told to stop."""
-
-    def __init__(self, room: Room) -> None:
-        self.room = room
-        self.nodes = Nodes(room, room.plan())
-        self.stopping = False
-
-    def do(self, words: dict[str, object]) -> None:
-        """Does what it is asked."""
-        what, node = words.get("do"), words.get("node")
-        number = node if isinstance(node, int) else -1
-        if what == "kill":
-            self.nodes.kill(number)
-        elif what == "restart":
-            self.nodes.restart(number)
-        elif what == "stop":
-            self.stopping = True
-            self.nodes.stop()
-        elif what != "status":
-            raise ClusterError(f"no such request: {what}")
-
-    def answer(self, line: socket.socket) -> None:
-        """Hears a request, does it, and answers."""
-        line.settimeout(2.0)
-        try:
-            self.do(json.loads(line.makefile("rb").readline() or b"{}"))
-            answer: dict[str, object] = {"nodes": [asdict(status) for status in self.nodes.told()]}
-        except (ClusterError, OSError, ValueError) as wrong:
-            answer = {"error": str(wrong)}
-        line.sendall(json.dumps(answer).encode("ascii") + b"\n")
-
-    def serve(self) -> None:
-        """Starts the nodes, answers requests, and starts those again that have taken all their turns."""
-        signal.signal(signal.SIGTERM, lambda *_: sys.exit(0))
-        with open(self.room.path / "supervisor.lock", "wb") as lock:
-            try:
-                fcntl.flock(lock, fcntl.LOCK_EX | fcntl.LOCK_NB)
-            except BlockingIOError as held:
-                raise ClusterError(f"{self.room.path} has a supervisor already") from held
-            control = self.room.path / "control"
-            control.unlink(missing_ok=True)
-            with near(self.room) as path, closing(socket.socket(socket.AF_UNIX)) as door:
-                door.bind(path)
-                door.listen()
-                door.settimeout(0.1)
-                try:
-                    self.nodes.start()
-                    self.turn(door)
-                finally:
-                    self.nodes.stop()
-                    control.unlink(missing_ok=True)
-
-    def turn(self, door: socket.socket) -> None:
-        """Answers one request after another."""
-        while not self.stopping:
-            self.nodes.poll()
-            try:
-                line, _ = door.accept()
-            except TimeoutError:
-                continue
-            with closing(line):
-                try:
-                    self.answer(line)
-                except OSError:
-                    continue
-
-
-def supervise(room: Room, words: list[str]) -> list[NodeStatus]:
-    """Starts the supervisor, a process of its own by these words, and answers how the nodes are once it runs."""
-    left = left_running(room)
-    if left:
-        raise ClusterError(f"node {min(left)} still runs, as process {left[min(left)]}: `stop` ends it")
-    with open(room.path / "supervisor.log", "ab") as log:
-        process = subprocess.Popen(words, stdin=subprocess.DEVNULL, stdout=log, stderr=log, start_new_session=True)
-    limit = time.monotonic() + ASK_SECONDS
-    while time.monotonic() < limit:
-        if process.poll() is not None:
-            raise ClusterError(f"the supervisor ended with status {process.returncode}: see {room.path / 'supervisor.log'}")
-        try:
-            return ask(room, "status")
-        except ClusterError:
-            time.sleep(0.05)
-    raise ClusterError(f"the supervisor doesn't answer: see {room.path / 'supervisor.log'}")
-
-
-def stop(room: Room) -> list[str]:
-    """Ends a cluster, also one whose supervisor is gone, and says what was ended."""
-    try:
-        return [status.text().replace("killed", "stopped") for status in ask(room, "stop")]
-    except ClusterError:
-        left = left_running(room)
-        if not left:
-            raise
-    for pid in left.values():
-        os.kill(pid, signal.SIGKILL)
-    return [f"node {me}: stopped, process {pid}, which ran without the supervisor" for me, pid in sorted(left.items())]
+    def begin_anew(self, me: int) -> None:
+        """Makes an empty directory for a node whose state is lost. What is left of the old one is kept beside it."""
+        if self.missing(me) is None:
+            raise ClusterError(f"node {me} has its files: only one that has lost them is begun anew")
+        state = self.state(me)
+        if state.exists():
+            state.rename(next(place for k in count(1) if not (place := self.path / f"node{me}.lost-{k}").exists()))
+        state.mkdir()
+        self.ran(me).unlink(missing_ok=True)
