@@ -2,7 +2,7 @@ ghost use Rattle.std.specs.Prelude.{◌≡◌, true, IfOk};
 ghost use Rattle.node_device_mem.specs.MemoryDevices.{memory_begun};
 
 use crate::devices::{HERE, areas, begun};
-use node_device::{AreaRead, Device, Received, Shipped, Stored};
+use node_device::{AreaRead, Device, RECEIVE_BUFFER, Received, Shipped, Stored};
 use node_device_mem::{Arrival, Counts, MemoryDevice, MemoryDisk, SteadyDevice};
 use outside::{Address, Begun};
 use std::alloc::{AllocError, Global};
@@ -42,14 +42,14 @@ fn read_four<D: Device>(device: &mut D) -> (AreaRead, [u8; 4])
     (read, room)
 }
 
-// What a receive with room for four bytes comes to, and the room after it.
+// What a receive comes to, and the first four bytes of the room after it, which was filled with bars.
 fn receive_four<D: Device>(device: &mut D) -> (Received, [u8; 4])
     requires { D.begun device.old ≡ true }
     ensures { D.begun device.new ≡ true }
 {
-    let mut room = [b'|'; 4];
+    let mut room = [b'|'; RECEIVE_BUFFER];
     let received = device.receive(50, &mut room);
-    (received, room)
+    (received, [room[0], room[1], room[2], room[3]])
 }
 
 // What two sends of a byte come to.
@@ -158,7 +158,7 @@ fn datagram(len: usize) -> Received {
 #[test]
 fn datagrams_come_by_the_script(rt: HostRuntime) -> Result<(), Fail> {
     let mut device = scripted(rt.alloc())?;
-    assert!(rt; receive_four(&mut device) == (datagram(4), *b"hell"));
+    assert!(rt; receive_four(&mut device) == (datagram(5), *b"hell"));
     assert!(rt; receive_four(&mut device) == (Received::Quiet, *b"||||"));
     assert!(rt; receive_four(&mut device) == (datagram(1), *b"a|||"));
     assert!(rt; receive_four(&mut device) == (Received::Quiet, *b"||||"));

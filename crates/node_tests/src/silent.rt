@@ -16,6 +16,8 @@ impl<D: Device> Device for Silent<D> {
 
     ghost faults = { λ s. D.faults s.device };
 
+    ghost wants = { λ s. D.wants s.device };
+
     fn begin(&mut self, at: Address, dir: &str) -> Begun {
         self.device.begin(at, dir)
     }
