@@ -1,5 +1,7 @@
 pub mod ActKinds
 pub mod Folds
+pub mod Ended
 pub mod Growing
 pub mod Turning
 pub mod Leaving
+pub mod Waiting

@@ -1,5 +1,5 @@
 -- What a crash leaves at each moment of a turn, whole or cut short, and of turns one after the other.
-use Rattle.std.specs.Prelude.{◌≡◌, ℕ, true, List, [], ◌∷◌, ◌++◌, take, ◌⊎◌}
+use Rattle.std.specs.Prelude.{◌≡◌, ℕ, true, List, [], ◌∷◌, ◌++◌, length, take, ◌⊎◌}
 use Rattle.disk.specs.Acts.{Act}
 use Rattle.disk.specs.Disk.{Disk, Image, after, may_leave}
 use Rattle.disk.specs.DiskLaws.{Every, IsCutShort}
@@ -10,10 +10,10 @@ use Rattle.slots.specs.Turns.{Says, datagrams}
 use Rattle.slots.specs.TurnLaws.{Keeps, IsFront}
 use Rattle.vst_base.specs.Machines.{MachineMeaning}
 use Rattle.wire_fields.specs.Formats.{Format}
-use Rattle.node_run.specs.Runs.{Done, NodeView, Stage, Between, done_in, said_in, stage_after}
+use Rattle.node_run.specs.Runs.{Done, NodeView, Stage, Between, Waiting, done_in, said_in, stage_after}
 use Rattle.node_run.specs.Settings.{Settings}
 use Rattle.node_records.specs.Records.{Stores, HearsAs, kept_by}
-use Rattle.node_records.specs.Moments.{Leaves}
+use Rattle.node_records.specs.Moments.{IsAt, Leaves}
 
 -- at each moment of these acts the areas open as the old state or the new one
 abbrev pub OpensAsEither : {K : Type 0} → (List ℕ → Found K) → K → K → Disk → List Act → Type 0
@@ -64,3 +64,10 @@ EventTurnsLeave {C} {O} S f g =
     Every Stores saves → Every Says said → IsFront (datagrams said) d.said → OpensAsEither found kept d.kept disk saves →
     (said ≡ []) ⊎ OpensThenAs found d.kept disk saves →
     Leaves settings m f g found stage kept disk (hs ++ (saves ++ said)) × (after disk (hs ++ (saves ++ said)) ≡ after disk saves)
+
+-- A turn that waits has decided no event: an image then opens as the state after all events, which are those of the turns before.
+abbrev pub WaitingTurnsLeave : {C O : Type 0} → Type 0 → Format C → Format O → Type 0
+WaitingTurnsLeave {C} {O} S f g =
+    (settings : Settings) (m : MachineMeaning S C O) (found : List ℕ → Found (KeptView C)) (stage : Stage S C O) (kept : KeptView C)
+    (acts : List Act) (image : Image) (node : NodeView S C O) (time : ℕ) → stage_after settings m f g stage acts ≡ Waiting node time →
+    (at : IsAt settings m f g found stage kept acts image) → at.c ≡ length (done_in settings m f g stage acts)

@@ -1,4 +1,4 @@
-ghost use Rattle.node_records.specs.MomentLaws.{EventTurnsLeave, KeepsIsSaving, MomentsGrow, QuietTurnsLeave, WholeIsCutShort};
+ghost use Rattle.node_records.specs.MomentLaws.{EventTurnsLeave, KeepsIsSaving, MomentsGrow, QuietTurnsLeave, WaitingTurnsLeave, WholeIsCutShort};
 
 use wire_messages::Wire;
 
@@ -24,4 +24,9 @@ pub fn quiet_turns_leave<S, C: Wire, O: Wire>()
 /// soon as a datagram went out.
 pub fn event_turns_leave<S, C: Wire, O: Wire>()
     ensures { EventTurnsLeave S C.format O.format }
+{}
+
+/// While a turn waits for a datagram, a crash leaves the state after all events.
+pub fn waiting_turns_leave<S, C: Wire, O: Wire>()
+    ensures { WaitingTurnsLeave S C.format O.format }
 {}
