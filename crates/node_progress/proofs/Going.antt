@@ -104,6 +104,7 @@ module _ {S C D O : Type 0} (settings : Settings) (m : MachineMeaning S C O) (s 
         knows = j.store ∙ ((λ i. store_by settings.stack f (x.knows i) (decides (x.stands i) y.did)) ∙ y.knows);
         leaves = on_leaves stage kept kept_mid store store_mid a node before mid y.did x y.leaves;
         holds = y.holds;
+        ends = y.ends;
       }
 
   pub halts_after : (stage : Stage S C O) (kept kept_mid : KeptView C) (store store_mid : StoreView) (a b : ℕ) (node : NodeView S C O)
