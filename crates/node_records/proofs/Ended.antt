@@ -1,5 +1,6 @@
 -- Turns that have ended, among acts.
-use Rattle.std.proofs.Common.{◌≡◌, ℕ, zero, suc, Bool, true, false, List, [], ◌∷◌, ◌++◌, take, refl, ap, ◌∙◌, if◌then◌else◌, ◌⊎◌, inl, inr}
+use Rattle.std.proofs.Common.{◌≡◌, ℕ, zero, suc, Bool, true, false, List, [], ◌∷◌, ◌++◌, take, refl, ap, ◌∙◌, ◌||◌, if◌then◌else◌, ◌⊎◌, inl, inr}
+use Rattle.std.proofs.lemmas.Bool.{or_parts}
 use Rattle.disk.specs.Acts.{Act, Now}
 use Rattle.disk.specs.DiskLaws.{Every}
 use Rattle.slots.specs.Turns.{Says}
@@ -7,17 +8,13 @@ use Rattle.node_records.specs.Records.{Stores, begins_turn, ended_turns, reads_c
 
 -- whether a turn begins
 
-or_true : (b x y : Bool) → (x ≡ true → y ≡ true) → (if b then true else x) ≡ true → (if b then true else y) ≡ true
+or_true : (b x y : Bool) → (x ≡ true → y ≡ true) → (b || x) ≡ true → (b || y) ≡ true
 or_true true x y so e = refl
 or_true false x y so e = so e
 
-always : (b : Bool) → (if b then true else true) ≡ true
+always : (b : Bool) → (b || true) ≡ true
 always true = refl
 always false = refl
-
-pub or_parts : (b x : Bool) → (if b then true else x) ≡ false → (b ≡ false) × (x ≡ false)
-or_parts true x e = cc
-or_parts false x e = (refl, e)
 
 begins_take : (n : ℕ) (xs : List Act) → begins_turn (take n xs) ≡ true → begins_turn xs ≡ true
 begins_take zero xs e = cc
@@ -26,11 +23,11 @@ begins_take (suc n) (x ∷ xs) e = or_true (reads_clock x) (begins_turn (take n 
 
 begins_later : (xs ys : List Act) → begins_turn ys ≡ true → begins_turn (xs ++ ys) ≡ true
 begins_later [] ys e = e
-begins_later (x ∷ xs) ys e = ap (λ b. if reads_clock x then true else b) (begins_later xs ys e) ∙ always (reads_clock x)
+begins_later (x ∷ xs) ys e = ap (λ b. reads_clock x || b) (begins_later xs ys e) ∙ always (reads_clock x)
 
 begins_before : (xs ys : List Act) → begins_turn ys ≡ false → begins_turn (xs ++ ys) ≡ begins_turn xs
 begins_before [] ys e = e
-begins_before (x ∷ xs) ys e = ap (λ b. if reads_clock x then true else b) (begins_before xs ys e)
+begins_before (x ∷ xs) ys e = ap (λ b. reads_clock x || b) (begins_before xs ys e)
 
 -- the acts of turns that have ended
 
@@ -83,4 +80,4 @@ follows_one act h = refl
 
 pub follows_begins : (acts : List Act) → Every (λ act. Stores act ⊎ Says act) acts → begins_turn acts ≡ false
 follows_begins [] h = refl
-follows_begins (act ∷ acts) h = ap (λ b. if b then true else begins_turn acts) (follows_one act h.0) ∙ follows_begins acts h.1
+follows_begins (act ∷ acts) h = ap (λ b. b || begins_turn acts) (follows_one act h.0) ∙ follows_begins acts h.1

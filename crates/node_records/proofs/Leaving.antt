@@ -90,7 +90,7 @@ module _ {S C O : Type 0} (settings : Settings) (m : MachineMeaning S C O) (f : 
       omega arith
 
   -- no event of a turn that has ended
-  none_early : (stage : Stage S C O) (n : ℕ) (hs : List Act) → decides stage (ended_turns hs) ≡ [] → length (decides stage (ended_turns (take n hs))) ≡ 0
+  pub none_early : (stage : Stage S C O) (n : ℕ) (hs : List Act) → decides stage (ended_turns hs) ≡ [] → length (decides stage (ended_turns (take n hs))) ≡ 0
   none_early stage n hs none =
       let first = ended_take n hs in
       let some = fewer stage first.n (ended_turns hs) in
@@ -157,7 +157,28 @@ module _ {S C O : Type 0} (settings : Settings) (m : MachineMeaning S C O) (f : 
         );
       }
 
-  -- the moments after what was heard
+  -- as the new state it is after the event
+  pub settling_counts : (found : List ℕ → Found (KeptView C)) (stage : Stage S C O) (kept : KeptView C) (count : ℕ) (node : NodeView S C O) (d : Done C)
+      (hs more : List Act) (image : Image) (h : HearsAs settings m f g stage hs (d ∷ []) count (Between node)) (fs : Every Follows more)
+      (o : OpensAs found d.kept image × IsFront (datagrams more) d.said) → (settling found stage kept count node d hs more image h fs (inr o)).c ≡ 1
+  unfolding settling
+  settling_counts found stage kept count node d hs more image h fs o = refl
+
+  -- the moments after what was heard, and after the saves
+
+  pub said_then : (found : List ℕ → Found (KeptView C)) (kept : KeptView C) (disk : Disk) (d : Done C) (saves said : List Act) (n : ℕ) (image : Image) →
+      Every Stores saves → Every Says said → IsFront (datagrams said) d.said → OpensThenAs found d.kept disk saves → length saves ≤ n →
+      may_leave disk (take n (saves ++ said)) image ≡ true → OpensAs found d.kept image × IsFront (datagrams (take n (saves ++ said))) d.said
+  said_then found kept disk d saves said n image st q front then l held =
+      let more = take (n - length saves) said in
+      let e : take n (saves ++ said) ≡ saves ++ more = past n saves said l in
+      let quiet : after disk (saves ++ more) ≡ after disk saves =
+      after_append disk saves more ∙ says_after more (after disk saves) (every_take Says (n - length saves) said q) in
+      let some = said_front said (n - length saves) d.said front in (
+        then image (subst (λ (x : Disk). may_hold x image ≡ true) (ap (λ acts. after disk acts) e ∙ quiet) held),
+        (some.0, ap (λ r. r ++ some.0) (ap datagrams e ∙ turn_said saves more st) ∙ some.1),
+      )
+
   pub after_hearing : (found : List ℕ → Found (KeptView C)) (kept : KeptView C) (disk : Disk) (d : Done C) (saves said : List Act) (n : ℕ) (image : Image) →
       Every Stores saves → Every Says said → IsFront (datagrams said) d.said → OpensAsEither found kept d.kept disk saves →
       (said ≡ []) ⊎ OpensThenAs found d.kept disk saves → may_leave disk (take n (saves ++ said)) image ≡ true →
@@ -178,15 +199,7 @@ module _ {S C O : Type 0} (settings : Settings) (m : MachineMeaning S C O) (f : 
           (OpensAs found kept image × (datagrams (take n (saves ++ said)) ≡ [])) ⊎ (OpensAs found d.kept image × IsFront (datagrams (take n (saves ++ said))) d.said)
       go s (inl l) = saving (take-append-le n saves said (omega arith))
       go (inl nothing) (inr l) = saving (ap (λ r. take n (saves ++ r)) nothing ∙ ap (λ r. take n r) (append-nil saves))
-      go (inr then) (inr l) =
-          let e : take n (saves ++ said) ≡ saves ++ take (n - length saves) said = past n saves said l in
-          let quiet : after disk (saves ++ take (n - length saves) said) ≡ after disk saves =
-          after_append disk saves (take (n - length saves) said) ∙ says_after (take (n - length saves) said) (after disk saves) (every_take Says (n - length saves) said q) in
-          let some = said_front said (n - length saves) d.said front in
-          inr (
-            then image (subst (λ (x : Disk). may_hold x image ≡ true) (ap (λ acts. after disk acts) e ∙ quiet) held),
-            (some.0, ap (λ r. r ++ some.0) (ap datagrams e ∙ turn_said saves (take (n - length saves) said) st) ∙ some.1),
-          )
+      go (inr then) (inr l) = inr (said_then found kept disk d saves said n image st q front then l held)
 
   follows_take : (n : ℕ) (saves said : List Act) → Every Stores saves → Every Says said → Every Follows (take n (saves ++ said))
   follows_take n saves said st q = every_take Follows n (saves ++ said) (turn_follows saves said st q)
@@ -243,7 +256,7 @@ module _ {S C O : Type 0} (settings : Settings) (m : MachineMeaning S C O) (f : 
       let same = ap (λ acts. length (decides stage acts)) (ended_before xs ys e ∙ first.is) in
       omega (arith, same, fewer stage first.n xs)
 
-  later : (found : List ℕ → Found (KeptView C)) (stage : Stage S C O) (kept : KeptView C) (xs ys : List Act) (image : Image) →
+  pub later : (found : List ℕ → Found (KeptView C)) (stage : Stage S C O) (kept : KeptView C) (xs ys : List Act) (image : Image) →
       datagrams xs ≡ said_in (decides stage xs) →
       At found (stage_after settings m f g stage xs) (kept_by kept (decides stage xs)) ys image → At found stage kept (xs ++ ys) image
   later found stage kept xs ys image said w =
@@ -264,6 +277,13 @@ module _ {S C O : Type 0} (settings : Settings) (m : MachineMeaning S C O) (f : 
               ∙ (ap (λ r. said_in ds ++ r) w.sent.1 ∙ sym (ap said_in first ∙ said_append ds (take w.c es)))),
         );
       }
+
+  pub later_counts : (found : List ℕ → Found (KeptView C)) (stage : Stage S C O) (kept : KeptView C) (xs ys : List Act) (image : Image)
+      (said : datagrams xs ≡ said_in (decides stage xs))
+      (w : At found (stage_after settings m f g stage xs) (kept_by kept (decides stage xs)) ys image) →
+      (later found stage kept xs ys image said w).c ≡ length (decides stage xs) + w.c
+  unfolding later
+  later_counts found stage kept xs ys image said w = refl
 
   pub moments_grow : (found : List ℕ → Found (KeptView C)) (stage : Stage S C O) (kept : KeptView C) (disk : Disk) (xs ys : List Act) →
       Leaves settings m f g found stage kept disk xs → datagrams xs ≡ said_in (decides stage xs) →

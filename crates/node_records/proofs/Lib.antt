@@ -4,4 +4,5 @@ pub mod Ended
 pub mod Growing
 pub mod Turning
 pub mod Leaving
+pub mod Saved
 pub mod Waiting

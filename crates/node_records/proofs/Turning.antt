@@ -1,5 +1,5 @@
 -- One turn: what was heard, and then store acts and what was said, by which a node between two turns does not move.
-use Rattle.std.proofs.Common.{◌≡◌, ℕ, ◌+◌, Bool, true, false, if◌then◌else◌, List, [], ◌∷◌, ◌++◌, refl, sym, ap, subst, ◌∙◌, arith, ◌⊎◌, inl, inr}
+use Rattle.std.proofs.Common.{◌≡◌, ℕ, ◌+◌, Bool, false, ◌||◌, if◌then◌else◌, List, [], ◌∷◌, ◌++◌, refl, sym, ap, subst, ◌∙◌, arith, ◌⊎◌, inl, inr}
 use Rattle.std.proofs.lemmas.List.{append-nil}
 use Rattle.disk.specs.Acts.{Act, Now, Took, Quiet, ReceiveFailed, Sent, SendFailed, Wrote, Cut, Synced, StoreFailed}
 use Rattle.disk.specs.DiskLaws.{Every, IsCutShort}
@@ -225,7 +225,7 @@ module _ {S C O : Type 0} (settings : Settings) (m : MachineMeaning S C O) (f : 
       hears_as (Between node) taken.stage (Now time ∷ act ∷ []) (taken.done ++ []) (0 + (taken.turns + 0)) (tt, (h, tt))
       (begins_by (Between node) taken.stage (Now time) (act ∷ []) (goes_to settings m f g (Waiting node time)) (taken.done ++ []) (taken.turns + 0)
       (clock node time (Wait wait) is) tt (alone (Waiting node time) act taken e o))
-      (ap (λ (b : Bool). decides (Between node) (if (if b then true else false) then Now time ∷ [] else [])) once)
+      (ap (λ (b : Bool). decides (Between node) (if b || false then Now time ∷ [] else [])) once)
 
   pub turns_hear : Turns settings m f g
   turns_hear = record {

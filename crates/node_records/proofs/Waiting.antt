@@ -1,5 +1,6 @@
 -- While a turn waits, every event that was decided is of a turn that has ended.
 use Rattle.std.proofs.Common.{◌≡◌, ℕ, Bool, true, false, List, [], ◌∷◌, ◌++◌, length, Option, None, Some, refl, sym, ap, ◌∙◌, arith, if◌then◌else◌, inl, inr}
+use Rattle.std.proofs.lemmas.Bool.{or_parts}
 use Rattle.std.proofs.lemmas.List.{append-nil}
 use Rattle.disk.specs.Acts.{Act, Now, Took}
 use Rattle.disk.specs.Disk.{Image}
@@ -15,7 +16,6 @@ use Rattle.node_run.specs.declared.due.Due.TheVariants.{Timeout, Wait}
 use Rattle.node_run.specs.declared.event.Event.{Event}
 use Rattle.node_records.specs.Records.{begins_turn, ended_turns, reads_clock}
 use Rattle.node_records.specs.Moments.{IsAt}
-use Rattle.node_records.proofs.Ended.{or_parts}
 
 module _ {S C O : Type 0} (settings : Settings) (m : MachineMeaning S C O) (f : Format C) (g : Format O) where
   abbrev goes : Stage S C O → Act → Step S C O

@@ -15,7 +15,7 @@ use Rattle.node_run.specs.Runs.{Done, Starting}
 use Rattle.node_run.specs.declared.event.Event.TheVariants.{Peer, Tick}
 use Rattle.raft_types.specs.declared.msg.RaftMsg.TheVariants as msg
 use Rattle.node_records.specs.Records.{AreRecord, IsStopped, saves_of, store_by}
-use Rattle.node_records.specs.Moments.{IsAt, Leaves}
+use Rattle.node_records.specs.Moments.{IsAt, IsSavedAt, Leaves, saved_by}
 
 -- of the first state and of the vote; a thousand records may follow the first gate
 abbrev pub first : KeptView KvCmd
@@ -92,3 +92,10 @@ silent_turn =
 -- that after these acts an image with this slot is as it is to be, where another slot is of that term
 abbrev pub is_termed_at : List Act → List ℕ → Type 0
 is_termed_at acts slot = IsAt settings kv kv_command kv_output (by_length termed) (Starting first) first acts (image_of slot)
+
+abbrev pub is_saved_at : List Act → List ℕ → Type 0
+is_saved_at acts slot = IsSavedAt settings kv kv_command kv_output (by_length termed) (Starting first) first known acts (image_of slot)
+
+-- how many of these events are saved by so many store acts
+abbrev pub saved_events : List (Done KvCmd) → ℕ → ℕ
+saved_events events n = saved_by settings.stack kv_command known events n

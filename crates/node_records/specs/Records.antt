@@ -1,5 +1,5 @@
 -- What the whole record of a node's device is: turn after turn what was heard, the save of each event, and then what it says.
-use Rattle.std.specs.Prelude.{◌≡◌, ℕ, ◌≤◌, Bool, true, false, List, [], ◌∷◌, ◌++◌, if◌then◌else◌}
+use Rattle.std.specs.Prelude.{◌≡◌, ℕ, ◌≤◌, Bool, true, false, ◌||◌, List, [], ◌∷◌, ◌++◌, if◌then◌else◌}
 use Rattle.disk.specs.Acts.{Act, Began, BeginFailed, Now, ReceiveFailed, Wrote, Cut, Synced, StoreFailed}
 use Rattle.disk.specs.DiskLaws.{Every, IsCutShort}
 use Rattle.raft_types.specs.Keeping.{KeptView}
@@ -51,7 +51,7 @@ reads_clock act = false
 
 abbrev pub begins_turn : List Act → Bool
 begins_turn [] = false
-begins_turn (act ∷ acts) = if reads_clock act then true else begins_turn acts
+begins_turn (act ∷ acts) = reads_clock act || begins_turn acts
 
 -- those before the last turn began: the turns that have ended
 abbrev pub ended_turns : List Act → List Act
