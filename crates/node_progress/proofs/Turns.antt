@@ -27,6 +27,7 @@ use Rattle.node_records.specs.Moments.{Leaves}
 use Rattle.node_records.specs.Records.{HearsAs, kept_by, store_by}
 use Rattle.node_records.proofs.ActKinds.{hears_after, says_after}
 use Rattle.node_records.proofs.Leaving.{event_leaves, keeps_is_saving, quiet_leaves}
+use Rattle.node_records.proofs.Saved.{event_saves, quiet_saves}
 use Rattle.node_records.proofs.Turning.{event_turn, quiet_turn, turn, turn_follows, turns_hear}
 use Rattle.node_progress.specs.Progress.{Goes}
 use Rattle.node_progress.proofs.Going.{told_twice, who_after}
@@ -66,7 +67,7 @@ module _ {S C D O : Type 0} (settings : Settings) (m : MachineMeaning S C O) (s 
         stands = heard.stands;
         keeps = ap (λ ds. kept_by kept ds) heard.events;
         knows = ap (λ ds. store_by settings.stack f store ds) heard.events;
-        leaves = quiet.0;
+        leaves = quiet_saves settings m f g found stage (Between node) kept store store.selector before.disk count hs heard at_rest;
         holds = held_still;
         ends = λ image may. ends_as store kept (after before.disk hs) image held_still is may;
       }
@@ -116,7 +117,9 @@ module _ {S C D O : Type 0} (settings : Settings) (m : MachineMeaning S C O) (s 
       Goes settings m s f t h g who stage kept store count node d.kept (store_after s f store d.kept) before now
   event_goes stage kept store count node d hs said before now stack heard held is saved q all e =
       let saves = state_acts s f store d.kept in
-      let stored = (saving store kept d.kept (told_after before hs).disk is saved).whole.0 in
+      let whole = (saving store kept d.kept before.disk is
+      (subst (λ (disk : Disk). StateSaved s f t h store kept d.kept disk) (same_disk stage (Between node) (d ∷ []) count hs before heard) saved)).whole in
+      let stored = whole.0 in
       let decided = turn settings m f g stage (d ∷ []) count node hs (saves ++ said) heard (turn_follows saves said stored q) in
       let held_then : Holds s f t h (store_after s f store d.kept) d.kept now.disk =
       subst (λ (told : Told). Holds s f t h (store_after s f store d.kept) d.kept told.disk) (sym e)
@@ -130,7 +133,9 @@ module _ {S C D O : Type 0} (settings : Settings) (m : MachineMeaning S C O) (s 
         stands = decided.stands;
         keeps = ap (λ ds. kept_by kept ds) decided.events;
         knows = ap (λ ds. store_by settings.stack f store ds) decided.events ∙ ap (λ (x : StackId). store_after x f store d.kept) stack;
-        leaves = event_moments stage kept store count node d hs said before heard held is saved q ([], append-nil (datagrams said) ∙ all);
+        leaves = event_saves settings m f g found stage kept store store.selector before.disk count node d hs saves said heard
+            (rests store kept before.disk held is) (ap (λ (x : StackId). state_acts x f store d.kept) (sym stack)) whole.0 q
+            ([], append-nil (datagrams said) ∙ all) whole.1 whole.2;
         holds = held_then;
         ends = λ image may. ends_as (store_after s f store d.kept) d.kept now.disk image held_then (who_after s f store d.kept ∙ is) may;
       }
