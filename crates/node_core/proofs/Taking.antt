@@ -1,15 +1,22 @@
 -- What a node may say of its state once it starts, and once it has taken an event.
-use Rattle.std.proofs.Common.{◌≡◌, ◌≤◌, ℕ, length, sym, ap, subst, ◌∙◌}
+use Rattle.std.proofs.Common.{◌≡◌, ◌≤◌, ℕ, true, length, Option, Some, None, IfSome, sym, ap, subst, ◌∙◌}
+use Rattle.disk.specs.Disk.{Image, may_hold}
 use Rattle.raft_xform.specs.Nodes.{RaftView}
 use Rattle.raft_xform.specs.Sound.{IsSoundNode}
 use Rattle.vst_base.specs.Machines.{MachineMeaning}
 use Rattle.wire_fields.specs.Formats.{Format}
-use Rattle.node_acts.specs.Stores.{StoreView, Knows, Continues, common, terms_of}
+use Rattle.node_acts.specs.Stores.{StoreView, Holds, Knows, Continues, common, found_by, terms_of}
+use Rattle.node_acts.proofs.Helds.{holds_rests, kept_same}
 use Rattle.node_config.specs.declared.config.Config.{Config}
 use Rattle.node_datagrams.specs.Configured.{settings_of}
+use Rattle.node_device.specs.Telling.{Told}
 use Rattle.node_growth.specs.Growth.{left_by}
 use Rattle.node_growth.proofs.Growing.{left_is_common, log_continues}
 use Rattle.node_run.specs.declared.event.Event.{Event}
+use Rattle.raft_types.specs.Keeping.{KeptView}
+use Rattle.slots.specs.Opening.{OpensAs}
+use Rattle.slots.proofs.Turning.{rests_opens}
+use Rattle.vst_base.specs.declared.stack.StackId.{StackId}
 use Rattle.node_core.specs.Replicas.{effect_on, kept_of}
 use Rattle.node_core.specs.declared.replica.Replica.{Replica}
 
@@ -42,3 +49,12 @@ module _ {S C O : Type 0} (config : Config) (m : MachineMeaning S C O) (f : Form
   continues_then s state knows =
       subst (λ x. Continues replica.store (kept_of replica.state) (kept_of x)) (sym state)
       (log_continues f g (settings_of config) m replica.state event replica.store knows)
+
+-- what the areas hold, each image of them opens as
+pub opens_held : {C D : Type 0} (s : StackId) (f : Format C) (t : StackId) (g : Format D) (store : StoreView) (held kept : KeptView C) (a : Option Told) →
+    held.term ≡ kept.term → held.voted ≡ kept.voted → held.log ≡ kept.log → IfSome a (λ told. Holds s f t g store held told.disk) →
+    IfSome a (λ told. (image : Image) → may_hold told.disk image ≡ true → OpensAs (found_by s f t g store.who) kept image)
+opens_held s f t g store held kept None term voted log h = tt
+opens_held {C} s f t g store held kept (Some told) term voted log h = λ image may.
+    rests_opens (found_by s f t g store.who) kept store.selector told.disk image
+    (holds_rests s f t g store kept told.disk (subst (λ (k : KeptView C). Holds s f t g store k told.disk) (kept_same held kept term voted log) h)) may

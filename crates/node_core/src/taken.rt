@@ -1,10 +1,12 @@
 ghost use Rattle.std.specs.Prelude.{◌≡◌, ◌≢◌, true, IfOk, IfSome, OnErr, OnOk};
+ghost use Rattle.disk.specs.Disk.{Image, may_hold};
 ghost use Rattle.node_acts.specs.StateActs.{state_acts, store_after};
-ghost use Rattle.node_acts.specs.Stores.{Holds};
+ghost use Rattle.node_acts.specs.Stores.{Holds, found_by};
 ghost use Rattle.node_core.specs.Replicas.{IsReady, IsTaken, kept_of};
 ghost use Rattle.node_device.specs.Telling.{Did, StoppedIn, WhereTold};
 ghost use Rattle.node_state.specs.Calls.{StateCounts};
 ghost use Rattle.node_state.specs.Crashes.{IsHeldBefore, LeavesEither, Saves};
+ghost use Rattle.slots.specs.Opening.{OpensAs};
 
 use crate::Replica;
 use crate::saved::Saved;
@@ -51,6 +53,11 @@ impl<S: Drop, C: Commands, O: Drop> Taken<S, C, O> {
             (state_acts C.stack C.format self.replica.store (kept_of self.replica.state))) }
         ensures holds { IfOk result (λ saved. IfSome (D.told device.new) (λ told.
             Holds C.stack C.format X.stack X.format saved.replica.store (kept_of saved.replica.state) told.disk)) }
+
+        // Each image that a crash may then leave opens as what the node keeps.
+        ensures opens { IfOk result (λ saved. IfSome (D.told device.new) (λ told. (image : Image) → may_hold told.disk image ≡ true
+            → OpensAs (found_by C.stack C.format X.stack X.format saved.replica.store.who) (kept_of saved.replica.state) image)) }
+
         ensures keeps { OnOk result (IfSome (D.told device.old)
             (Saves C.stack C.format X.stack X.format self.replica.store (kept_of self.replica.state))) }
         ensures crash { WhereTold (D.told device.old) (D.told device.new)

@@ -16,10 +16,11 @@ use Rattle.node_device.specs.Telling.{Told, told_after}
 use Rattle.node_run.specs.Runs.{Done, NodeView, Stage, Between, done_in, stage_after}
 use Rattle.node_run.specs.Settings.{Settings}
 use Rattle.node_records.specs.Records.{AreRecord, IsStopped, kept_by, store_by}
-use Rattle.node_records.specs.Moments.{Leaves}
+use Rattle.node_records.specs.Moments.{Leaves, LeavesSaved}
 use Rattle.node_records.proofs.Folds.{joins}
 use Rattle.node_records.proofs.Growing.{record_stops, records_grow, stops_grow}
 use Rattle.node_records.proofs.Leaving.{moments_grow}
+use Rattle.node_records.proofs.Saved.{saves_grow}
 use Rattle.node_progress.specs.Progress.{Goes, Halts}
 
 pub told_twice : (told : Told) (xs ys : List Act) → told_after (told_after told xs) ys ≡ told_after told (xs ++ ys)
@@ -82,11 +83,25 @@ module _ {S C D O : Type 0} (settings : Settings) (m : MachineMeaning S C O) (s 
       Leaves settings m f g found (Between node) kept_mid mid.disk ys →
       Leaves settings m f g found stage kept before.disk (x.did ++ ys)
   on_leaves stage kept kept_mid store store_mid a node before mid ys x y =
-      moments_grow settings m f g found stage kept before.disk x.did ys x.leaves x.record_is.said
+      moments_grow settings m f g found stage kept before.disk x.did ys (λ n image may. (x.leaves n image may).at) x.record_is.said
       (subst (λ (at : Stage S C O). Leaves settings m f g found at (kept_by kept (decides stage x.did)) (after before.disk x.did) ys)
       (sym x.stands)
       (subst (λ (k : KeptView C). Leaves settings m f g found (Between node) k (after before.disk x.did) ys) (sym x.keeps)
       (subst (λ (told : Told). Leaves settings m f g found (Between node) kept_mid told.disk ys) x.is y)))
+
+  on_saves : (stage : Stage S C O) (kept kept_mid : KeptView C) (store store_mid : StoreView) (a : ℕ) (node : NodeView S C O)
+      (before mid : Told) (ys : List Act)
+      (x : Goes settings m s f t h g who stage kept store a node kept_mid store_mid before mid) →
+      LeavesSaved settings m f g found (Between node) kept_mid store_mid mid.disk ys →
+      LeavesSaved settings m f g found stage kept store before.disk (x.did ++ ys)
+  on_saves stage kept kept_mid store store_mid a node before mid ys x y =
+      saves_grow settings m f g found stage kept store before.disk x.did ys x.leaves x.record_is.said x.record_is.stored
+      (subst (λ (at : Stage S C O). LeavesSaved settings m f g found at (kept_by kept (decides stage x.did))
+      (store_by settings.stack f store (decides stage x.did)) (after before.disk x.did) ys) (sym x.stands)
+      (subst (λ (k : KeptView C). LeavesSaved settings m f g found (Between node) k (store_by settings.stack f store (decides stage x.did))
+      (after before.disk x.did) ys) (sym x.keeps)
+      (subst (λ (st : StoreView). LeavesSaved settings m f g found (Between node) kept_mid st (after before.disk x.did) ys) (sym x.knows)
+      (subst (λ (told : Told). LeavesSaved settings m f g found (Between node) kept_mid store_mid told.disk ys) x.is y))))
 
   pub goes_on : (stage : Stage S C O) (kept kept_mid kept_now : KeptView C) (store store_mid store_now : StoreView) (a b : ℕ)
       (node next : NodeView S C O) (before mid now : Told) →
@@ -102,8 +117,9 @@ module _ {S C D O : Type 0} (settings : Settings) (m : MachineMeaning S C O) (s 
         stands = j.stands ∙ (ap (λ (at : Stage S C O). stage_after settings m f g at y.did) x.stands ∙ y.stands);
         keeps = j.kept ∙ ((λ i. kept_by (x.keeps i) (decides (x.stands i) y.did)) ∙ y.keeps);
         knows = j.store ∙ ((λ i. store_by settings.stack f (x.knows i) (decides (x.stands i) y.did)) ∙ y.knows);
-        leaves = on_leaves stage kept kept_mid store store_mid a node before mid y.did x y.leaves;
+        leaves = on_saves stage kept kept_mid store store_mid a node before mid y.did x y.leaves;
         holds = y.holds;
+        ends = y.ends;
       }
 
   pub halts_after : (stage : Stage S C O) (kept kept_mid : KeptView C) (store store_mid : StoreView) (a b : ℕ) (node : NodeView S C O)
@@ -126,7 +142,7 @@ module _ {S C D O : Type 0} (settings : Settings) (m : MachineMeaning S C O) (s 
     did = x.did;
     acts = ap (λ (told : Told). told.acts) x.is;
     stopped = record_stops settings m f g stage store count x.did x.record_is;
-    leaves = x.leaves;
+    leaves = λ n image may. (x.leaves n image may).at;
   }
 
   pub who_stays : (stage : Stage S C O) (kept kept_now : KeptView C) (store store_now : StoreView) (count : ℕ) (node : NodeView S C O)

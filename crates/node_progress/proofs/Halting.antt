@@ -41,7 +41,7 @@ module _ {S C D O : Type 0} (settings : Settings) (m : MachineMeaning S C O) (s 
         did = hs;
         acts = refl;
         stopped = heard_stops settings m f g stage store done count next hs heard;
-        leaves = hearing settings m f g found stage kept store.selector before.disk hs heard.hears (omega (arith, events, one))
+        leaves = hearing settings m f g found stage kept store.selector before.disk hs heard.hears (omega (arith, events, one)) heard.last
             (rests settings m s f t h g who store kept before.disk held is);
       }
 

@@ -1,15 +1,16 @@
 -- One whole turn.
-use Rattle.std.proofs.Common.{◌≡◌, ℕ, List, [], ◌∷◌, ◌++◌, refl, sym, ap, subst, ◌∙◌, inr}
+use Rattle.std.proofs.Common.{◌≡◌, ℕ, true, List, [], ◌∷◌, ◌++◌, refl, sym, ap, subst, ◌∙◌, inr}
 use Rattle.std.proofs.lemmas.List.{append-nil}
 use Rattle.disk.specs.Acts.{Act, Now}
-use Rattle.disk.specs.Disk.{Disk, after}
+use Rattle.disk.specs.Disk.{Disk, Image, after, may_hold}
 use Rattle.disk.specs.DiskLaws.{Every}
 use Rattle.raft_types.specs.Keeping.{KeptView}
 use Rattle.raft_xform.specs.Raft.{raft_recovery}
-use Rattle.slots.specs.Opening.{Found}
+use Rattle.slots.specs.Opening.{Found, OpensAs}
 use Rattle.slots.specs.SavingLaws.{Rests}
 use Rattle.slots.specs.Turns.{Says, datagrams}
 use Rattle.slots.specs.TurnLaws.{IsFront}
+use Rattle.slots.proofs.Turning.{rests_opens}
 use Rattle.vst_base.specs.Machines.{MachineMeaning}
 use Rattle.vst_base.specs.declared.stack.StackId.{StackId}
 use Rattle.wire_fields.specs.Formats.{Format}
@@ -26,9 +27,10 @@ use Rattle.node_records.specs.Moments.{Leaves}
 use Rattle.node_records.specs.Records.{HearsAs, kept_by, store_by}
 use Rattle.node_records.proofs.ActKinds.{hears_after, says_after}
 use Rattle.node_records.proofs.Leaving.{event_leaves, keeps_is_saving, quiet_leaves}
+use Rattle.node_records.proofs.Saved.{event_saves, quiet_saves}
 use Rattle.node_records.proofs.Turning.{event_turn, quiet_turn, turn, turn_follows, turns_hear}
 use Rattle.node_progress.specs.Progress.{Goes}
-use Rattle.node_progress.proofs.Going.{told_twice}
+use Rattle.node_progress.proofs.Going.{told_twice, who_after}
 
 -- what was heard, then what was stored, and then what was said
 pub told_thrice : (told : Told) (hs saves said : List Act) →
@@ -45,6 +47,11 @@ module _ {S C D O : Type 0} (settings : Settings) (m : MachineMeaning S C O) (s 
   rests store kept disk held is =
       subst (λ (w : Who). Rests (found_by s f t h w) kept store.selector disk) is (holds_rests s f t h store kept disk held)
 
+  -- what the areas hold, each image of them opens as
+  ends_as : (store : StoreView) (kept : KeptView C) (disk : Disk) (image : Image) → Holds s f t h store kept disk → store.who ≡ who →
+      may_hold disk image ≡ true → OpensAs found kept image
+  ends_as store kept disk image held is may = rests_opens found kept store.selector disk image (rests store kept disk held is) may
+
   pub quiet_goes : (stage : Stage S C O) (kept : KeptView C) (store : StoreView) (count : ℕ) (node : NodeView S C O) (hs : List Act)
       (before : Told) →
       HearsAs settings m f g stage hs [] count (Between node) → Holds s f t h store kept before.disk → store.who ≡ who →
@@ -52,6 +59,7 @@ module _ {S C D O : Type 0} (settings : Settings) (m : MachineMeaning S C O) (s 
   quiet_goes stage kept store count node hs before heard held is =
       let at_rest = rests store kept before.disk held is in
       let quiet = quiet_leaves settings m f g found stage (Between node) kept store.selector before.disk count hs heard at_rest in
+      let held_still : Holds s f t h store kept (after before.disk hs) = subst (λ (disk : Disk). Holds s f t h store kept disk) (sym quiet.1) held in
       record {
         did = hs;
         is = refl;
@@ -59,8 +67,9 @@ module _ {S C D O : Type 0} (settings : Settings) (m : MachineMeaning S C O) (s 
         stands = heard.stands;
         keeps = ap (λ ds. kept_by kept ds) heard.events;
         knows = ap (λ ds. store_by settings.stack f store ds) heard.events;
-        leaves = quiet.0;
-        holds = subst (λ (disk : Disk). Holds s f t h store kept disk) (sym quiet.1) held;
+        leaves = quiet_saves settings m f g found stage (Between node) kept store store.selector before.disk count hs heard at_rest;
+        holds = held_still;
+        ends = λ image may. ends_as store kept (after before.disk hs) image held_still is may;
       }
 
   pub first_goes : (kept : KeptView C) (store : StoreView) (time : ℕ) (before : Told) → Holds s f t h store kept before.disk →
@@ -108,8 +117,14 @@ module _ {S C D O : Type 0} (settings : Settings) (m : MachineMeaning S C O) (s 
       Goes settings m s f t h g who stage kept store count node d.kept (store_after s f store d.kept) before now
   event_goes stage kept store count node d hs said before now stack heard held is saved q all e =
       let saves = state_acts s f store d.kept in
-      let stored = (saving store kept d.kept (told_after before hs).disk is saved).whole.0 in
+      let whole = (saving store kept d.kept before.disk is
+      (subst (λ (disk : Disk). StateSaved s f t h store kept d.kept disk) (same_disk stage (Between node) (d ∷ []) count hs before heard) saved)).whole in
+      let stored = whole.0 in
       let decided = turn settings m f g stage (d ∷ []) count node hs (saves ++ said) heard (turn_follows saves said stored q) in
+      let held_then : Holds s f t h (store_after s f store d.kept) d.kept now.disk =
+      subst (λ (told : Told). Holds s f t h (store_after s f store d.kept) d.kept told.disk) (sym e)
+      (subst (λ (disk : Disk). Holds s f t h (store_after s f store d.kept) d.kept disk)
+      (sym (says_after said (after (told_after before hs).disk saves) q)) saved.holds) in
       record {
         did = hs ++ (saves ++ said);
         is = e ∙ told_thrice before hs saves said;
@@ -118,8 +133,9 @@ module _ {S C D O : Type 0} (settings : Settings) (m : MachineMeaning S C O) (s 
         stands = decided.stands;
         keeps = ap (λ ds. kept_by kept ds) decided.events;
         knows = ap (λ ds. store_by settings.stack f store ds) decided.events ∙ ap (λ (x : StackId). store_after x f store d.kept) stack;
-        leaves = event_moments stage kept store count node d hs said before heard held is saved q ([], append-nil (datagrams said) ∙ all);
-        holds = subst (λ (told : Told). Holds s f t h (store_after s f store d.kept) d.kept told.disk) (sym e)
-            (subst (λ (disk : Disk). Holds s f t h (store_after s f store d.kept) d.kept disk)
-            (sym (says_after said (after (told_after before hs).disk saves) q)) saved.holds);
+        leaves = event_saves settings m f g found stage kept store store.selector before.disk count node d hs saves said heard
+            (rests store kept before.disk held is) (ap (λ (x : StackId). state_acts x f store d.kept) (sym stack)) whole.0 q
+            ([], append-nil (datagrams said) ∙ all) whole.1 whole.2;
+        holds = held_then;
+        ends = λ image may. ends_as (store_after s f store d.kept) d.kept now.disk image held_then (who_after s f store d.kept ∙ is) may;
       }

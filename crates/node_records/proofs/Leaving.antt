@@ -1,5 +1,5 @@
 -- What a crash leaves of one turn, and of acts one after the other.
-use Rattle.std.proofs.Common.{◌≡◌, ℕ, zero, suc, ◌+◌, ◌-◌, ◌<◌, ◌≤◌, true, List, [], ◌∷◌, ◌++◌, length, take, drop, refl, sym, ap, subst, ◌∙◌, arith, ◌⊎◌, inl, inr, append_assoc, length-append, take-append-drop}
+use Rattle.std.proofs.Common.{◌≡◌, ℕ, zero, suc, Bool, true, false, ◌+◌, ◌-◌, ◌<◌, ◌≤◌, List, [], ◌∷◌, ◌++◌, length, take, drop, refl, sym, ap, subst, ◌∙◌, arith, ◌⊎◌, inl, inr, append_assoc, length-append, take-append-drop}
 use Rattle.std.proofs.lemmas.Bool.{cases_lt}
 use Rattle.std.proofs.lemmas.List.{append-nil, take-append-le, take_all}
 use Rattle.outside.specs.declared.device.Address.{Address}
@@ -18,10 +18,11 @@ use Rattle.vst_base.specs.Machines.{MachineMeaning}
 use Rattle.wire_fields.specs.Formats.{Format}
 use Rattle.node_run.specs.Runs.{Done, NodeView, Stage, Between, done_in, said_in, stage_after}
 use Rattle.node_run.specs.Settings.{Settings}
-use Rattle.node_records.specs.Records.{Stores, HearsAs, kept_by}
+use Rattle.node_records.specs.Records.{Stores, HearsAs, begins_turn, ended_turns, kept_by}
 use Rattle.node_records.specs.Moments.{IsAt, Leaves}
 use Rattle.node_records.specs.MomentLaws.{OpensAsEither, OpensThenAs, IsSaving}
 use Rattle.node_records.proofs.ActKinds.{every_as, areas_store, datagrams_append, hears_after, hears_silent, says_after, short_stores, stores_silent}
+use Rattle.node_records.proofs.Ended.{ended_before, ended_first, ended_later, ended_take, follows_begins}
 use Rattle.node_records.proofs.Folds.{done_append, kept_append, said_append}
 use Rattle.node_records.proofs.Growing.{said_first}
 use Rattle.node_records.proofs.Turning.{Follows, turn_follows, turn_said, turn}
@@ -88,20 +89,29 @@ module _ {S C O : Type 0} (settings : Settings) (m : MachineMeaning S C O) (f : 
       let sum = length-append (decides stage (take n hs)) rest in
       omega arith
 
+  -- no event of a turn that has ended
+  pub none_early : (stage : Stage S C O) (n : ℕ) (hs : List Act) → decides stage (ended_turns hs) ≡ [] → length (decides stage (ended_turns (take n hs))) ≡ 0
+  none_early stage n hs none =
+      let first = ended_take n hs in
+      let some = fewer stage first.n (ended_turns hs) in
+      let same = ap (λ acts. length (decides stage acts)) first.is in
+      omega (arith, some, same, ap (λ ds. length ds) none)
+
   few : (k : ℕ) → k ≤ 1 → (0 ≡ k) ⊎ (1 ≡ k)
   few zero l = inl refl
   few (suc zero) l = inr refl
   few (suc (suc k)) l = absurd (omega arith)
 
   pub hearing : (found : List ℕ → Found (KeptView C)) (stage : Stage S C O) (kept : KeptView C) (selector : ℕ) (disk : Disk) (hs : List Act) → Every Hears hs →
-      length (decides stage hs) ≤ 1 → Rests found kept selector disk → Leaves settings m f g found stage kept disk hs
-  hearing found stage kept selector disk hs h l r n image held =
+      length (decides stage hs) ≤ 1 → decides stage (ended_turns hs) ≡ [] → Rests found kept selector disk → Leaves settings m f g found stage kept disk hs
+  hearing found stage kept selector disk hs h l last r n image held =
       let q : Every Hears (take n hs) = every_take Hears n hs h in
       let some = fewer stage n hs in
       let all = said_in (take 0 (decides stage (take n hs))) in
       record {
         c = 0;
         near = few (length (decides stage (take n hs))) (omega arith);
+        ended = omega (arith, none_early stage n hs last);
         opens = rests_opens found kept selector disk image r (subst (λ (d : Disk). may_hold d image ≡ true) (hears_after (take n hs) disk q) held);
         sent = ([], append-nil (datagrams (take n hs)) ∙ hears_silent (take n hs) q);
       }
@@ -111,7 +121,7 @@ module _ {S C O : Type 0} (settings : Settings) (m : MachineMeaning S C O) (f : 
       Leaves settings m f g found stage kept disk hs × (after disk hs ≡ disk)
   quiet_leaves found stage next kept selector disk count hs h r =
       let e = ap (λ ds. length ds) h.events in
-      (hearing found stage kept selector disk hs h.hears (omega arith) r, hears_after hs disk h.hears)
+      (hearing found stage kept selector disk hs h.hears (omega arith) h.last r, hears_after hs disk h.hears)
 
   -- and after that
 
@@ -127,14 +137,19 @@ module _ {S C O : Type 0} (settings : Settings) (m : MachineMeaning S C O) (f : 
       one : length (decides stage (hs ++ more)) ≡ 1
       one = ap (λ ds. length ds) events
 
+      early : length (decides stage (ended_turns (hs ++ more))) ≡ 0
+      early =
+          ap (λ acts. length (decides stage acts)) (ended_before hs more (follows_begins more fs)) ∙ ap (λ ds. length ds) h.last
+
       out : datagrams (hs ++ more) ≡ datagrams more
       out = datagrams_append hs more ∙ ap (λ r. r ++ datagrams more) (hears_silent hs h.hears)
 
       go : (OpensAs found kept image × (datagrams more ≡ [])) ⊎ (OpensAs found d.kept image × IsFront (datagrams more) d.said) → At found stage kept (hs ++ more) image
-      go (inl o) = record { c = 0; near = inr (sym one); opens = o.0; sent = ([], append-nil (datagrams (hs ++ more)) ∙ (out ∙ o.1)) }
+      go (inl o) = record { c = 0; near = inr (sym one); ended = omega (arith, early); opens = o.0; sent = ([], append-nil (datagrams (hs ++ more)) ∙ (out ∙ o.1)) }
       go (inr o) = record {
         c = 1;
         near = inl (sym one);
+        ended = omega (arith, early);
         opens = subst (λ (ds : List (Done C)). OpensAs found (kept_by kept (take 1 ds)) image) (sym events) o.0;
         sent = (
           o.1.0,
@@ -142,7 +157,28 @@ module _ {S C O : Type 0} (settings : Settings) (m : MachineMeaning S C O) (f : 
         );
       }
 
-  -- the moments after what was heard
+  -- as the new state it is after the event
+  pub settling_counts : (found : List ℕ → Found (KeptView C)) (stage : Stage S C O) (kept : KeptView C) (count : ℕ) (node : NodeView S C O) (d : Done C)
+      (hs more : List Act) (image : Image) (h : HearsAs settings m f g stage hs (d ∷ []) count (Between node)) (fs : Every Follows more)
+      (o : OpensAs found d.kept image × IsFront (datagrams more) d.said) → (settling found stage kept count node d hs more image h fs (inr o)).c ≡ 1
+  unfolding settling
+  settling_counts found stage kept count node d hs more image h fs o = refl
+
+  -- the moments after what was heard, and after the saves
+
+  pub said_then : (found : List ℕ → Found (KeptView C)) (kept : KeptView C) (disk : Disk) (d : Done C) (saves said : List Act) (n : ℕ) (image : Image) →
+      Every Stores saves → Every Says said → IsFront (datagrams said) d.said → OpensThenAs found d.kept disk saves → length saves ≤ n →
+      may_leave disk (take n (saves ++ said)) image ≡ true → OpensAs found d.kept image × IsFront (datagrams (take n (saves ++ said))) d.said
+  said_then found kept disk d saves said n image st q front then l held =
+      let more = take (n - length saves) said in
+      let e : take n (saves ++ said) ≡ saves ++ more = past n saves said l in
+      let quiet : after disk (saves ++ more) ≡ after disk saves =
+      after_append disk saves more ∙ says_after more (after disk saves) (every_take Says (n - length saves) said q) in
+      let some = said_front said (n - length saves) d.said front in (
+        then image (subst (λ (x : Disk). may_hold x image ≡ true) (ap (λ acts. after disk acts) e ∙ quiet) held),
+        (some.0, ap (λ r. r ++ some.0) (ap datagrams e ∙ turn_said saves more st) ∙ some.1),
+      )
+
   pub after_hearing : (found : List ℕ → Found (KeptView C)) (kept : KeptView C) (disk : Disk) (d : Done C) (saves said : List Act) (n : ℕ) (image : Image) →
       Every Stores saves → Every Says said → IsFront (datagrams said) d.said → OpensAsEither found kept d.kept disk saves →
       (said ≡ []) ⊎ OpensThenAs found d.kept disk saves → may_leave disk (take n (saves ++ said)) image ≡ true →
@@ -163,15 +199,7 @@ module _ {S C O : Type 0} (settings : Settings) (m : MachineMeaning S C O) (f : 
           (OpensAs found kept image × (datagrams (take n (saves ++ said)) ≡ [])) ⊎ (OpensAs found d.kept image × IsFront (datagrams (take n (saves ++ said))) d.said)
       go s (inl l) = saving (take-append-le n saves said (omega arith))
       go (inl nothing) (inr l) = saving (ap (λ r. take n (saves ++ r)) nothing ∙ ap (λ r. take n r) (append-nil saves))
-      go (inr then) (inr l) =
-          let e : take n (saves ++ said) ≡ saves ++ take (n - length saves) said = past n saves said l in
-          let quiet : after disk (saves ++ take (n - length saves) said) ≡ after disk saves =
-          after_append disk saves (take (n - length saves) said) ∙ says_after (take (n - length saves) said) (after disk saves) (every_take Says (n - length saves) said q) in
-          let some = said_front said (n - length saves) d.said front in
-          inr (
-            then image (subst (λ (x : Disk). may_hold x image ≡ true) (ap (λ acts. after disk acts) e ∙ quiet) held),
-            (some.0, ap (λ r. r ++ some.0) (ap datagrams e ∙ turn_said saves (take (n - length saves) said) st) ∙ some.1),
-          )
+      go (inr then) (inr l) = inr (said_then found kept disk d saves said n image st q front then l held)
 
   follows_take : (n : ℕ) (saves said : List Act) → Every Stores saves → Every Says said → Every Follows (take n (saves ++ said))
   follows_take n saves said st q = every_take Follows n (saves ++ said) (turn_follows saves said st q)
@@ -187,7 +215,7 @@ module _ {S C O : Type 0} (settings : Settings) (m : MachineMeaning S C O) (f : 
           let e : take n (hs ++ (saves ++ said)) ≡ take n hs = take-append-le n hs (saves ++ said) (omega arith) in
           let few_events = ap (λ ds. length ds) h.events in
           moved found stage kept (take n hs) (take n (hs ++ (saves ++ said))) image e
-          (hearing found stage kept selector disk hs h.hears (omega arith) r n image (leaves_by disk (take n (hs ++ (saves ++ said))) (take n hs) image e held))
+          (hearing found stage kept selector disk hs h.hears (omega arith) h.last r n image (leaves_by disk (take n (hs ++ (saves ++ said))) (take n hs) image e held))
       go (inr l) =
           let k = n - length hs in
           let more = take k (saves ++ said) in
@@ -215,7 +243,20 @@ module _ {S C O : Type 0} (settings : Settings) (m : MachineMeaning S C O) (f : 
 
   -- one list of acts after the other
 
-  later : (found : List ℕ → Found (KeptView C)) (stage : Stage S C O) (kept : KeptView C) (xs ys : List Act) (image : Image) →
+  -- the events of turns that have ended
+  ended_both : (stage : Stage S C O) (xs ys : List Act) (c : ℕ) (b : Bool) → begins_turn ys ≡ b →
+      length (decides (stage_after settings m f g stage xs) (ended_turns ys)) ≤ c →
+      length (decides stage (ended_turns (xs ++ ys))) ≤ length (decides stage xs) + c
+  ended_both stage xs ys c true e few_later =
+      let parts = ap (λ acts. length (decides stage acts)) (ended_later xs ys e) ∙ ap (λ ds. length ds) (done_append settings m f g stage xs (ended_turns ys)) in
+      let sum = length-append (decides stage xs) (decides (stage_after settings m f g stage xs) (ended_turns ys)) in
+      omega (arith, parts, sum, few_later)
+  ended_both stage xs ys c false e few_later =
+      let first = ended_first xs in
+      let same = ap (λ acts. length (decides stage acts)) (ended_before xs ys e ∙ first.is) in
+      omega (arith, same, fewer stage first.n xs)
+
+  pub later : (found : List ℕ → Found (KeptView C)) (stage : Stage S C O) (kept : KeptView C) (xs ys : List Act) (image : Image) →
       datagrams xs ≡ said_in (decides stage xs) →
       At found (stage_after settings m f g stage xs) (kept_by kept (decides stage xs)) ys image → At found stage kept (xs ++ ys) image
   later found stage kept xs ys image said w =
@@ -227,6 +268,7 @@ module _ {S C O : Type 0} (settings : Settings) (m : MachineMeaning S C O) (f : 
       record {
         c = length ds + w.c;
         near = elim (w.near) [ inl e ↦ inl (omega (arith, e, size)) | inr e ↦ inr (omega (arith, e, size)) ];
+        ended = ended_both stage xs ys w.c (begins_turn ys) refl w.ended;
         opens = subst (λ (k : KeptView C). OpensAs found k image) (sym (ap (λ r. kept_by kept r) first ∙ kept_append kept ds (take w.c es))) w.opens;
         sent = (
           w.sent.0,
@@ -235,6 +277,13 @@ module _ {S C O : Type 0} (settings : Settings) (m : MachineMeaning S C O) (f : 
               ∙ (ap (λ r. said_in ds ++ r) w.sent.1 ∙ sym (ap said_in first ∙ said_append ds (take w.c es)))),
         );
       }
+
+  pub later_counts : (found : List ℕ → Found (KeptView C)) (stage : Stage S C O) (kept : KeptView C) (xs ys : List Act) (image : Image)
+      (said : datagrams xs ≡ said_in (decides stage xs))
+      (w : At found (stage_after settings m f g stage xs) (kept_by kept (decides stage xs)) ys image) →
+      (later found stage kept xs ys image said w).c ≡ length (decides stage xs) + w.c
+  unfolding later
+  later_counts found stage kept xs ys image said w = refl
 
   pub moments_grow : (found : List ℕ → Found (KeptView C)) (stage : Stage S C O) (kept : KeptView C) (disk : Disk) (xs ys : List Act) →
       Leaves settings m f g found stage kept disk xs → datagrams xs ≡ said_in (decides stage xs) →

@@ -1,5 +1,8 @@
 pub mod ActKinds
 pub mod Folds
+pub mod Ended
 pub mod Growing
 pub mod Turning
 pub mod Leaving
+pub mod Saved
+pub mod Waiting

@@ -1,5 +1,5 @@
 -- One turn: what was heard, and then store acts and what was said, by which a node between two turns does not move.
-use Rattle.std.proofs.Common.{◌≡◌, ℕ, ◌+◌, List, [], ◌∷◌, ◌++◌, refl, sym, ap, subst, ◌∙◌, arith, ◌⊎◌, inl, inr}
+use Rattle.std.proofs.Common.{◌≡◌, ℕ, ◌+◌, Bool, false, ◌||◌, if◌then◌else◌, List, [], ◌∷◌, ◌++◌, refl, sym, ap, subst, ◌∙◌, arith, ◌⊎◌, inl, inr}
 use Rattle.std.proofs.lemmas.List.{append-nil}
 use Rattle.disk.specs.Acts.{Act, Now, Took, Quiet, ReceiveFailed, Sent, SendFailed, Wrote, Cut, Synced, StoreFailed}
 use Rattle.disk.specs.DiskLaws.{Every, IsCutShort}
@@ -15,7 +15,7 @@ use Rattle.node_run.specs.Settings.{Settings, due}
 use Rattle.node_run.specs.declared.due.Due.{Due}
 use Rattle.node_run.specs.declared.due.Due.TheVariants.{Timeout, Wait}
 use Rattle.node_run.specs.declared.event.Event.TheVariants.{Tick}
-use Rattle.node_records.specs.Records.{Stores, IsNoFault, IsOfTurns, AreRecord, IsStopped, HearsAs, saves_of, store_acts}
+use Rattle.node_records.specs.Records.{Stores, IsNoFault, IsOfTurns, AreRecord, IsStopped, HearsAs, ended_turns, reads_clock, saves_of, store_acts}
 use Rattle.node_records.specs.RecordLaws.{Turns}
 use Rattle.node_records.proofs.ActKinds.{every_as, areas_faultless, areas_store, datagrams_append, hears_of_turns, hears_silent, hears_store, save_on_areas, says_faultless, says_of_turns, says_store, short_stores, store_acts_append, stores_of_turns, stores_silent, stores_store}
 use Rattle.node_records.proofs.Folds.{done_append, orderly_append, stage_append, turns_append}
@@ -205,8 +205,10 @@ module _ {S C O : Type 0} (settings : Settings) (m : MachineMeaning S C O) (f : 
   -- what a node hears
 
   abbrev hears_as : (stage next : Stage S C O) (acts : List Act) (done : List (Done C)) (count : ℕ) → Every Hears acts → Decides stage acts done count next →
+      decides stage (ended_turns acts) ≡ [] →
       HearsAs settings m f g stage acts done count next
-  hears_as stage next acts done count h r = record { hears = h; orderly = r.orderly; events = r.events; turns = r.turns; stands = r.stands }
+  hears_as stage next acts done count h r last =
+      record { hears = h; orderly = r.orderly; events = r.events; last = last; turns = r.turns; stands = r.stands }
 
   abbrev alone : (stage : Stage S C O) (act : Act) (taken : Step S C O) → goes stage act ≡ taken → IsOrderly settings m f g stage act →
       Decides stage (act ∷ []) (taken.done ++ []) (taken.turns + 0) taken.stage
@@ -217,28 +219,29 @@ module _ {S C O : Type 0} (settings : Settings) (m : MachineMeaning S C O) (f : 
 
   -- a turn that waits
   waits_then : (node : NodeView S C O) (time wait : ℕ) (act : Act) (taken : Step S C O) → due node.deadline time ≡ Wait wait → goes (Waiting node time) act ≡ taken →
-      Hears act → IsOrderly settings m f g (Waiting node time) act →
+      Hears act → reads_clock act ≡ false → IsOrderly settings m f g (Waiting node time) act →
       HearsAs settings m f g (Between node) (Now time ∷ act ∷ []) (taken.done ++ []) (0 + (taken.turns + 0)) taken.stage
-  waits_then node time wait act taken is e h o =
+  waits_then node time wait act taken is e h once o =
       hears_as (Between node) taken.stage (Now time ∷ act ∷ []) (taken.done ++ []) (0 + (taken.turns + 0)) (tt, (h, tt))
       (begins_by (Between node) taken.stage (Now time) (act ∷ []) (goes_to settings m f g (Waiting node time)) (taken.done ++ []) (taken.turns + 0)
       (clock node time (Wait wait) is) tt (alone (Waiting node time) act taken e o))
+      (ap (λ (b : Bool). decides (Between node) (if b || false then Now time ∷ [] else [])) once)
 
   pub turns_hear : Turns settings m f g
   turns_hear = record {
-    nothing = λ stage. record { hears = tt; orderly = tt; events = refl; turns = refl; stands = refl };
-    first = λ kept time. record { hears = (tt, tt); orderly = (tt, tt); events = refl; turns = refl; stands = refl };
+    nothing = λ stage. record { hears = tt; orderly = tt; events = refl; last = refl; turns = refl; stands = refl };
+    first = λ kept time. record { hears = (tt, tt); orderly = (tt, tt); events = refl; last = refl; turns = refl; stands = refl };
     timeout = λ node time is.
         let taken = takes settings m f g node time Tick in
         hears_as (Between node) taken.stage (Now time ∷ []) taken.done 1 (tt, tt)
-        (alone (Between node) (Now time) taken (clock node time Timeout is) tt);
+        (alone (Between node) (Now time) taken (clock node time Timeout is) tt) refl;
     event = λ node time wait from bytes event is e.
-        waits_then node time wait (Took wait from bytes) (takes settings m f g node time event) is (ap (λ o. takes_if settings m f g node time o) e) tt is;
+        waits_then node time wait (Took wait from bytes) (takes settings m f g node time event) is (ap (λ o. takes_if settings m f g node time o) e) tt refl is;
     no_event = λ node time wait from bytes is e.
-        waits_then node time wait (Took wait from bytes) (passes settings m f g node) is (ap (λ o. takes_if settings m f g node time o) e) tt is;
-    quiet = λ node time wait is. waits_then node time wait (Quiet wait) (passes settings m f g node) is refl tt is;
-    failed = λ node time wait is. waits_then node time wait (ReceiveFailed wait) (goes_to settings m f g Broken) is refl tt is;
+        waits_then node time wait (Took wait from bytes) (passes settings m f g node) is (ap (λ o. takes_if settings m f g node time o) e) tt refl is;
+    quiet = λ node time wait is. waits_then node time wait (Quiet wait) (passes settings m f g node) is refl tt refl is;
+    failed = λ node time wait is. waits_then node time wait (ReceiveFailed wait) (goes_to settings m f g Broken) is refl tt refl is;
     waits = λ node time wait is.
         hears_as (Between node) (Waiting node time) (Now time ∷ []) [] 0 (tt, tt)
-        (alone (Between node) (Now time) (goes_to settings m f g (Waiting node time)) (clock node time (Wait wait) is) tt);
+        (alone (Between node) (Now time) (goes_to settings m f g (Waiting node time)) (clock node time (Wait wait) is) tt) refl;
   }

@@ -1,5 +1,5 @@
 -- What a crash leaves at each moment of a turn, whole or cut short, and of turns one after the other.
-use Rattle.std.specs.Prelude.{◌≡◌, ℕ, true, List, [], ◌∷◌, ◌++◌, take, ◌⊎◌}
+use Rattle.std.specs.Prelude.{◌≡◌, ℕ, true, List, [], ◌∷◌, ◌++◌, length, take, ◌⊎◌}
 use Rattle.disk.specs.Acts.{Act}
 use Rattle.disk.specs.Disk.{Disk, Image, after, may_leave}
 use Rattle.disk.specs.DiskLaws.{Every, IsCutShort}
@@ -10,10 +10,12 @@ use Rattle.slots.specs.Turns.{Says, datagrams}
 use Rattle.slots.specs.TurnLaws.{Keeps, IsFront}
 use Rattle.vst_base.specs.Machines.{MachineMeaning}
 use Rattle.wire_fields.specs.Formats.{Format}
-use Rattle.node_run.specs.Runs.{Done, NodeView, Stage, Between, done_in, said_in, stage_after}
+use Rattle.node_run.specs.Runs.{Done, NodeView, Stage, Between, Waiting, done_in, said_in, stage_after}
 use Rattle.node_run.specs.Settings.{Settings}
-use Rattle.node_records.specs.Records.{Stores, HearsAs, kept_by}
-use Rattle.node_records.specs.Moments.{Leaves}
+use Rattle.node_acts.specs.StateActs.{state_acts}
+use Rattle.node_acts.specs.Stores.{StoreView}
+use Rattle.node_records.specs.Records.{Stores, HearsAs, kept_by, saves_of, store_acts, store_by}
+use Rattle.node_records.specs.Moments.{IsAt, Leaves, LeavesSaved}
 
 -- at each moment of these acts the areas open as the old state or the new one
 abbrev pub OpensAsEither : {K : Type 0} → (List ℕ → Found K) → K → K → Disk → List Act → Type 0
@@ -64,3 +66,36 @@ EventTurnsLeave {C} {O} S f g =
     Every Stores saves → Every Says said → IsFront (datagrams said) d.said → OpensAsEither found kept d.kept disk saves →
     (said ≡ []) ⊎ OpensThenAs found d.kept disk saves →
     Leaves settings m f g found stage kept disk (hs ++ (saves ++ said)) × (after disk (hs ++ (saves ++ said)) ≡ after disk saves)
+
+-- A turn that waits has decided no event: an image then opens as the state after all events, which are those of the turns before.
+abbrev pub WaitingTurnsLeave : {C O : Type 0} → Type 0 → Format C → Format O → Type 0
+WaitingTurnsLeave {C} {O} S f g =
+    (settings : Settings) (m : MachineMeaning S C O) (found : List ℕ → Found (KeptView C)) (stage : Stage S C O) (kept : KeptView C)
+    (acts : List Act) (image : Image) (node : NodeView S C O) (time : ℕ) → stage_after settings m f g stage acts ≡ Waiting node time →
+    (at : IsAt settings m f g found stage kept acts image) → at.c ≡ length (done_in settings m f g stage acts)
+
+-- The same three of whole turns, in which each event counts as soon as it is saved.
+abbrev pub SavesGrow : {C O : Type 0} → Type 0 → Format C → Format O → Type 0
+SavesGrow {C} {O} S f g =
+    (settings : Settings) (m : MachineMeaning S C O) (found : List ℕ → Found (KeptView C)) (stage : Stage S C O) (kept : KeptView C)
+    (store : StoreView) (disk : Disk) (xs ys : List Act) → LeavesSaved settings m f g found stage kept store disk xs →
+    datagrams xs ≡ said_in (done_in settings m f g stage xs) →
+    store_acts xs ≡ saves_of settings.stack f store (done_in settings m f g stage xs) →
+    LeavesSaved settings m f g found (stage_after settings m f g stage xs) (kept_by kept (done_in settings m f g stage xs))
+    (store_by settings.stack f store (done_in settings m f g stage xs)) (after disk xs) ys →
+    LeavesSaved settings m f g found stage kept store disk (xs ++ ys)
+
+abbrev pub QuietTurnsSave : {C O : Type 0} → Type 0 → Format C → Format O → Type 0
+QuietTurnsSave {C} {O} S f g =
+    (settings : Settings) (m : MachineMeaning S C O) (found : List ℕ → Found (KeptView C)) (stage next : Stage S C O) (kept : KeptView C)
+    (store : StoreView) (selector : ℕ) (disk : Disk) (count : ℕ) (hs : List Act) → HearsAs settings m f g stage hs [] count next →
+    Rests found kept selector disk → LeavesSaved settings m f g found stage kept store disk hs
+
+abbrev pub EventTurnsSave : {C O : Type 0} → Type 0 → Format C → Format O → Type 0
+EventTurnsSave {C} {O} S f g =
+    (settings : Settings) (m : MachineMeaning S C O) (found : List ℕ → Found (KeptView C)) (stage : Stage S C O) (kept : KeptView C)
+    (store : StoreView) (selector : ℕ) (disk : Disk) (count : ℕ) (node : NodeView S C O) (d : Done C) (hs saves said : List Act) →
+    HearsAs settings m f g stage hs (d ∷ []) count (Between node) → Rests found kept selector disk →
+    saves ≡ state_acts settings.stack f store d.kept → Every Stores saves → Every Says said → IsFront (datagrams said) d.said →
+    OpensAsEither found kept d.kept disk saves → OpensThenAs found d.kept disk saves →
+    LeavesSaved settings m f g found stage kept store disk (hs ++ (saves ++ said))

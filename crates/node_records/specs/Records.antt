@@ -1,6 +1,6 @@
 -- What the whole record of a node's device is: turn after turn what was heard, the save of each event, and then what it says.
-use Rattle.std.specs.Prelude.{◌≡◌, ℕ, ◌≤◌, List, [], ◌∷◌, ◌++◌}
-use Rattle.disk.specs.Acts.{Act, Began, BeginFailed, ReceiveFailed, Wrote, Cut, Synced, StoreFailed}
+use Rattle.std.specs.Prelude.{◌≡◌, ℕ, ◌≤◌, Bool, true, false, ◌||◌, List, [], ◌∷◌, ◌++◌, if◌then◌else◌}
+use Rattle.disk.specs.Acts.{Act, Began, BeginFailed, Now, ReceiveFailed, Wrote, Cut, Synced, StoreFailed}
 use Rattle.disk.specs.DiskLaws.{Every, IsCutShort}
 use Rattle.raft_types.specs.Keeping.{KeptView}
 use Rattle.slots.specs.Turns.{Hears, datagrams}
@@ -44,6 +44,20 @@ abbrev pub kept_by : {C : Type 0} → KeptView C → List (Done C) → KeptView 
 kept_by kept [] = kept
 kept_by kept (d ∷ done) = kept_by d.kept done
 
+-- A turn begins as the clock is read; whether one begins among these acts.
+abbrev pub reads_clock : Act → Bool
+reads_clock (Now ms) = true
+reads_clock act = false
+
+abbrev pub begins_turn : List Act → Bool
+begins_turn [] = false
+begins_turn (act ∷ acts) = reads_clock act || begins_turn acts
+
+-- those before the last turn began: the turns that have ended
+abbrev pub ended_turns : List Act → List Act
+ended_turns [] = []
+ended_turns (act ∷ acts) = if begins_turn acts then act ∷ ended_turns acts else []
+
 -- A device begins before the first turn, and in none.
 abbrev pub IsOfTurns : Act → Type 0
 IsOfTurns (Began at dir) = ⊥
@@ -76,10 +90,11 @@ module _ {S C O : Type 0} (settings : Settings) (m : MachineMeaning S C O) (f : 
     pub stored : IsCutShort (saves_of settings.stack f store (done_in settings m f g stage acts)) (store_acts acts)
     pub said : IsFront (datagrams acts) (said_in (done_in settings m f g stage acts))
 
-  -- The acts only hear: they decide these events and so many turns, and then the node stands there.
+  -- The acts only hear: they decide these events, none before the last turn, and so many turns, and then the node stands there.
   pub record HearsAs (stage : Stage S C O) (acts : List Act) (done : List (Done C)) (count : ℕ) (next : Stage S C O) : Type 0 where
     pub hears : Every Hears acts
     pub orderly : AreOrderly settings m f g stage acts
     pub events : done_in settings m f g stage acts ≡ done
+    pub last : done_in settings m f g stage (ended_turns acts) ≡ []
     pub turns : turns_in settings m f g stage acts ≡ count
     pub stands : stage_after settings m f g stage acts ≡ next

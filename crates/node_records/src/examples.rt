@@ -1,11 +1,12 @@
 ghost use Rattle.std.specs.Prelude.{◌≡◌, [], ◌∷◌, ◌++◌, codes, drop, take};
 ghost use Rattle.disk.specs.Acts.{Began, Cut, Now, Quiet, ReceiveFailed, SendFailed, Sent, StoreFailed, Sync, Synced, Wrote};
 ghost use Rattle.node_acts.specs.Examples.{knowing};
-ghost use Rattle.node_records.specs.Examples.{answer, answered, are_record, first, is_at, is_stopped, known, knows_then, leaves, refused_request, save, saves_then, two_events, voted};
-ghost use Rattle.node_records.specs.Records.{kept_by, store_acts};
+ghost use Rattle.node_records.specs.Examples.{answer, answered, are_record, first, is_at, is_saved_at, is_stopped, is_termed_at, known, knows_then, leaves, refused_request, save};
+ghost use Rattle.node_records.specs.Examples.{saved_events, saves_then, silent_turn, two_events, voted};
+ghost use Rattle.node_records.specs.Records.{ended_turns, kept_by, store_acts};
 ghost use Rattle.node_run.specs.Examples.{at_port, three_turns};
 
-/// What is folded over events, and the store acts among others.
+/// What is folded over events, the store acts among others, and the acts of the turns that have ended.
 #[tactic(auto, unfolding(wire_fields::specs::Bytes::number_bytes))]
 pub fn worked_folds()
     // The state is held already when the timer fires.
@@ -16,6 +17,12 @@ pub fn worked_folds()
     ensures kept_still { kept_by first [] ≡ first }
     ensures stores { store_acts (Now 0 ∷ Wrote 0 9 (7 ∷ []) ∷ Cut 0 3 ∷ answered ∷ StoreFailed (Sync 1) ∷ ReceiveFailed 5 ∷ Synced 2 ∷ []) ≡
         Wrote 0 9 (7 ∷ []) ∷ Cut 0 3 ∷ StoreFailed (Sync 1) ∷ Synced 2 ∷ [] }
+    ensures none_saved { saved_events two_events 3 ≡ 0 }
+    // The timer's event has nothing to save, so the last store act of the vote saves both.
+    ensures both_saved { saved_events two_events 4 ≡ 2 }
+    ensures ended { ended_turns three_turns ≡ take 5 three_turns }
+    ensures none_ended { ended_turns (Now 0 ∷ []) ≡ [] }
+    ensures no_acts_ended { ended_turns [] ≡ [] }
 {}
 
 /// Records, and lists of acts that are none: of a turn less or more, with a write too much, a save or a datagram that is missing, one
@@ -54,7 +61,8 @@ pub fn worked_stops()
 {}
 
 /// What a crash may leave at moments of these turns: before the vote was heard the first state, and from its answer on the vote. A
-/// request that a node refuses keeps nothing that is new.
+/// request that a node refuses keeps nothing that is new. Once the next turn has begun, a crash leaves the event before it, whether this
+/// said anything or not; and in a whole turn as soon as its save is done.
 #[tactic(auto, unfolding(wire_fields::specs::Bytes::number_bytes, wire_fields::specs::Bytes::number_in, wire_fields::specs::Bytes::has_bytes, wire_fields::specs::Bytes::read_number))]
 pub fn worked_moments()
     ensures before { is_at (take 6 three_turns) [] }
@@ -66,4 +74,12 @@ pub fn worked_moments()
     ensures answered_before_the_save { is_at (three_turns ++ answered ∷ []) [] → ⊥ }
     ensures answered_too_soon { leaves (three_turns ++ answered ∷ save) → ⊥ }
     ensures refused { leaves refused_request }
+    ensures silent { is_termed_at silent_turn (1 ∷ []) }
+    ensures silent_first { is_termed_at silent_turn [] }
+    ensures the_next_turn { is_termed_at (silent_turn ++ Now 0 ∷ []) (1 ∷ []) }
+    ensures saved { is_saved_at silent_turn (1 ∷ []) }
+    ensures saved_first { is_saved_at silent_turn [] → ⊥ }
+    ensures in_the_save { is_saved_at (take 6 silent_turn) (1 ∷ []) }
+    ensures in_the_save_first { is_saved_at (take 6 silent_turn) [] }
+    ensures the_next_turn_first { is_termed_at (silent_turn ++ Now 0 ∷ []) [] → ⊥ }
 {}

@@ -7,5 +7,8 @@ mod moments;
 mod records;
 
 pub use examples::{worked_folds, worked_moments, worked_records, worked_stops};
-pub use moments::{event_turns_leave, moments_grow, quiet_turns_leave, saves_open_as_either};
+pub use moments::{
+    event_turns_leave, moments_grow, quiet_turns_leave, saved_events_count, saves_open_as_either,
+    waiting_turns_leave,
+};
 pub use records::{fault_turns_are_orderly, records_grow, turn_is_record, turns_hear};

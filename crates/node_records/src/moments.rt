@@ -1,4 +1,5 @@
-ghost use Rattle.node_records.specs.MomentLaws.{EventTurnsLeave, KeepsIsSaving, MomentsGrow, QuietTurnsLeave, WholeIsCutShort};
+ghost use Rattle.node_records.specs.MomentLaws.{EventTurnsLeave, EventTurnsSave, KeepsIsSaving, MomentsGrow, QuietTurnsLeave, QuietTurnsSave, SavesGrow};
+ghost use Rattle.node_records.specs.MomentLaws.{WaitingTurnsLeave, WholeIsCutShort};
 
 use wire_messages::Wire;
 
@@ -24,4 +25,22 @@ pub fn quiet_turns_leave<S, C: Wire, O: Wire>()
 /// soon as a datagram went out.
 pub fn event_turns_leave<S, C: Wire, O: Wire>()
     ensures { EventTurnsLeave S C.format O.format }
+{}
+
+/// While a turn waits for a datagram, a crash leaves the state after all events.
+pub fn waiting_turns_leave<S, C: Wire, O: Wire>()
+    ensures { WaitingTurnsLeave S C.format O.format }
+{}
+
+/// Of whole turns a crash leaves the state after no fewer events than are saved, where an event is by the last store act of its save,
+/// or as it comes where that has none.
+pub fn saved_events_count<S, C: Wire, O: Wire>()
+    // A turn without an event.
+    ensures quiet { QuietTurnsSave S C.format O.format }
+
+    // One with an event.
+    ensures event { EventTurnsSave S C.format O.format }
+
+    // Turns one after the other.
+    ensures grow { SavesGrow S C.format O.format }
 {}
