@@ -4,17 +4,20 @@ use node_device::Device;
 use node_device_real::RealDevice;
 use outside::Begun;
 use std::alloc::AllocError;
-use std::fs;
+use std::fs::{self, File};
 use std::io::{self, ErrorKind};
 use std::os::fd::AsRawFd;
 use std::os::unix::fs::{MetadataExt, symlink};
 use std::os::unix::net::UnixListener;
 use std::path::PathBuf;
-use std::rt::HostRuntime;
+use std::rt::{Clock, Files, HostRuntime, Net};
 use std::test::Fail;
 
 // What beginning there comes to.
-fn begins(rt: &HostRuntime, folder: &str) -> io::Result<Begun> {
+fn begins<R: Files<File = File> + Net + Clock + AllocGlobal>(
+    rt: &R,
+    folder: &str,
+) -> io::Result<Begun> {
     let [at, _] = free_addresses(rt)?;
     Ok(RealDevice::new(rt).begin(at, folder))
 }

@@ -23,16 +23,13 @@ const SENT: [u8; 43] = [
     0x00, 0x00, 0x00, 0x00, 0x00, 0x00, 0x00, 0x00, 0x00, 0x00, 0x00,
 ];
 
-// What a receive comes to, and the front of the room after it, which was filled with bars.
-fn receive<D: Device>(device: &mut D, wait_ms: u32) -> (Received, [u8; 48])
+// Whether a receive comes to this, and leaves these at the front of its room, which was filled with bars.
+fn receives<D: Device>(device: &mut D, wait_ms: u32, wanted: Received, front: &[u8]) -> bool
     requires { D.begun device.old ≡ true }
     ensures { D.begun device.new ≡ true }
 {
     let mut room = [b'|'; RECEIVE_BUFFER];
-    let received = device.receive(wait_ms, &mut room);
-    let mut front = [0; 48];
-    front.copy_from_slice(&room[..48]);
-    (received, front)
+    device.receive(wait_ms, &mut room) == wanted && room.starts_with(front)
 }
 
 // What a write of two bytes at the place 3 of an area, a sync and a cut to 4 come to.
@@ -74,7 +71,7 @@ fn time_passes<D: Device>(device: &mut D) -> bool
 {
     let start = device.now();
     for _ in 0..1_000 {
-        if receive(device, 10).0 != Received::Quiet {
+        if !receives(device, 10, Received::Quiet, b"") {
             return false;
         }
         if device.now() > start {
@@ -95,9 +92,8 @@ fn comes<L: Device, R: Device>(left: &mut L, right: &mut R, ends: [Address; 2]) 
     if left.send(to, &SENT) != Shipped::Sent {
         return false;
     }
-    let mut wanted = [b'|'; 48];
-    wanted[..43].copy_from_slice(&SENT);
-    receive(right, 10_000) == (Received::Datagram { from, len: 43 }, wanted)
+    let wanted = Received::Datagram { from, len: 43 };
+    receives(right, 10_000, wanted, &SENT)
 }
 
 // Whether what is stored in each area is read again, up to the area's end.
@@ -139,7 +135,7 @@ fn datagrams_time_and_areas_are_those_of_the_system(rt: HostRuntime) -> Result<(
     let mut right = begun(&rt, ends[1], other.as_str()).expect(&rt, "begins");
     assert!(rt; comes(&mut left, &mut right, ends));
     assert!(rt; time_passes(&mut right));
-    assert!(rt; receive(&mut right, 0) == (Received::Quiet, [b'|'; 48]));
+    assert!(rt; receives(&mut right, 0, Received::Quiet, b"|||"));
     assert!(rt; keeps(&mut left));
     assert!(rt; are_stored(&rt, &folder)?);
     assert!(rt; left.faults() == NO_FAULTS && right.faults() == NO_FAULTS);
