@@ -1,4 +1,5 @@
--- What each call leaves of a real device: the same, or one fault more of its kind. Only beginning wants memory.
+-- What each call leaves of a real device: the same, or one fault more of its kind. Only beginning wants memory. A sync that failed stops
+-- the store calls until the device begins anew.
 use Rattle.std.specs.Prelude.{◌≡◌, true, false}
 use Rattle.outside.specs.Counting.{counted}
 use Rattle.outside.specs.declared.device.Begun.{Begun}
@@ -15,12 +16,12 @@ use Rattle.node_device_real.specs.RealViews.{RealView}
 
 -- a device that has not begun and has no fault
 abbrev pub unbegun : RealView
-unbegun = record { begun = false; faults = record { begin = 0; receive = 0; store = 0; send = 0 } }
+unbegun = record { begun = false; sync_failed = false; faults = record { begin = 0; receive = 0; store = 0; send = 0 }; wants = 0 }
 
 abbrev pub BeginLeaves : RealView → RealView → Begun → Type 0
-BeginLeaves old new begun.Ready = new ≡ record old { begun = true }
+BeginLeaves old new begun.Ready = new ≡ record old { begun = true; sync_failed = false }
 BeginLeaves old new begun.Failed = new ≡ record old { faults = record old.faults { begin = counted old.faults.begin } }
-BeginLeaves old new begun.Memory = new ≡ old
+BeginLeaves old new begun.Memory = new ≡ record old { wants = counted old.wants }
 
 abbrev pub ReceiveLeaves : RealView → RealView → Received → Type 0
 ReceiveLeaves old new (received.Datagram from len) = new ≡ old
@@ -46,3 +47,8 @@ abbrev pub StoreLeaves : RealView → RealView → Stored → Type 0
 StoreLeaves old new stored.Done = new ≡ old
 StoreLeaves old new stored.Failed = new ≡ store_failed old
 StoreLeaves old new stored.Memory = ⊥
+
+abbrev pub SyncLeaves : RealView → RealView → Stored → Type 0
+SyncLeaves old new stored.Done = new ≡ old
+SyncLeaves old new stored.Failed = new ≡ record (store_failed old) { sync_failed = true }
+SyncLeaves old new stored.Memory = ⊥

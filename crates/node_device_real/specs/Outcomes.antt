@@ -1,5 +1,5 @@
 -- What each call comes to, by what the system answered.
-use Rattle.std.specs.Prelude.{ℕ, ◌==◌, if◌then◌else◌, Result, Ok, Err}
+use Rattle.std.specs.Prelude.{ℕ, ◌==◌, if◌then◌else◌, Option, None, Some, Result, Ok, Err}
 use Rattle.std.specs.IoError.{error_kind}
 use Rattle.std.specs.Net.Addr.{ipv4_octets}
 use Rattle.std.specs.Net.Socket.{v4_ip, v4_port}
@@ -44,9 +44,14 @@ abbrev pub send_outcome : ℕ → Result ℕ Error → Shipped
 send_outcome len (Ok n) = if n == len then shipped.Sent else shipped.Failed
 send_outcome len (Err fault) = shipped.Failed
 
-abbrev pub read_outcome : Result ℕ Error → AreaRead
-read_outcome (Ok n) = read.Got n
-read_outcome (Err fault) = read.Failed
+-- a read that a signal came before is made again
+abbrev pub read_fault : ErrorKind → Option AreaRead
+read_fault Interrupted = None
+read_fault kind = Some read.Failed
+
+abbrev pub read_outcome : Result ℕ Error → Option AreaRead
+read_outcome (Ok n) = Some (read.Got n)
+read_outcome (Err fault) = read_fault (error_kind fault)
 
 abbrev pub store_outcome : {T : Type 0} → Result T Error → Stored
 store_outcome (Ok done) = stored.Done

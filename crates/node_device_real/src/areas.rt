@@ -2,11 +2,13 @@ ghost use Rattle.std.specs.Prelude.{◌≡◌, ◌<◌, ◌≤◌, length, IfOk}
 ghost use Rattle.node_device_real.specs.Outcomes.{read_outcome, store_outcome};
 ghost use Rattle.node_device_real.specs.Answers.{ReadsInto, StoresOrFails};
 
+use crate::looks::{Look, are_areas};
 use node_device::{AreaRead, Stored};
 use std::alloc::{AllocError, Global};
-use std::fs::{File, OpenOptions};
-use std::io;
-use std::os::unix::fs::FileExt;
+use std::fs::{self, File, OpenOptions};
+use std::io::{self, ErrorKind};
+use std::os::fd::AsRawFd;
+use std::os::unix::fs::{FileExt, OpenOptionsExt};
 use std::path::{Path, PathBuf};
 use std::rt::Files;
 
@@ -30,38 +32,54 @@ impl AreaPaths {
     }
 }
 
-/// The open files of the areas.
+/// The open files of the areas, and the directory, which stays locked as long as it is open.
 #[derive(Drop)]
 pub(crate) struct AreaFiles {
+    dir: File,
     slot0: File,
     slot1: File,
     selector: File,
 }
 
 impl AreaFiles {
-    /// Opens the files of an existing directory, and makes those that are missing. The directory is opened first, so that nothing is made
-    /// where there is none, and synced last, so that a file that was made is there after a crash too.
+    /// Locks an existing directory, opens its files, and makes those that are missing. The directory is opened first, so that nothing is
+    /// made where there is none, and synced before the files are used, so that one that was made is there after a crash too.
     pub(crate) fn open<R: Files<File = File>>(
         files: &R,
         dir: &str,
         paths: &AreaPaths,
     ) -> io::Result<Self> {
-        let dir = File::open(files, dir)?;
+        let dir = lock(files, dir)?;
+        let slot0 = Look::at(files, &paths.slot0)?;
+        let slot1 = Look::at(files, &paths.slot1)?;
+        let selector = Look::at(files, &paths.selector)?;
+        if !are_areas(slot0, slot1, selector) {
+            return Err(ErrorKind::Unsupported.into());
+        }
         let areas = AreaFiles {
-            slot0: open_area(files, &paths.slot0)?,
-            slot1: open_area(files, &paths.slot1)?,
-            selector: open_area(files, &paths.selector)?,
+            dir,
+            slot0: open_area(files, &paths.slot0, slot0.is_none())?,
+            slot1: open_area(files, &paths.slot1, slot1.is_none())?,
+            selector: open_area(files, &paths.selector, selector.is_none())?,
         };
-        dir.sync_all()?;
+        areas.dir.sync_all()?;
+        settle(&areas.slot0)?;
+        settle(&areas.slot1)?;
+        settle(&areas.selector)?;
         Ok(areas)
     }
 
-    /// Reads an area from a place on, in one call of the system.
+    /// Reads an area from a place on, in one call of the system, which is made again where a signal came first.
     pub(crate) fn read_at(&self, area: u8, at: u64, buf: &mut [u8]) -> AreaRead
         requires { area < 3 }
         ensures { ReadsInto buf.new result }
     {
-        read_outcome(FileExt::read_at(self.file(area), buf, at))
+        for _ in 0..u64::MAX {
+            if let Some(read) = read_outcome(FileExt::read_at(self.file(area), buf, at)) {
+                return read;
+            }
+        }
+        AreaRead::Failed
     }
 
     /// Writes all the bytes into an area at a place.
@@ -99,21 +117,55 @@ impl AreaFiles {
     }
 }
 
-fn open_area<R: Files<File = File>>(files: &R, path: &PathBuf) -> io::Result<File> {
-    OpenOptions::new()
-        .read(true)
-        .write(true)
-        .create(true)
-        .open(files, path)
+// Opens and locks a directory. What is none is not opened, since the system may wait for another process at a pipe.
+fn lock<R: Files<File = File>>(files: &R, dir: &str) -> io::Result<File> {
+    if !fs::metadata(files, dir)?.is_dir() {
+        return Err(ErrorKind::NotADirectory.into());
+    }
+    let dir = File::open(files, dir)?;
+    dir.try_lock()?;
+    Ok(dir)
 }
 
-// What a read comes to that the system answered so.
-fn read_outcome(got: io::Result<usize>) -> AreaRead
+// Opens the file of an area, or makes one that nobody else reads.
+fn open_area<R: Files<File = File>>(
+    files: &R,
+    path: &PathBuf,
+    is_missing: bool,
+) -> io::Result<File> {
+    let mut options = OpenOptions::new();
+    options.read(true).write(true);
+    if is_missing {
+        options.create_new(true).mode(0o600);
+    }
+    let file = options.open(files, path)?;
+    // What is meant for a standard stream that was closed must not land in an area.
+    if file.as_raw_fd() <= 2 {
+        return file.try_clone();
+    }
+    Ok(file)
+}
+
+// Syncs a file, and drops the system's pages of it: where a sync of an earlier process failed they may be other than what the disk has.
+fn settle(file: &File) -> io::Result<()> {
+    file.sync_all()?;
+    let advised = libc::posix_fadvise(file.as_raw_fd(), 0, 0, libc::POSIX_FADV_DONTNEED);
+    if advised != 0 {
+        return Err(io::Error::from_raw_os_error(advised));
+    }
+    Ok(())
+}
+
+// What a read comes to that the system answered so: nothing yet, where a signal came first.
+fn read_outcome(got: io::Result<usize>) -> Option<AreaRead>
     ensures { result ≡ read_outcome got }
 {
     match got {
-        Ok(count) => AreaRead::Got(count),
-        Err(_) => AreaRead::Failed,
+        Ok(count) => Some(AreaRead::Got(count)),
+        Err(fault) => match fault.kind() {
+            ErrorKind::Interrupted => None,
+            _ => Some(AreaRead::Failed),
+        },
     }
 }
 

@@ -1,12 +1,14 @@
-ghost use Rattle.std.specs.Prelude.{◌≡◌, ◌<◌, true, [], ◌∷◌, OnSome};
+ghost use Rattle.std.specs.Prelude.{◌≡◌, ◌<◌, ◌≤◌, true, not, [], ◌∷◌, length, is_some, OnSome};
 ghost use Rattle.disk.specs.Acts.{WriteAt, CutTo, Sync, Now, Wrote, Cut, Synced};
 ghost use Rattle.node_device.specs.Faults.{NoFewer, BeginCounts, ReceiveCounts, SendCounts, ReadCounts, StoreCounts};
-ghost use Rattle.node_device.specs.Telling.{Did, OthersStay};
+ghost use Rattle.node_device.specs.Telling.{Did, OthersStay, TellsOn};
 ghost use Rattle.node_device.specs.Outcomes.{Begins, Stores, Reads, Sends, Receives};
+ghost use Rattle.node_device.specs.Wants.{Wants, begin_wants, receive_wants, send_wants, read_wants, store_wants};
+ghost use Rattle.node_device.specs.declared.limits.TheConstants.{RECEIVE_BUFFER};
 ghost use Rattle.node_device_real.specs.RealViews.{untold, faults_of};
 ghost use Rattle.node_device_real.specs.Outcomes.{begin_outcome};
 ghost use Rattle.node_device_real.specs.Answers.{StoresOrFails};
-ghost use Rattle.node_device_real.specs.Leaving.{unbegun, BeginLeaves, ReceiveLeaves, SendLeaves, ReadLeaves, StoreLeaves};
+ghost use Rattle.node_device_real.specs.Leaving.{unbegun, BeginLeaves, ReceiveLeaves, SendLeaves, ReadLeaves, StoreLeaves, SyncLeaves};
 
 use crate::areas::{AreaFiles, AreaPaths};
 use crate::socket::Socket;
@@ -52,13 +54,21 @@ impl Opened {
 
 /// A node's device over the system: a UDP socket, the files `slot0`, `slot1` and `selector` of a directory that exists, and milliseconds
 /// of the monotonic clock since it began. It makes files that are missing, and no directory. Each error is a fault of its kind, but a
-/// timeout and a signal at a receive, which are quiet. It tells no acts and no areas, and wants memory only where it begins. A beginning
-/// that fails leaves nothing open but what was open before; one that succeeds closes that.
+/// timeout and a signal at a receive, which are quiet. It tells no acts and no areas, and wants memory only where it begins.
+///
+/// It locks the directory as long as that is open. A beginning fails at a port that is taken, at a directory that is locked, at a file that
+/// is no regular one with one name, and where the selector is missing beside a slot that has bytes. It leaves nothing open but what was
+/// open before; one that succeeds closes that. So a device finds its own port and directory taken: it begins again at others alone.
+///
+/// After a sync that failed it is not known what the files hold: each store call then fails, until the device begins anew.
 #[derive(Drop)]
 pub struct RealDevice<'a, R> {
     rt: &'a R,
     opened: Option<Opened>,
+    // Whether a sync has failed since it began.
+    sync_failed: bool,
     counts: Counts,
+    wants: u64,
 }
 
 impl<'a, R> Model for RealDevice<'a, R> {
@@ -67,7 +77,12 @@ impl<'a, R> Model for RealDevice<'a, R> {
 
     ghost Value = { RealView };
 
-    ghost view = { λ device. record { begun = is_some device.opened; faults = faults_of device.counts } };
+    ghost view = { λ device. record {
+      begun = is_some device.opened;
+      sync_failed = device.sync_failed;
+      faults = faults_of device.counts;
+      wants = device.wants;
+    } };
 }
 
 impl<'a, R> RealDevice<'a, R> {
@@ -78,12 +93,14 @@ impl<'a, R> RealDevice<'a, R> {
         RealDevice {
             rt,
             opened: None,
+            sync_failed: false,
             counts: Counts {
                 begin: 0,
                 receive: 0,
                 store: 0,
                 send: 0,
             },
+            wants: 0,
         }
     }
 
@@ -103,6 +120,18 @@ impl<'a, R> RealDevice<'a, R> {
         }
     }
 
+    // The areas, unless a sync has failed.
+    fn areas(&self) -> Option<&AreaFiles>
+        requires { self.now.begun ≡ true }
+        ensures { is_some result ≡ not self.now.sync_failed }
+    {
+        if self.sync_failed {
+            None
+        } else {
+            Some(&self.opened().areas)
+        }
+    }
+
     // What beginning comes to that the system answered so.
     fn begin_outcome(&mut self, opened: io::Result<Opened>) -> Begun
         ensures outcome { result ≡ begin_outcome opened }
@@ -112,6 +141,7 @@ impl<'a, R> RealDevice<'a, R> {
         match opened {
             Ok(opened) => {
                 self.opened = Some(opened);
+                self.sync_failed = false;
                 Begun::Ready
             }
             Err(_) => {
@@ -142,13 +172,17 @@ impl<'a, R: Files<File = File> + Net + Clock + AllocGlobal> Device for RealDevic
 
     ghost faults = { λ device. device.faults };
 
+    ghost wants = { λ device. device.wants };
+
     fn begin(&mut self, at: Address, dir: &str) -> Begun
         ensures outcome { Begins self.old.begun self.new.begun untold untold at dir.now result }
         ensures causes { BeginCounts self.old.faults self.new.faults result }
         ensures counts { NoFewer self.old.faults self.new.faults }
+        ensures wants { Wants (begin_wants result) self.old.wants self.new.wants }
         ensures leaves { BeginLeaves self.old self.new result }
     {
         let Ok(paths) = AreaPaths::within(self.rt.alloc(), dir) else {
+            self.wants = self.wants.saturating_add(1);
             return Begun::Memory;
         };
         let opened = Opened::open(self.rt, at, dir, &paths);
@@ -158,8 +192,10 @@ impl<'a, R: Files<File = File> + Net + Clock + AllocGlobal> Device for RealDevic
     fn now(&mut self) -> u64
         requires { self.old.begun ≡ true }
         ensures outcome { OnSome untold (Did untold untold (Now result ∷ [])) }
+        ensures tells { TellsOn 1 untold untold }
         ensures begun { self.new.begun ≡ true }
         ensures causes { self.new.faults ≡ self.old.faults }
+        ensures wants { self.new.wants ≡ self.old.wants }
         ensures leaves { self.new ≡ self.old }
     {
         match &mut self.opened {
@@ -169,14 +205,19 @@ impl<'a, R: Files<File = File> + Net + Clock + AllocGlobal> Device for RealDevic
     }
 
     fn receive(&mut self, wait_ms: u32, buf: &mut [u8]) -> Received
-        requires { self.old.begun ≡ true }
+        requires begun { self.old.begun ≡ true }
+        requires room { RECEIVE_BUFFER ≤ length buf.old }
         ensures outcome { Receives wait_ms buf.new untold untold result }
         ensures begun { self.new.begun ≡ true }
         ensures causes { ReceiveCounts self.old.faults self.new.faults result }
         ensures counts { NoFewer self.old.faults self.new.faults }
+        ensures wants { Wants (receive_wants result) self.old.wants self.new.wants }
         ensures leaves { ReceiveLeaves self.old self.new result }
     {
-        let received = self.opened().socket.receive(wait_ms, buf);
+        let received = match &mut self.opened {
+            Some(opened) => opened.socket.receive(wait_ms, buf),
+            None => unreachable!(),
+        };
         if let Received::Failed = received {
             self.counts.receive = self.counts.receive.saturating_add(1);
         }
@@ -189,6 +230,7 @@ impl<'a, R: Files<File = File> + Net + Clock + AllocGlobal> Device for RealDevic
         ensures begun { self.new.begun ≡ true }
         ensures causes { SendCounts self.old.faults self.new.faults result }
         ensures counts { NoFewer self.old.faults self.new.faults }
+        ensures wants { Wants (send_wants result) self.old.wants self.new.wants }
         ensures leaves { SendLeaves self.old self.new result }
     {
         let shipped = self.opened().socket.send(to, bytes);
@@ -205,9 +247,14 @@ impl<'a, R: Files<File = File> + Net + Clock + AllocGlobal> Device for RealDevic
         ensures begun { self.new.begun ≡ true }
         ensures causes { ReadCounts self.old.faults self.new.faults result }
         ensures counts { NoFewer self.old.faults self.new.faults }
+        ensures wants { Wants (read_wants result) self.old.wants self.new.wants }
+        ensures stopped { self.old.sync_failed ≡ true → result ≡ AreaRead.Failed }
         ensures leaves { ReadLeaves self.old self.new result }
     {
-        let read = self.opened().areas.read_at(area, at, buf);
+        let read = match self.areas() {
+            Some(areas) => areas.read_at(area, at, buf),
+            None => AreaRead::Failed,
+        };
         if let AreaRead::Failed = read {
             self.counts.store = self.counts.store.saturating_add(1);
         }
@@ -222,9 +269,14 @@ impl<'a, R: Files<File = File> + Net + Clock + AllocGlobal> Device for RealDevic
         ensures begun { self.new.begun ≡ true }
         ensures causes { StoreCounts self.old.faults self.new.faults result }
         ensures counts { NoFewer self.old.faults self.new.faults }
+        ensures wants { Wants (store_wants result) self.old.wants self.new.wants }
+        ensures stopped { self.old.sync_failed ≡ true → result ≡ Stored.Failed }
         ensures leaves { StoreLeaves self.old self.new result }
     {
-        let stored = self.opened().areas.write_at(area, at, bytes);
+        let stored = match self.areas() {
+            Some(areas) => areas.write_at(area, at, bytes),
+            None => Stored::Failed,
+        };
         self.counted(stored)
     }
 
@@ -236,9 +288,14 @@ impl<'a, R: Files<File = File> + Net + Clock + AllocGlobal> Device for RealDevic
         ensures begun { self.new.begun ≡ true }
         ensures causes { StoreCounts self.old.faults self.new.faults result }
         ensures counts { NoFewer self.old.faults self.new.faults }
+        ensures wants { Wants (store_wants result) self.old.wants self.new.wants }
+        ensures stopped { self.old.sync_failed ≡ true → result ≡ Stored.Failed }
         ensures leaves { StoreLeaves self.old self.new result }
     {
-        let stored = self.opened().areas.cut(area, len);
+        let stored = match self.areas() {
+            Some(areas) => areas.cut(area, len),
+            None => Stored::Failed,
+        };
         self.counted(stored)
     }
 
@@ -250,9 +307,17 @@ impl<'a, R: Files<File = File> + Net + Clock + AllocGlobal> Device for RealDevic
         ensures begun { self.new.begun ≡ true }
         ensures causes { StoreCounts self.old.faults self.new.faults result }
         ensures counts { NoFewer self.old.faults self.new.faults }
-        ensures leaves { StoreLeaves self.old self.new result }
+        ensures wants { Wants (store_wants result) self.old.wants self.new.wants }
+        ensures stopped { self.old.sync_failed ≡ true → result ≡ Stored.Failed }
+        ensures leaves { SyncLeaves self.old self.new result }
     {
-        let stored = self.opened().areas.sync(area);
+        let stored = match self.areas() {
+            Some(areas) => areas.sync(area),
+            None => Stored::Failed,
+        };
+        if let Stored::Failed = stored {
+            self.sync_failed = true;
+        }
         self.counted(stored)
     }
 }

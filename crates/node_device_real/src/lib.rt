@@ -6,8 +6,9 @@
 mod areas;
 mod device;
 mod examples;
+mod looks;
 mod socket;
 mod stopwatch;
 
 pub use device::{Counts, RealDevice};
-pub use examples::{worked_answers, worked_leaving};
+pub use examples::{worked_answers, worked_leaving, worked_looks};

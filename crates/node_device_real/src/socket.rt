@@ -1,4 +1,4 @@
-ghost use Rattle.std.specs.Prelude.{◌≡◌, ◌≤◌, length, IfOk};
+ghost use Rattle.std.specs.Prelude.{◌≡◌, ◌≤◌, length, Some, IfOk, IsOk};
 ghost use Rattle.node_device_real.specs.Outcomes.{receive_outcome, send_outcome};
 ghost use Rattle.node_device_real.specs.Answers.{ReceivesInto, SendsOrFails};
 
@@ -8,19 +8,31 @@ use std::io::{self, ErrorKind};
 use std::net::{Ipv4Addr, Net, SocketAddr, SocketAddrV4, UdpSocket};
 use std::time::Duration;
 
+// How many milliseconds a send waits for room in the system's buffer. After that the datagram is lost.
+const SEND_WAIT_MS: u64 = 100;
+
 /// A UDP socket that is bound to an IPv4 address and connected to none.
 #[derive(Drop)]
-pub(crate) struct Socket(UdpSocket);
+pub(crate) struct Socket {
+    socket: UdpSocket,
+    // How long it waits at a receive, where that was set.
+    wait_ms: Option<u32>,
+}
 
 impl Socket {
     /// A socket that listens at the address.
     pub(crate) fn bind<R: Net>(net: &R, at: Address) -> io::Result<Self> {
-        Ok(Socket(UdpSocket::bind(net, socket_address(at))?))
+        let socket = UdpSocket::bind(net, socket_address(at))?;
+        socket.set_write_timeout(Some(Duration::from_millis(SEND_WAIT_MS)))?;
+        Ok(Socket {
+            socket,
+            wait_ms: None,
+        })
     }
 
     /// Waits at most so many milliseconds for a datagram, which is cut to the buffer. An error that a send left behind is a failed
     /// receive; the system leaves none at a socket that is not connected.
-    pub(crate) fn receive(&self, wait_ms: u32, buf: &mut [u8]) -> Received
+    pub(crate) fn receive(&mut self, wait_ms: u32, buf: &mut [u8]) -> Received
         ensures { ReceivesInto buf.new result }
     {
         receive_outcome(self.take(wait_ms, buf))
@@ -30,24 +42,32 @@ impl Socket {
     pub(crate) fn send(&self, to: Address, bytes: &[u8]) -> Shipped
         ensures { SendsOrFails result }
     {
-        send_outcome(bytes.len(), self.0.send_to(bytes, socket_address(to)))
+        send_outcome(bytes.len(), self.socket.send_to(bytes, socket_address(to)))
     }
 
-    fn take(&self, wait_ms: u32, buf: &mut [u8]) -> io::Result<(usize, SocketAddr)>
+    fn take(&mut self, wait_ms: u32, buf: &mut [u8]) -> io::Result<(usize, SocketAddr)>
         ensures { IfOk result (λ taken. taken.0 ≤ length buf.new) }
     {
         self.wait_at_most(wait_ms)?;
-        self.0.recv_from(buf)
+        self.socket.recv_from(buf)
     }
 
     // A wait of 0 is the mode of a socket that never waits, in which a send does not wait for room either: a timeout of 0 is refused, and
     // the system rounds the least one up to some milliseconds.
-    fn wait_at_most(&self, wait_ms: u32) -> io::Result<()> {
-        self.0.set_nonblocking(wait_ms == 0)?;
+    fn wait_at_most(&mut self, wait_ms: u32) -> io::Result<()>
+        ensures { IsOk result → self.new.wait_ms ≡ Some wait_ms }
+    {
+        if self.wait_ms == Some(wait_ms) {
+            return Ok(());
+        }
+        // Where it cannot be set, it is not known.
+        self.wait_ms = None;
+        self.socket.set_nonblocking(wait_ms == 0)?;
         if wait_ms > 0 {
             let wait = Duration::from_millis(u64::from(wait_ms));
-            self.0.set_read_timeout(Some(wait))?;
+            self.socket.set_read_timeout(Some(wait))?;
         }
+        self.wait_ms = Some(wait_ms);
         Ok(())
     }
 }

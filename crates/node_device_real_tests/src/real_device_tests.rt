@@ -1,13 +1,13 @@
-ghost use Rattle.std.specs.Prelude.{◌≡◌, ◌<◌, true, IfSome};
+ghost use Rattle.std.specs.Prelude.{◌≡◌, ◌<◌, true};
 
-use node_device::{AreaRead, Device, Received, Shipped, Stored};
+use crate::places::{begun, empty_folder, free_addresses};
+use node_device::{AreaRead, Device, RECEIVE_BUFFER, Received, Shipped, Stored};
 use node_device_real::{Counts, RealDevice};
 use outside::{Address, Begun};
-use std::fs::File;
+use std::fs;
 use std::path::PathBuf;
-use std::rt::{Clock, Env, Files, Net};
+use std::rt::Files;
 use std::test::Fail;
-use std::{env, fs, io};
 
 const NO_FAULTS: Counts = Counts {
     begin: 0,
@@ -23,45 +23,13 @@ const SENT: [u8; 43] = [
     0x00, 0x00, 0x00, 0x00, 0x00, 0x00, 0x00, 0x00, 0x00, 0x00, 0x00,
 ];
 
-// A port of this computer.
-fn address(port: u16) -> Address {
-    Address {
-        ip: [127, 0, 0, 1],
-        port,
-    }
-}
-
-// An empty folder among the temporary files of the system. What an earlier run left goes first.
-fn empty_folder<R: Files + Env + AllocGlobal>(rt: &R, name: &str) -> io::Result<PathBuf> {
-    let folder = env::temp_dir(rt)?.join(rt.alloc(), name)?;
-    let _ = fs::remove_dir_all(rt, folder.as_path());
-    fs::create_dir(rt, folder.as_path())?;
-    Ok(folder)
-}
-
-// A device that has begun.
-fn begun<'a, R: Files<File = File> + Net + Clock + AllocGlobal>(
-    rt: &'a R,
-    at: Address,
-    folder: &str,
-) -> Option<RealDevice<'a, R>>
-    ensures { IfSome result (λ device. device.begun ≡ true) }
-{
-    let mut device = RealDevice::new(rt);
-    match device.begin(at, folder) {
-        Begun::Ready => Some(device),
-        Begun::Failed | Begun::Memory => None,
-    }
-}
-
-// What a receive comes to, and the room after it, which was filled with bars.
-fn receive<D: Device>(device: &mut D, wait_ms: u32) -> (Received, [u8; 48])
+// Whether a receive comes to this, and leaves these at the front of its room, which was filled with bars.
+fn receives<D: Device>(device: &mut D, wait_ms: u32, wanted: Received, front: &[u8]) -> bool
     requires { D.begun device.old ≡ true }
     ensures { D.begun device.new ≡ true }
 {
-    let mut room = [b'|'; 48];
-    let received = device.receive(wait_ms, &mut room);
-    (received, room)
+    let mut room = [b'|'; RECEIVE_BUFFER];
+    device.receive(wait_ms, &mut room) == wanted && room.starts_with(front)
 }
 
 // What a write of two bytes at the place 3 of an area, a sync and a cut to 4 come to.
@@ -103,7 +71,7 @@ fn time_passes<D: Device>(device: &mut D) -> bool
 {
     let start = device.now();
     for _ in 0..1_000 {
-        if receive(device, 10).0 != Received::Quiet {
+        if !receives(device, 10, Received::Quiet, b"") {
             return false;
         }
         if device.now() > start {
@@ -113,20 +81,19 @@ fn time_passes<D: Device>(device: &mut D) -> bool
     false
 }
 
-// Whether a datagram of the device at port 47101 comes to that at port 47102, byte for byte.
-fn comes<L: Device, R: Device>(left: &mut L, right: &mut R) -> bool
+// Whether a datagram of the left device comes to the right one, byte for byte.
+fn comes<L: Device, R: Device>(left: &mut L, right: &mut R, ends: [Address; 2]) -> bool
     requires left { L.begun left.old ≡ true }
     requires right { R.begun right.old ≡ true }
     ensures left { L.begun left.new ≡ true }
     ensures right { R.begun right.new ≡ true }
 {
-    if left.send(address(47102), &SENT) != Shipped::Sent {
+    let [from, to] = ends;
+    if left.send(to, &SENT) != Shipped::Sent {
         return false;
     }
-    let from = address(47101);
-    let mut wanted = [b'|'; 48];
-    wanted[..43].copy_from_slice(&SENT);
-    receive(right, 10_000) == (Received::Datagram { from, len: 43 }, wanted)
+    let wanted = Received::Datagram { from, len: 43 };
+    receives(right, 10_000, wanted, &SENT)
 }
 
 // Whether what is stored in each area is read again, up to the area's end.
@@ -162,13 +129,13 @@ fn are_stored<R: Files + AllocGlobal>(rt: &R, folder: &PathBuf) -> Result<bool, 
 
 #[test]
 fn datagrams_time_and_areas_are_those_of_the_system(rt: HostRuntime) -> Result<(), Fail> {
-    let folder = empty_folder(&rt, "node_device_real_left")?;
-    let other = empty_folder(&rt, "node_device_real_right")?;
-    let mut left = begun(&rt, address(47101), folder.as_str()).expect(&rt, "begins");
-    let mut right = begun(&rt, address(47102), other.as_str()).expect(&rt, "begins");
-    assert!(rt; comes(&mut left, &mut right));
+    let (folder, other) = (empty_folder(&rt, "left")?, empty_folder(&rt, "right")?);
+    let ends = free_addresses(&rt)?;
+    let mut left = begun(&rt, ends[0], folder.as_str()).expect(&rt, "begins");
+    let mut right = begun(&rt, ends[1], other.as_str()).expect(&rt, "begins");
+    assert!(rt; comes(&mut left, &mut right, ends));
     assert!(rt; time_passes(&mut right));
-    assert!(rt; receive(&mut right, 0) == (Received::Quiet, [b'|'; 48]));
+    assert!(rt; receives(&mut right, 0, Received::Quiet, b"|||"));
     assert!(rt; keeps(&mut left));
     assert!(rt; are_stored(&rt, &folder)?);
     assert!(rt; left.faults() == NO_FAULTS && right.faults() == NO_FAULTS);
@@ -177,51 +144,48 @@ fn datagrams_time_and_areas_are_those_of_the_system(rt: HostRuntime) -> Result<(
     Ok(())
 }
 
-// Whether a device fails to begin at a port that is taken, and in a folder that is not there.
-fn fails_to_begin<D: Device>(device: &mut D, taken: u16, folder: &str) -> bool {
-    device.begin(address(taken), folder) == Begun::Failed
-        && device.begin(address(47104), "node_device_real_nowhere") == Begun::Failed
+#[test]
+fn a_device_that_begins_again_is_as_it_was_begun(rt: HostRuntime) -> Result<(), Fail> {
+    let (folder, other) = (empty_folder(&rt, "again")?, empty_folder(&rt, "anew")?);
+    let [here, there] = free_addresses(&rt)?;
+    let mut device = begun(&rt, here, folder.as_str()).expect(&rt, "begins");
+    // Its own port is taken, and its own directory.
+    assert!(rt; device.begin(here, other.as_str()) == Begun::Failed);
+    assert!(rt; device.begin(there, folder.as_str()) == Begun::Failed);
+    assert!(rt;
+        device.faults()
+            == Counts {
+                begin: 2,
+                ..NO_FAULTS
+            }
+    );
+    // Nothing of what failed is open, and then nothing of before.
+    assert!(rt; device.begin(there, other.as_str()) == Begun::Ready);
+    assert!(rt; begun(&rt, here, folder.as_str()).is_some());
+    fs::remove_dir_all(&rt, folder.as_path())?;
+    fs::remove_dir_all(&rt, other.as_path())?;
+    Ok(())
 }
 
 // Whether a length, and a datagram, that the system cannot have are refused.
-fn refuses<D: Device>(device: &mut D) -> bool
+fn refuses<D: Device>(device: &mut D, to: Address) -> bool
     requires { D.begun device.old ≡ true }
 {
     device.cut(0, u64::MAX) == Stored::Failed
         && read_four(device, 0, u64::MAX) == (AreaRead::Failed, [b'|'; 4])
-        && device.send(address(47104), &[0; 70_000]) == Shipped::Failed
-}
-
-#[test]
-fn a_device_that_begins_again_is_as_it_was_begun(rt: HostRuntime) -> Result<(), Fail> {
-    let folder = empty_folder(&rt, "node_device_real_again")?;
-    let mut device = begun(&rt, address(47103), folder.as_str()).expect(&rt, "begins");
-    // Its port is taken.
-    assert!(rt; device.begin(address(47103), folder.as_str()) == Begun::Failed);
-    assert!(rt;
-        device.faults()
-            == Counts {
-                begin: 1,
-                ..NO_FAULTS
-            }
-    );
-    // Nothing of what failed is open.
-    assert!(rt; device.begin(address(47104), folder.as_str()) == Begun::Ready);
-    assert!(rt; begun(&rt, address(47103), folder.as_str()).is_some());
-    fs::remove_dir_all(&rt, folder.as_path())?;
-    Ok(())
+        && device.send(to, &[0; 70_000]) == Shipped::Failed
 }
 
 #[test]
 fn calls_that_the_system_refuses_are_counted(rt: HostRuntime) -> Result<(), Fail> {
-    let folder = empty_folder(&rt, "node_device_real_faults")?;
-    let held = begun(&rt, address(47105), folder.as_str());
+    let folder = empty_folder(&rt, "faults")?;
+    let [here, there] = free_addresses(&rt)?;
     let mut device = RealDevice::new(&rt);
-    assert!(rt; held.is_some() && fails_to_begin(&mut device, 47105, folder.as_str()));
-    assert!(rt; device.begin(address(47106), folder.as_str()) == Begun::Ready);
-    assert!(rt; refuses(&mut device));
+    assert!(rt; device.begin(here, "node_device_real_nowhere") == Begun::Failed);
+    assert!(rt; device.begin(here, folder.as_str()) == Begun::Ready);
+    assert!(rt; refuses(&mut device, there));
     let counts = Counts {
-        begin: 2,
+        begin: 1,
         receive: 0,
         store: 2,
         send: 1,
