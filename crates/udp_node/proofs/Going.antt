@@ -114,52 +114,52 @@ module _ {S C O D : Type 0} (s : StackId) (config : Config) (m : MachineMeaning 
   -- the same by what is told
 
   pub turn_holds : (time : ℕ) (e : Option (Event C)) (clocked : Replica S C O) → clocked ≡ record replica { time = clocked.time } → (a b : Option Told) →
-      IfSome a Held → StillTold a b (HasHeard S (settings_of config) f g (view_of replica) time e) →
+      IfSome a Held → StillTold 1 a b (HasHeard S (settings_of config) f g (view_of replica) time e) →
       IfSome b (λ told. Holds s f t h clocked.store (kept_of clocked.state) told.disk)
   turn_holds time e clocked same a b held heard =
       still_if Held (λ told. Holds s f t h clocked.store (kept_of clocked.state) told.disk)
-      (HasHeard S (settings_of config) f g (view_of replica) time e) a b held heard (held_then time e clocked same)
+      (HasHeard S (settings_of config) f g (view_of replica) time e) 1 a b held heard (held_then time e clocked same)
 
   pub turn_quiet : (time : ℕ) (e : Option (Event C)) → e ≡ None → (clocked : Replica S C O) → clocked ≡ record replica { time = clocked.time } → (a b : Option Told) →
-      IfSome a Held → StillTold a b (HasHeard S (settings_of config) f g (view_of replica) time e) →
-      StillTold a b (Went s config m f g t h replica 1 clocked)
+      IfSome a Held → StillTold 1 a b (HasHeard S (settings_of config) f g (view_of replica) time e) →
+      StillTold 1 a b (Went s config m f g t h replica 1 clocked)
   turn_quiet time e none clocked same a b held heard =
-      subst (λ (r : Replica S C O). StillTold a b (Went s config m f g t h replica 1 r)) (sym same)
-      (still_as Held (HasHeard S (settings_of config) f g (view_of replica) time None) (Went s config m f g t h replica 1 replica) a b held
-      (subst (λ (o : Option (Event C)). StillTold a b (HasHeard S (settings_of config) f g (view_of replica) time o)) none heard) (went_quiet time))
+      subst (λ (r : Replica S C O). StillTold 1 a b (Went s config m f g t h replica 1 r)) (sym same)
+      (still_as Held (HasHeard S (settings_of config) f g (view_of replica) time None) (Went s config m f g t h replica 1 replica) 1 a b held
+      (subst (λ (o : Option (Event C)). StillTold 1 a b (HasHeard S (settings_of config) f g (view_of replica) time o)) none heard) (went_quiet time))
 
-  pub turn_halts_hearing : (a b : Option Told) → IfSome a Held → StillTold a b (HasStoppedHearing S (settings_of config) f g (view_of replica)) →
-      StillTold a b (Halted s config m f g t h replica 1)
+  pub turn_halts_hearing : (a b : Option Told) → IfSome a Held → StillTold 1 a b (HasStoppedHearing S (settings_of config) f g (view_of replica)) →
+      StillTold 1 a b (Halted s config m f g t h replica 1)
   turn_halts_hearing a b held stopped =
-      still_as Held (HasStoppedHearing S (settings_of config) f g (view_of replica)) (Halted s config m f g t h replica 1) a b held stopped halted_hearing
+      still_as Held (HasStoppedHearing S (settings_of config) f g (view_of replica)) (Halted s config m f g t h replica 1) 1 a b held stopped halted_hearing
 
   module _ (clocked : Replica S C O) (same : clocked ≡ record replica { time = clocked.time }) (e : Option (Event C)) (event : Event C) (is : e ≡ Some event)
-      (a b c : Option Told) (held : IfSome a Held) (heard : StillTold a b (HasHeard S (settings_of config) f g (view_of replica) clocked.time e)) where
-    heard_event : StillTold a b (HasHeard S (settings_of config) f g (view_of replica) clocked.time (Some event))
-    heard_event = subst (λ (o : Option (Event C)). StillTold a b (HasHeard S (settings_of config) f g (view_of replica) clocked.time o)) is heard
+      (a b c : Option Told) (held : IfSome a Held) (heard : StillTold 1 a b (HasHeard S (settings_of config) f g (view_of replica) clocked.time e)) where
+    heard_event : StillTold 1 a b (HasHeard S (settings_of config) f g (view_of replica) clocked.time (Some event))
+    heard_event = subst (λ (o : Option (Event C)). StillTold 1 a b (HasHeard S (settings_of config) f g (view_of replica) clocked.time o)) is heard
 
     next_same : next_replica s config m f g t h clocked event ≡ next event clocked.time
     next_same = ap (λ (r : Replica S C O). next_replica s config m f g t h r event) same
 
     pub turn_went : {E : Type 0} (r : Result (Shipped S C O) E) → OnOk r (WhereTold b c (Acted s config m f g t h clocked event)) →
         IfOk r (λ shipped. shipped.replica ≡ next_replica s config m f g t h clocked event) →
-        IfOk r (λ shipped. StillTold a c (Went s config m f g t h replica 1 shipped.replica))
+        IfOk r (λ shipped. StillTold 1 a c (Went s config m f g t h replica 1 shipped.replica))
     turn_went (Err e) acted is_next = tt
     turn_went (Ok shipped) acted is_next =
-        subst (λ (r : Replica S C O). StillTold a c (Went s config m f g t h replica 1 r)) (sym (is_next ∙ next_same))
+        subst (λ (r : Replica S C O). StillTold 1 a c (Went s config m f g t h replica 1 r)) (sym (is_next ∙ next_same))
         (still_then Held (HasHeard S (settings_of config) f g (view_of replica) clocked.time (Some event))
         (Acted s config m f g t h (record replica { time = clocked.time }) event)
-        (Went s config m f g t h replica 1 (next event clocked.time)) a b c held heard_event
+        (Went s config m f g t h replica 1 (next event clocked.time)) 1 a b c held heard_event
         (subst (λ (r : Replica S C O). WhereTold b c (Acted s config m f g t h r event)) same acted)
         (went_event event clocked.time))
 
     pub turn_halts : {T E : Type 0} (r : Result T E) → OnErr r (WhereTold b c (ActedInPart s config m f g t h clocked event)) →
-        OnErr r (StillTold a c (Halted s config m f g t h replica 1))
+        OnErr r (StillTold 1 a c (Halted s config m f g t h replica 1))
     turn_halts (Ok x) acted = tt
     turn_halts (Err e) acted =
         still_then Held (HasHeard S (settings_of config) f g (view_of replica) clocked.time (Some event))
         (ActedInPart s config m f g t h (record replica { time = clocked.time }) event)
-        (Halted s config m f g t h replica 1) a b c held heard_event
+        (Halted s config m f g t h replica 1) 1 a b c held heard_event
         (subst (λ (r : Replica S C O). WhereTold b c (ActedInPart s config m f g t h r event)) same acted)
         (halted_event event clocked.time)
 

@@ -1,7 +1,7 @@
 -- What a node heard, as its device tells it.
 use Rattle.std.proofs.Common.{◌≡◌, ℕ, List, [], ◌∷◌, Option, Some, None, Result, Ok, Err, IfOk, OnErr, OnSome, arith, refl, sym, subst, ◌∙◌}
 use Rattle.disk.specs.Acts.{Act, Began, BeginFailed, Now, Took, Quiet, ReceiveFailed, Sent, SendFailed, Wrote, Cut, Synced, StoreFailed}
-use Rattle.node_device.specs.Telling.{Told, told_after, Did, WhereTold}
+use Rattle.node_device.specs.Telling.{Told, told_after, Did, TellsOn, WhereTold}
 use Rattle.node_progress.proofs.Going.{told_twice}
 use Rattle.node_records.specs.RecordLaws.{Turns}
 use Rattle.node_records.proofs.Turning.{turns_hear}
@@ -88,15 +88,16 @@ module _ {S C O : Type 0} (settings : Settings) (f : Format C) (g : Format O) (n
 
   -- the same by the answers of the calls
 
-  pub heard_told : {E : Type 0} (shown : ℕ) → shown ≡ time → (a b c : Option Told) (r : Result (Option (Event C)) E) → OnSome b (Did a b (Now time ∷ [])) →
-      IfOk r (λ e. WhereTold b c (HasReceived settings f wait e)) → IfOk r (λ e. StillTold a c (HasHeard S settings f g node shown e))
-  heard_told shown same a b c (Err e) did r = tt
-  heard_told shown same a b c (Ok event) did r =
-      subst (λ n. StillTold a c (HasHeard S settings f g node n event)) (sym same)
-      (then_told (HasReceived settings f wait event) (HasHeard S settings f g node time event) a b c (Now time ∷ []) did r (has_heard event))
+  pub heard_told : {E : Type 0} (shown : ℕ) → shown ≡ time → (a b c : Option Told) (r : Result (Option (Event C)) E) → TellsOn 1 a b →
+      OnSome b (Did a b (Now time ∷ [])) → IfOk r (λ e. WhereTold b c (HasReceived settings f wait e)) →
+      IfOk r (λ e. StillTold 1 a c (HasHeard S settings f g node shown e))
+  heard_told shown same a b c (Err e) tells did r = tt
+  heard_told shown same a b c (Ok event) tells did r =
+      subst (λ n. StillTold 1 a c (HasHeard S settings f g node n event)) (sym same)
+      (then_told (HasReceived settings f wait event) (HasHeard S settings f g node time event) 1 a b c (Now time ∷ []) tells did r (has_heard event))
 
-  pub stopped_told : {E : Type 0} (a b c : Option Told) (r : Result (Option (Event C)) E) → OnSome b (Did a b (Now time ∷ [])) →
-      OnErr r (WhereTold b c (HasCutOff wait)) → OnErr r (StillTold a c (HasStoppedHearing S settings f g node))
-  stopped_told a b c (Ok event) did r = tt
-  stopped_told a b c (Err e) did r =
-      then_told (HasCutOff wait) (HasStoppedHearing S settings f g node) a b c (Now time ∷ []) did r has_stopped
+  pub stopped_told : {E : Type 0} (a b c : Option Told) (r : Result (Option (Event C)) E) → TellsOn 1 a b → OnSome b (Did a b (Now time ∷ [])) →
+      OnErr r (WhereTold b c (HasCutOff wait)) → OnErr r (StillTold 1 a c (HasStoppedHearing S settings f g node))
+  stopped_told a b c (Ok event) tells did r = tt
+  stopped_told a b c (Err e) tells did r =
+      then_told (HasCutOff wait) (HasStoppedHearing S settings f g node) 1 a b c (Now time ∷ []) tells did r has_stopped

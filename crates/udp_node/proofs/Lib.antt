@@ -1,3 +1,4 @@
+pub mod Clock
 pub mod Telling
 pub mod Counting
 pub mod Heard

@@ -1,5 +1,5 @@
 -- A node's run: its opening, and then turn after turn.
-use Rattle.std.proofs.Common.{◌≡◌, ◌≤◌, ◌+◌, ◌-◌, ℕ, suc, [], ◌∷◌, Option, Some, None, IfSome, OnSome, arith, refl, sym, subst, inl, inr}
+use Rattle.std.proofs.Common.{◌≡◌, ◌≤◌, ◌+◌, ℕ, suc, [], ◌∷◌, Option, Some, None, IfSome, OnSome, arith, refl, sym, subst, inl, inr}
 use Rattle.std.proofs.lemmas.List.{append-nil}
 use Rattle.disk.specs.Acts.{Now}
 use Rattle.node_acts.specs.Stores.{StoreView, Holds}
@@ -8,7 +8,7 @@ use Rattle.node_config.specs.declared.config.Config.{Config}
 use Rattle.node_core.specs.Replicas.{kept_of, starting, view_of, who_of}
 use Rattle.node_core.specs.declared.replica.Replica.{Replica}
 use Rattle.node_datagrams.specs.Configured.{settings_of}
-use Rattle.node_device.specs.Telling.{Told, told_after, Did, WhereTold}
+use Rattle.node_device.specs.Telling.{Told, told_after, Did, TellsOn, WhereTold}
 use Rattle.node_progress.proofs.Going.{goes_is_halts, goes_on, halts_after}
 use Rattle.node_progress.proofs.Turns.{first_goes, quiet_goes}
 use Rattle.node_records.proofs.Turning.{turns_hear}
@@ -22,7 +22,8 @@ use Rattle.udp_node.specs.Causes.{IsOfATurn}
 use Rattle.udp_node.specs.Serving.{EndsWith, Halted, HaltedEach, HasOpened, HasServed, Interrupted, Served, StillTold, TurnsGo, TurnsHalt, Went, WentEach}
 use Rattle.udp_node.specs.declared.fault.NodeFault.{NodeFault}
 use Rattle.udp_node.specs.declared.fault.NodeFault.TheVariants as fault
-use Rattle.udp_node.proofs.Telling.{still_still, told_is}
+use Rattle.udp_node.proofs.Clock.{opened_tells, tells_both, tells_more}
+use Rattle.udp_node.proofs.Telling.{still_both, still_more, still_still, told_is}
 
 one_more : (n : ℕ) → suc n ≡ n + 1
 one_more n = omega arith
@@ -53,26 +54,28 @@ module _ {S C O D : Type 0} (s : StackId) (config : Config) (m : MachineMeaning 
   -- as the device tells it
 
   pub told_nowhere : (replica : Replica S C O) → replica.store.who ≡ who_of config → (a : Option Told) →
-      IfSome a (λ told. Holds s f t h replica.store (kept_of replica.state) told.disk) → StillTold a a (Went s config m f g t h replica 0 replica)
-  told_nowhere replica who None held = tt
+      IfSome a (λ told. Holds s f t h replica.store (kept_of replica.state) told.disk) → StillTold 0 a a (Went s config m f g t h replica 0 replica)
+  told_nowhere replica who None held = refl
   told_nowhere replica who (Some told) held = went_nowhere replica who told held
 
-  pub told_on : (x y z : Replica S C O) (n : ℕ) (a b c : Option Told) → StillTold a b (Went s config m f g t h x n y) →
-      StillTold b c (Went s config m f g t h y 1 z) → StillTold a c (Went s config m f g t h x (n + 1) z)
-  told_on x y z n a b c p q =
-      still_still (Went s config m f g t h x n y) (Went s config m f g t h y 1 z) (Went s config m f g t h x (n + 1) z) a b c p q
+  pub told_on : (x y z : Replica S C O) (n : ℕ) (a b c : Option Told) → TellsOn n a b → StillTold n a b (Went s config m f g t h x n y) →
+      StillTold 1 b c (Went s config m f g t h y 1 z) → StillTold (n + 1) a c (Went s config m f g t h x (n + 1) z)
+  told_on x y z n a b c tells p q =
+      still_still (Went s config m f g t h x n y) (Went s config m f g t h y 1 z) (Went s config m f g t h x (n + 1) z) n 1 a b c tells p q
       (λ before mid now u v. goes_on (settings_of config) m s f t h g (who_of config) (Between (view_of x)) (kept_of x.state) (kept_of y.state) (kept_of z.state) x.store y.store z.store
       n 1 (view_of y) (view_of z) before mid now u v)
 
-  pub told_halts : (x y : Replica S C O) (n most : ℕ) → n + 1 ≤ most → (a b c : Option Told) → StillTold a b (Went s config m f g t h x n y) →
-      StillTold b c (Halted s config m f g t h y 1) → StillTold a c (Halted s config m f g t h x most)
-  told_halts x y n most le a b c p q =
-      still_still (Went s config m f g t h x n y) (Halted s config m f g t h y 1) (Halted s config m f g t h x most) a b c p q
+  pub told_halts : (x y : Replica S C O) (n most : ℕ) → n + 1 ≤ most → (a b c : Option Told) → TellsOn n a b → StillTold n a b (Went s config m f g t h x n y) →
+      StillTold 1 b c (Halted s config m f g t h y 1) → StillTold most a c (Halted s config m f g t h x most)
+  told_halts x y n most le a b c tells p q =
+      still_more (Halted s config m f g t h x most) (n + 1) most le a c
+      (still_still (Went s config m f g t h x n y) (Halted s config m f g t h y 1) (Halted s config m f g t h x most) n 1 a b c tells p q
       (λ before mid now u v. at_most (Between (view_of x)) (kept_of x.state) x.store (n + 1) most before now le
-      (halts_after (settings_of config) m s f t h g (who_of config) (Between (view_of x)) (kept_of x.state) (kept_of y.state) x.store y.store n 1 (view_of y) before mid now u v))
+      (halts_after (settings_of config) m s f t h g (who_of config) (Between (view_of x)) (kept_of x.state) (kept_of y.state) x.store y.store n 1 (view_of y) before mid now u v)))
 
-  pub told_halts_at_once : (x : Replica S C O) (most : ℕ) (a : Option Told) → StillTold a a (Went s config m f g t h x 0 x) → StillTold a a (Halted s config m f g t h x most)
-  told_halts_at_once x most None p = tt
+  pub told_halts_at_once : (x : Replica S C O) (most : ℕ) (a : Option Told) → StillTold 0 a a (Went s config m f g t h x 0 x) →
+      StillTold most a a (Halted s config m f g t h x most)
+  told_halts_at_once x most None p = refl
   told_halts_at_once x most (Some told) p =
       at_most (Between (view_of x)) (kept_of x.state) x.store 0 most told told (omega arith)
       (goes_is_halts (settings_of config) m s f t h g (who_of config) (Between (view_of x)) (kept_of x.state) (kept_of x.state) x.store x.store 0 (view_of x) told told p)
@@ -85,13 +88,17 @@ module _ {S C O D : Type 0} (s : StackId) (config : Config) (m : MachineMeaning 
       subst (λ (x : Told). TurnsGo s config m f g t h (Starting kept) kept store 0 (starting config m store kept time) opened x) (sym is)
       (first_goes (settings_of config) m s f t h g (who_of config) kept store time opened held who)
 
+  -- the opening asks for no clock value
+  pub begun_tells : (store : StoreView) (kept : KeptView C) (a b c : Option Told) → WhereTold a b (HasOpened s config f t h store kept) → TellsOn 1 b c → TellsOn 1 a c
+  begun_tells store kept a b c opened tells = tells_both 0 1 a b c (opened_tells s config f t h store kept a b opened) tells
+
   pub told_started : (store : StoreView) (kept : KeptView C) (time : ℕ) → store.who ≡ who_of config → (node : Replica S C O) → node ≡ starting config m store kept time →
       (a b c : Option Told) → WhereTold a b (HasOpened s config f t h store kept) → IfSome b (λ told. Holds s f t h store kept told.disk) →
-      OnSome c (Did b c (Now time ∷ [])) → StillTold a c (Served s config m f g t h 0 node)
-  told_started store kept time who node is a b None opened held did = tt
-  told_started store kept time who node is a None (Some now) opened held did = cc
-  told_started store kept time who node is None (Some mid) (Some now) opened held did = cc
-  told_started store kept time who node is (Some before) (Some mid) (Some now) opened held did = record {
+      OnSome c (Did b c (Now time ∷ [])) → TellsOn 1 b c → StillTold 1 a c (Served s config m f g t h 0 node)
+  told_started store kept time who node is None b c opened held did tells = begun_tells store kept None b c opened tells
+  told_started store kept time who node is (Some before) b None opened held did tells = begun_tells store kept (Some before) b None opened tells
+  told_started store kept time who node is (Some before) None (Some now) opened held did tells = absurd opened
+  told_started store kept time who node is (Some before) (Some mid) (Some now) opened held did tells = record {
     kept = kept;
     store = store;
     opened = mid;
@@ -102,11 +109,12 @@ module _ {S C O D : Type 0} (s : StackId) (config : Config) (m : MachineMeaning 
 
   -- turns one after the other, of which the last was cut short
 
-  pub told_halts_each : (x y : Replica S C O) (n most : ℕ) → n ≤ most → (a b c : Option Told) → StillTold a b (WentEach s config m f g t h n x y) →
-      StillTold b c (Halted s config m f g t h y 1) → StillTold a c (HaltedEach s config m f g t h most x)
-  told_halts_each x y n most le a b c p q =
-      still_still (WentEach s config m f g t h n x y) (Halted s config m f g t h y 1) (HaltedEach s config m f g t h most x) a b c p q
-      (λ before mid now u v. record { count = n; below = le; middle = y; mid = mid; each = u; last = v })
+  pub told_halts_each : (x y : Replica S C O) (n most : ℕ) → n + 1 ≤ most → (a b c : Option Told) → TellsOn n a b → StillTold n a b (WentEach s config m f g t h n x y) →
+      StillTold 1 b c (Halted s config m f g t h y 1) → StillTold most a c (HaltedEach s config m f g t h most x)
+  told_halts_each x y n most le a b c tells p q =
+      still_more (HaltedEach s config m f g t h most x) (n + 1) most le a c
+      (still_still (WentEach s config m f g t h n x y) (Halted s config m f g t h y 1) (HaltedEach s config m f g t h most x) n 1 a b c tells p q
+      (λ before mid now u v. record { count = n; below = omega (arith, le); middle = y; mid = mid; each = u; last = v }))
 
   halts_at_once : (x : Replica S C O) (most : ℕ) (told : Told) → x.store.who ≡ who_of config → Holds s f t h x.store (kept_of x.state) told.disk →
       HaltedEach s config m f g t h most x told told
@@ -122,8 +130,8 @@ module _ {S C O D : Type 0} (s : StackId) (config : Config) (m : MachineMeaning 
   }
 
   pub told_halts_each_at_once : (x : Replica S C O) (most : ℕ) → x.store.who ≡ who_of config → (a : Option Told) →
-      IfSome a (λ told. Holds s f t h x.store (kept_of x.state) told.disk) → StillTold a a (HaltedEach s config m f g t h most x)
-  told_halts_each_at_once x most who None held = tt
+      IfSome a (λ told. Holds s f t h x.store (kept_of x.state) told.disk) → StillTold most a a (HaltedEach s config m f g t h most x)
+  told_halts_each_at_once x most who None held = refl
   told_halts_each_at_once x most who (Some told) held = halts_at_once x most told who held
 
   interrupted_after : (x : Replica S C O) (most : ℕ) (before mid now : Told) → Served s config m f g t h 0 x before mid → Halted s config m f g t h x most mid now →
@@ -147,11 +155,11 @@ module _ {S C O D : Type 0} (s : StackId) (config : Config) (m : MachineMeaning 
   -- memory was wanted after the first clock value
   pub told_wanting : (store : StoreView) (kept : KeptView C) (time : ℕ) → store.who ≡ who_of config → (a b c : Option Told) →
       WhereTold a b (HasOpened s config f t h store kept) → IfSome b (λ told. Holds s f t h store kept told.disk) →
-      OnSome c (Did b c (Now time ∷ [])) → StillTold a c (EndsWith s config m f g t h fault.Memory 0)
-  told_wanting store kept time who a b None opened held did = tt
-  told_wanting store kept time who a None (Some now) opened held did = cc
-  told_wanting store kept time who None (Some mid) (Some now) opened held did = cc
-  told_wanting store kept time who (Some before) (Some mid) (Some now) opened held did =
+      OnSome c (Did b c (Now time ∷ [])) → TellsOn 1 b c → StillTold 1 a c (EndsWith s config m f g t h fault.Memory 0)
+  told_wanting store kept time who None b c opened held did tells = begun_tells store kept None b c opened tells
+  told_wanting store kept time who (Some before) b None opened held did tells = begun_tells store kept (Some before) b None opened tells
+  told_wanting store kept time who (Some before) None (Some now) opened held did tells = absurd opened
+  told_wanting store kept time who (Some before) (Some mid) (Some now) opened held did tells =
       let begins = first store kept time mid now who held (told_is mid now (Now time ∷ []) did) in
       inr (record {
         first = starting config m store kept time;
@@ -163,15 +171,15 @@ module _ {S C O D : Type 0} (s : StackId) (config : Config) (m : MachineMeaning 
 
   -- turns one after the other
 
-  pub told_none : (x : Replica S C O) (a : Option Told) → StillTold a a (WentEach s config m f g t h 0 x x)
-  told_none x None = tt
+  pub told_none : (x : Replica S C O) (a : Option Told) → StillTold 0 a a (WentEach s config m f g t h 0 x x)
+  told_none x None = refl
   told_none x (Some told) = (refl, refl)
 
-  pub told_each : (x y z : Replica S C O) (n : ℕ) (a b c : Option Told) → StillTold a b (WentEach s config m f g t h n x y) →
-      StillTold b c (Went s config m f g t h y 1 z) → StillTold a c (WentEach s config m f g t h (n + 1) x z)
-  told_each x y z n a b c p q =
-      subst (λ (k : ℕ). StillTold a c (WentEach s config m f g t h k x z)) (one_more n)
-      (still_still (WentEach s config m f g t h n x y) (Went s config m f g t h y 1 z) (WentEach s config m f g t h (suc n) x z) a b c p q
+  pub told_each : (x y z : Replica S C O) (n : ℕ) (a b c : Option Told) → TellsOn n a b → StillTold n a b (WentEach s config m f g t h n x y) →
+      StillTold 1 b c (Went s config m f g t h y 1 z) → StillTold (n + 1) a c (WentEach s config m f g t h (n + 1) x z)
+  told_each x y z n a b c tells p q =
+      subst (λ (k : ℕ). StillTold (n + 1) a c (WentEach s config m f g t h k x z)) (one_more n)
+      (still_still (WentEach s config m f g t h n x y) (Went s config m f g t h y 1 z) (WentEach s config m f g t h (suc n) x z) n 1 a b c tells p q
       (λ before mid now u v. (y, mid, u, v)))
 
   both_served : (x z : Replica S C O) (n : ℕ) (before mid now : Told) → Served s config m f g t h 0 x before mid → Went s config m f g t h x n z mid now →
@@ -186,22 +194,23 @@ module _ {S C O D : Type 0} (s : StackId) (config : Config) (m : MachineMeaning 
         (view_of x) (view_of z) u.opened mid now u.turns v);
   }
 
-  pub told_served : (x z : Replica S C O) (n : ℕ) (a b c : Option Told) → StillTold a b (Served s config m f g t h 0 x) → StillTold b c (Went s config m f g t h x n z) →
-      StillTold b c (WentEach s config m f g t h n x z) → StillTold a c (HasServed s config m f g t h n)
-  told_served x z n a b None p q r = tt
-  told_served x z n a None (Some now) p q r = absurd q
-  told_served x z n None (Some mid) (Some now) p q r = absurd p
-  told_served x z n (Some before) (Some mid) (Some now) p q r =
-      record { first = x; begun = mid; next = z; starts = p; each = r; all = both_served x z n before mid now p q }
+  pub told_served : (x z : Replica S C O) (n : ℕ) (a b c : Option Told) → TellsOn 1 a b → StillTold 1 a b (Served s config m f g t h 0 x) →
+      StillTold n b c (Went s config m f g t h x n z) → StillTold n b c (WentEach s config m f g t h n x z) → StillTold (1 + n) a c (HasServed s config m f g t h n)
+  told_served x z n a b c tells p q r =
+      still_still (Served s config m f g t h 0 x) (λ mid now. Went s config m f g t h x n z mid now × WentEach s config m f g t h n x z mid now)
+      (HasServed s config m f g t h n) 1 n a b c tells p
+      (still_both (Went s config m f g t h x n z) (WentEach s config m f g t h n x z) n b c q r)
+      (λ before mid now u v.
+      record { first = x; begun = mid; next = z; starts = u; each = v.1; all = both_served x z n before mid now u v.0 })
 
-  pub told_ended : (x : Replica S C O) (most : ℕ) (e : NodeFault) → IsOfATurn e → (a b c : Option Told) → StillTold a b (Served s config m f g t h 0 x) →
-      StillTold b c (Halted s config m f g t h x most) → StillTold b c (HaltedEach s config m f g t h most x) →
-      StillTold a c (EndsWith s config m f g t h e most)
-  told_ended x most e of a b None p q r = tt
-  told_ended x most e of a None (Some now) p q r = absurd q
-  told_ended x most e of None (Some mid) (Some now) p q r = absurd p
-  told_ended x most e of (Some before) (Some mid) (Some now) p q r =
-      ends_in_a_turn e most before now of (interrupted_after x most before mid now p q r)
+  pub told_ended : (x : Replica S C O) (most : ℕ) (e : NodeFault) → IsOfATurn e → (a b c : Option Told) → TellsOn 1 a b →
+      StillTold 1 a b (Served s config m f g t h 0 x) → StillTold most b c (Halted s config m f g t h x most) →
+      StillTold most b c (HaltedEach s config m f g t h most x) → StillTold (1 + most) a c (EndsWith s config m f g t h e most)
+  told_ended x most e of a b c tells p q r =
+      still_still (Served s config m f g t h 0 x) (λ mid now. Halted s config m f g t h x most mid now × HaltedEach s config m f g t h most x mid now)
+      (EndsWith s config m f g t h e most) 1 most a b c tells p
+      (still_both (Halted s config m f g t h x most) (HaltedEach s config m f g t h most x) most b c q r)
+      (λ before mid now u v. ends_in_a_turn e most before now of (interrupted_after x most before mid now u v.0 v.1))
 
   more : (most : ℕ) (before now : Told) → Interrupted s config m f g t h 0 before now → Interrupted s config m f g t h most before now
   more most before now x = record {
@@ -227,9 +236,10 @@ module _ {S C O D : Type 0} (s : StackId) (config : Config) (m : MachineMeaning 
   ends_later fault.Memory most before now (inl x) = inl x
   ends_later fault.Memory most before now (inr x) = inr (more most before now x)
 
-  pub told_later : (e : NodeFault) (most : ℕ) (a b : Option Told) → StillTold a b (EndsWith s config m f g t h e 0) → StillTold a b (EndsWith s config m f g t h e most)
-  told_later e most a None p = tt
-  told_later e most None (Some now) p = absurd p
+  pub told_later : (e : NodeFault) (most : ℕ) (a b : Option Told) → StillTold 1 a b (EndsWith s config m f g t h e 0) →
+      StillTold (1 + most) a b (EndsWith s config m f g t h e most)
+  told_later e most None b p = p
+  told_later e most (Some before) None p = tells_more 1 (1 + most) (omega arith) (Some before) None p
   told_later e most (Some before) (Some now) p = ends_later e most before now p
 
 -- a node runs one of two stacks

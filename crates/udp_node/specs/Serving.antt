@@ -8,7 +8,7 @@ use Rattle.node_config.specs.declared.config.Config.{Config}
 use Rattle.node_core.specs.Replicas.{kept_of, view_of, who_of}
 use Rattle.node_core.specs.declared.replica.Replica.{Replica}
 use Rattle.node_datagrams.specs.Configured.{settings_of}
-use Rattle.node_device.specs.Telling.{Told, told_after, StoppedIn}
+use Rattle.node_device.specs.Telling.{Told, told_after, StoppedIn, TellsOn}
 use Rattle.node_progress.specs.Progress.{Goes, Halts}
 use Rattle.node_run.specs.Runs.{Stage, Starting, Between}
 use Rattle.node_state.specs.Answers.{refusal_of}
@@ -23,11 +23,10 @@ use Rattle.vst_base.specs.Machines.{MachineMeaning}
 use Rattle.vst_base.specs.declared.stack.StackId.{StackId}
 use Rattle.wire_fields.specs.Formats.{Format}
 
--- Where the device tells to the end. A device may stop telling as it gives a clock value, and never begins to.
-abbrev pub StillTold : Option Told → Option Told → (Told → Told → Type 0) → Type 0
-StillTold old None P = Unit {0}
-StillTold None (Some now) P = ⊥
-StillTold (Some before) (Some now) P = P before now
+-- Where the device tells to the end, as it does unless its record is full of clock values when so many are added. None begins to.
+abbrev pub StillTold : ℕ → Option Told → Option Told → (Told → Told → Type 0) → Type 0
+StillTold n (Some before) (Some now) P = P before now
+StillTold n old new P = TellsOn n old new
 
 -- what a node starts from where its areas open as this
 abbrev pub StartsFrom : {C : Type 0} → Opening (KeptView C) → KeptView C → Type 0

@@ -1,4 +1,4 @@
-ghost use Rattle.std.specs.Prelude.{◌≡◌, [], ◌∷◌, None, Some, Ok, Err};
+ghost use Rattle.std.specs.Prelude.{◌≡◌, ◌-◌, ◌^◌, [], ◌∷◌, None, Some, Ok, Err};
 ghost use Rattle.disk.specs.Acts.{Now, Quiet, ReceiveFailed, Took};
 ghost use Rattle.node_device.specs.Examples.{counts, sends, tells, untold};
 ghost use Rattle.node_run.specs.Examples.{asked_by_1, at_port, candidate, kept_as, settings};
@@ -48,7 +48,7 @@ pub fn worked_listening()
     ensures failed_twice { IsCutOff 300 (ReceiveFailed 300 ∷ ReceiveFailed 300 ∷ []) → ⊥ }
 {}
 
-/// What a node starts from, and what is said of a device that stops telling.
+/// What a node starts from, and what is said of a device that stops telling: it may where its record is full of clock values alone.
 pub fn worked_starts()
     ensures fresh { StartsFrom Fresh (kept_as 0 None) }
     ensures fresh_as_another { StartsFrom Fresh (kept_as 1 None) → ⊥ }
@@ -61,8 +61,12 @@ pub fn worked_starts()
     ensures refused_and_served { Meets {T = Unit {0}} (Some BadSelector) (Ok tt) → ⊥ }
     ensures refused_for_this { Meets {T = Unit {0}} (Some BadSelector) (Err (NodeFault.Refused Refusal.Selector)) }
     ensures refused_for_another { Meets {T = Unit {0}} (Some BadSlot) (Err (NodeFault.Refused Refusal.Selector)) → ⊥ }
-    ensures tells { StillTold (tells []) (tells (Now 0 ∷ [])) always }
-    ensures tells_otherwise { StillTold (tells []) (tells (Now 0 ∷ [])) never → ⊥ }
-    ensures stops_telling { StillTold (tells []) untold never }
-    ensures begins_to_tell { StillTold untold (tells []) always → ⊥ }
+    ensures tells { StillTold 1 (tells []) (tells (Now 0 ∷ [])) always }
+    ensures tells_otherwise { StillTold 1 (tells []) (tells (Now 0 ∷ [])) never → ⊥ }
+    ensures stops_at_the_first { StillTold 1 (tells []) untold always → ⊥ }
+    ensures stops_at_the_greatest { StillTold (2 ^ 64 - 1) (tells []) untold always → ⊥ }
+    ensures stops_past_the_greatest { StillTold (2 ^ 64) (tells []) untold never }
+    ensures stops_with_one_before { StillTold (2 ^ 64 - 1) (tells (Now 0 ∷ [])) untold never }
+    ensures begins_to_tell { StillTold 1 untold (tells []) always → ⊥ }
+    ensures tells_none { StillTold 1 untold untold never }
 {}

@@ -1,11 +1,11 @@
 ghost use Rattle.std.specs.Prelude.{◌≡◌, length, true, IfErr, IfOk, IfSome, OnErr};
 ghost use Rattle.node_core.specs.Replicas.{view_of};
 ghost use Rattle.node_datagrams.specs.Configured.{IsEventOf, settings_of};
-ghost use Rattle.node_device.specs.Telling.{WhereTold};
+ghost use Rattle.node_device.specs.Telling.{TellsOn, WhereTold};
+ghost use Rattle.node_device.specs.declared.limits.TheConstants.{RECEIVE_BUFFER};
 ghost use Rattle.udp_node.specs.Causes.{Counts, IsOfATurn};
 ghost use Rattle.udp_node.specs.Listening.{HasCutOff, HasHeard, HasReceived, HasStoppedHearing};
 ghost use Rattle.udp_node.specs.Serving.{StillTold};
-ghost use Rattle.udp_node.specs.declared.room.TheConstants.{RECEIVE_BUFFER};
 
 use crate::NodeFault;
 use node_body::Commands;
@@ -54,11 +54,12 @@ pub(crate) fn await_event<D: Device, S: Drop, C: Commands, O: Wire>(
     requires begun { D.begun device.old ≡ true }
     requires room { length received.old ≡ RECEIVE_BUFFER }
     ensures node { node.new.replica ≡ record node.old.replica { time = node.new.replica.time } }
-    ensures heard { IfOk result (λ event. StillTold (D.told device.old) (D.told device.new)
+    ensures heard { IfOk result (λ event. StillTold 1 (D.told device.old) (D.told device.new)
         (HasHeard S (settings_of config.now) C.format O.format (view_of node.old.replica) node.new.replica.time event)) }
     ensures comes { IfOk result (λ event. IfSome event (IsEventOf config.now)) }
-    ensures stopped { OnErr result (StillTold (D.told device.old) (D.told device.new)
+    ensures stopped { OnErr result (StillTold 1 (D.told device.old) (D.told device.new)
         (HasStoppedHearing S (settings_of config.now) C.format O.format (view_of node.old.replica))) }
+    ensures tells { TellsOn 1 (D.told device.old) (D.told device.new) }
     ensures of_a_turn { IfErr result IsOfATurn }
     ensures causes { Counts (D.faults device.old) (D.faults device.new) result }
     ensures begun { D.begun device.new ≡ true }

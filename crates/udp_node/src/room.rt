@@ -1,10 +1,8 @@
 ghost use Rattle.std.specs.Prelude.{◌≡◌, IfOk, vec_len};
-ghost use Rattle.udp_node.specs.declared.room.TheConstants.{RECEIVE_BUFFER};
+ghost use Rattle.node_device.specs.declared.limits.TheConstants.{RECEIVE_BUFFER};
 
+use node_device::RECEIVE_BUFFER;
 use std::alloc::{AllocError, Global};
-
-/// How many bytes of a datagram are received at most. Longer ones are cut, and are no datagrams of a node either way.
-pub const RECEIVE_BUFFER: usize = 65_536;
 
 // Room for the datagram that is received, and for the one that is sent.
 #[derive(Drop)]

@@ -1,10 +1,10 @@
-ghost use Rattle.std.specs.Prelude.{◌≡◌, ◌≢◌, ◌≤◌, length, true, IfErr, IfOk, IfSome, OnErr, OnOk};
+ghost use Rattle.std.specs.Prelude.{◌≡◌, ◌≢◌, ◌≤◌, ◌+◌, length, true, IfErr, IfOk, IfSome, OnErr, OnOk};
 ghost use Rattle.node_acts.specs.Stores.{Holds, Knows};
 ghost use Rattle.node_body.specs.Bodies.{VoteAmong};
 ghost use Rattle.node_config.specs.Outcomes.{Fits};
 ghost use Rattle.node_config.specs.declared.limits.TheConstants.{MAX_CLIENTS};
 ghost use Rattle.node_core.specs.Replicas.{IsReady, kept_of, who_of};
-ghost use Rattle.node_device.specs.Telling.{WhereTold};
+ghost use Rattle.node_device.specs.Telling.{TellsOn, WhereTold};
 ghost use Rattle.node_state.specs.Calls.{IsNodeOf};
 ghost use Rattle.udp_node.specs.Causes.{Counts, CountsRun, IsOfATurn};
 ghost use Rattle.udp_node.specs.Serving.{EndsWith, Halted, HaltedEach, HasOpened, HasServed, Meets, OpeningEnds, Served, StillTold};
@@ -93,10 +93,11 @@ fn start<
     ensures who { IfOk result (λ node. node.replica.store.who ≡ who_of config.now) }
     ensures holds { IfOk result (λ node. IfSome (D.told device.new) (λ told.
         Holds C.stack C.format X.stack X.format node.replica.store (kept_of node.replica.state) told.disk)) }
-    ensures served { IfOk result (λ node. StillTold (D.told device.old) (D.told device.new)
+    ensures served { IfOk result (λ node. StillTold 1 (D.told device.old) (D.told device.new)
         (Served C.stack config.now (M.meaning raft.now.machine) C.format O.format X.stack X.format 0 node.replica)) }
-    ensures ended { IfErr result (λ fault. StillTold (D.told device.old) (D.told device.new)
+    ensures ended { IfErr result (λ fault. StillTold 1 (D.told device.old) (D.told device.new)
         (EndsWith C.stack config.now (M.meaning raft.now.machine) C.format O.format X.stack X.format fault 0)) }
+    ensures tells { TellsOn 1 (D.told device.old) (D.told device.new) }
     ensures areas { IfSome (D.told device.old) (λ before.
         Meets (refusal_in (found_in C.stack config.now C.format X.stack X.format before)) result) }
     ensures causes { CountsRun (D.faults device.old) (D.faults device.new) result }
@@ -132,14 +133,15 @@ fn take_turns<
     requires clients { length config.now.clients ≤ MAX_CLIENTS }
     requires holds { IfSome (D.told device.old) (λ told.
         Holds C.stack C.format X.stack X.format node.replica.store (kept_of node.replica.state) told.disk) }
-    ensures went { IfOk result (λ next. StillTold (D.told device.old) (D.told device.new)
+    ensures went { IfOk result (λ next. StillTold turns (D.told device.old) (D.told device.new)
         (Went C.stack config.now (M.meaning raft.now.machine) C.format O.format X.stack X.format node.replica turns next.replica)) }
-    ensures each { IfOk result (λ next. StillTold (D.told device.old) (D.told device.new)
+    ensures each { IfOk result (λ next. StillTold turns (D.told device.old) (D.told device.new)
         (WentEach C.stack config.now (M.meaning raft.now.machine) C.format O.format X.stack X.format turns node.replica next.replica)) }
-    ensures halted { OnErr result (StillTold (D.told device.old) (D.told device.new)
+    ensures halted { OnErr result (StillTold turns (D.told device.old) (D.told device.new)
         (Halted C.stack config.now (M.meaning raft.now.machine) C.format O.format X.stack X.format node.replica turns)) }
-    ensures halted_each { OnErr result (StillTold (D.told device.old) (D.told device.new)
+    ensures halted_each { OnErr result (StillTold turns (D.told device.old) (D.told device.new)
         (HaltedEach C.stack config.now (M.meaning raft.now.machine) C.format O.format X.stack X.format turns node.replica)) }
+    ensures tells { TellsOn turns (D.told device.old) (D.told device.new) }
     ensures of_a_turn { IfErr result IsOfATurn }
     ensures causes { CountsRun (D.faults device.old) (D.faults device.new) result }
     ensures begun { D.begun device.new ≡ true }
@@ -165,10 +167,11 @@ fn serve_stack<
     requires other { X.stack ≢ C.stack }
     requires fits { Fits config.now.me config.now }
     requires stack { config.now.stack ≡ C.stack }
-    ensures served { OnOk result (StillTold (D.told device.old) (D.told device.new)
+    ensures served { OnOk result (StillTold (1 + turns) (D.told device.old) (D.told device.new)
         (HasServed C.stack config.now (M.meaning machine) C.format O.format X.stack X.format turns)) }
-    ensures ended { IfErr result (λ fault. StillTold (D.told device.old) (D.told device.new)
+    ensures ended { IfErr result (λ fault. StillTold (1 + turns) (D.told device.old) (D.told device.new)
         (EndsWith C.stack config.now (M.meaning machine) C.format O.format X.stack X.format fault turns)) }
+    ensures tells { TellsOn (1 + turns) (D.told device.old) (D.told device.new) }
     ensures areas { IfSome (D.told device.old) (λ before.
         Meets (refusal_in (found_in C.stack config.now C.format X.stack X.format before)) result) }
     ensures causes { CountsRun (D.faults device.old) (D.faults device.new) result }
@@ -192,9 +195,14 @@ pub fn serve<D: Device>(
     requires fits { Fits config.now.me config.now }
     requires some { 1 ≤ turns }
     requires in_range { turns ≤ MAX_TURNS }
-    ensures served { OnOk result (StillTold (D.told device.old) (D.told device.new) (ServedOn config.now.stack config.now turns)) }
-    ensures ended { IfErr result (λ fault. StillTold (D.told device.old) (D.told device.new)
+    ensures served { OnOk result (StillTold (1 + turns) (D.told device.old) (D.told device.new)
+        (ServedOn config.now.stack config.now turns)) }
+    ensures ended { IfErr result (λ fault. StillTold (1 + turns) (D.told device.old) (D.told device.new)
         (EndedOn config.now.stack config.now fault turns)) }
+
+    // The clock is read once at its start, and once a turn.
+    ensures tells { TellsOn (1 + turns) (D.told device.old) (D.told device.new) }
+
     ensures areas { IfSome (D.told device.old) (λ before. Meets (refused_areas config.now.stack config.now before) result) }
     ensures causes { CountsRun (D.faults device.old) (D.faults device.new) result }
     ensures begun { D.begun device.new ≡ true }

@@ -1,13 +1,13 @@
 ghost use Rattle.std.specs.Prelude.{◌≡◌, ◌≢◌, ◌≤◌, length, true, vec_len, IfErr, IfOk, IfSome, OnErr, OnOk};
 ghost use Rattle.node_acts.specs.Stores.{Holds};
 ghost use Rattle.node_datagrams.specs.Configured.{IsEventOf};
-ghost use Rattle.node_device.specs.Telling.{WhereTold};
+ghost use Rattle.node_device.specs.Telling.{TellsOn, WhereTold};
+ghost use Rattle.node_device.specs.declared.limits.TheConstants.{RECEIVE_BUFFER};
 ghost use Rattle.node_config.specs.declared.limits.TheConstants.{MAX_CLIENTS};
 ghost use Rattle.node_core.specs.Replicas.{IsReady, kept_of, who_of};
 ghost use Rattle.udp_node.specs.Acting.{Acted, ActedInPart, next_replica};
 ghost use Rattle.udp_node.specs.Causes.{CountsRun, IsOfATurn};
 ghost use Rattle.udp_node.specs.Serving.{Halted, StillTold, Went};
-ghost use Rattle.udp_node.specs.declared.room.TheConstants.{RECEIVE_BUFFER};
 
 use crate::NodeFault;
 use crate::listening::await_event;
@@ -95,10 +95,11 @@ pub(crate) fn turn<
     ensures who { IfOk result (λ next. next.replica.store.who ≡ who_of config.now) }
     ensures holds { IfOk result (λ next. IfSome (D.told device.new) (λ told.
         Holds C.stack C.format X.stack X.format next.replica.store (kept_of next.replica.state) told.disk)) }
-    ensures went { IfOk result (λ next. StillTold (D.told device.old) (D.told device.new)
+    ensures went { IfOk result (λ next. StillTold 1 (D.told device.old) (D.told device.new)
         (Went C.stack config.now (M.meaning raft.now.machine) C.format O.format X.stack X.format node.replica 1 next.replica)) }
-    ensures halted { OnErr result (StillTold (D.told device.old) (D.told device.new)
+    ensures halted { OnErr result (StillTold 1 (D.told device.old) (D.told device.new)
         (Halted C.stack config.now (M.meaning raft.now.machine) C.format O.format X.stack X.format node.replica 1)) }
+    ensures tells { TellsOn 1 (D.told device.old) (D.told device.new) }
     ensures room { vec_len room.new.received ≡ RECEIVE_BUFFER }
     ensures of_a_turn { IfErr result IsOfATurn }
     ensures causes { CountsRun (D.faults device.old) (D.faults device.new) result }

@@ -2,8 +2,9 @@ use Rattle.std.proofs.Common.{◌≡◌, true, IfSome, vec_len}
 use Rattle.node_acts.specs.Stores.{Holds}
 use Rattle.node_core.specs.Replicas.{IsReady, kept_of, who_of}
 use Rattle.node_datagrams.specs.Saying.{SendsOnly}
+use Rattle.node_device.specs.Telling.{TellsOn}
 use Rattle.udp_node.specs.Serving.{StillTold, Went, WentEach}
-use Rattle.udp_node.specs.declared.room.TheConstants.{RECEIVE_BUFFER}
+use Rattle.node_device.specs.declared.limits.TheConstants.{RECEIVE_BUFFER}
 use Rattle.udp_node.proofs.serving.take_turns.Given as goal
 
 abbrev pub invariant-loop : goal.invariant-loop
@@ -17,9 +18,10 @@ invariant-loop g l =
       counts : SendsOnly (k.faults l.initial.device) (k.faults l.device);
       holds : IfSome (k.told l.device) (λ told.
           Holds g.C.Commands.stack g.C.Wire.format g.X.Commands.stack g.X.Wire.format l.node.replica.store (kept_of l.node.replica.state) told.disk);
-      went : StillTold (k.told l.initial.device) (k.told l.device)
+      tells : TellsOn l.counter (k.told l.initial.device) (k.told l.device);
+      went : StillTold l.counter (k.told l.initial.device) (k.told l.device)
           (Went g.C.Commands.stack l.config (g.M.Machine.meaning l.raft.machine) g.C.Wire.format g.O.Wire.format g.X.Commands.stack g.X.Wire.format l.initial.node.replica l.counter l.node.replica);
-      each : StillTold (k.told l.initial.device) (k.told l.device)
+      each : StillTold l.counter (k.told l.initial.device) (k.told l.device)
           (WentEach g.C.Commands.stack l.config (g.M.Machine.meaning l.raft.machine) g.C.Wire.format g.O.Wire.format g.X.Commands.stack g.X.Wire.format l.counter
           l.initial.node.replica l.node.replica);
     }

@@ -1,5 +1,6 @@
 use Rattle.std.proofs.Common.{ap, sym, ◌∙◌}
 use Rattle.node_state.proofs.Stopping.{on_err}
+use Rattle.udp_node.proofs.Clock.{acted_tells, tells_both}
 use Rattle.udp_node.proofs.Going.{ready_at, turn_halts, turn_halts_hearing, turn_holds, turn_quiet, turn_went, who_stays}
 use Rattle.udp_node.proofs.turning.turn.Goals as goal
 
@@ -36,6 +37,12 @@ returns-in-Some-clause-halted g c =
     turn_halts g.C.Commands.stack c.args.config.now (g.M.Machine.meaning c.args.raft.now.machine) g.C.Wire.format g.O.Wire.format g.X.Commands.stack g.X.Wire.format
     c.args.node.replica c.requires.who stack c.await_event.new.node.replica c.await_event.ensures.node c.in_ok-event.field-0 c.in-Some.event c.in-Some.is _ _ _
     c.requires.holds c.in_ok-event.ensures.heard c.act.result c.act.ensures.in_part
+
+pub returns-in-Some-clause-tells : goal.returns-in-Some-clause-tells
+returns-in-Some-clause-tells g c =
+    tells_both 1 0 _ _ _ c.await_event.ensures.tells
+    (acted_tells g.C.Commands.stack c.args.config.now (g.M.Machine.meaning c.args.raft.now.machine) g.C.Wire.format g.O.Wire.format g.X.Commands.stack g.X.Wire.format
+    c.await_event.new.node.replica c.in-Some.event _ _ c.act.result c.act.ensures.acted c.act.ensures.in_part)
 
 pub returns-in-None-clause-ready : goal.returns-in-None-clause-ready
 returns-in-None-clause-ready g c = ready_at g.C.Commands.stack c.args.node.replica _ c.await_event.ensures.node c.requires.ready
