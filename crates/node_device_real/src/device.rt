@@ -111,6 +111,13 @@ impl<'a, R> RealDevice<'a, R> {
         self.counts
     }
 
+    /// How often it has answered want of memory.
+    pub fn wants(&self) -> u64
+        ensures { result ≡ self.now.wants }
+    {
+        self.wants
+    }
+
     fn opened(&self) -> &Opened
         requires { self.now.begun ≡ true }
     {

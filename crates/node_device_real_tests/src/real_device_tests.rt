@@ -190,7 +190,7 @@ fn calls_that_the_system_refuses_are_counted(rt: HostRuntime) -> Result<(), Fail
         store: 2,
         send: 1,
     };
-    assert!(rt; device.faults() == counts);
+    assert!(rt; device.faults() == counts && device.wants() == 0);
     fs::remove_dir_all(&rt, folder.as_path())?;
     Ok(())
 }
