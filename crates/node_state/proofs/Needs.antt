@@ -1,19 +1,15 @@
 -- What the front of a slot says of the whole, and which of its fronts decide.
-use Rattle.std.proofs.Common.{◌≡◌, ℕ, suc, Bool, true, false, nat_le, ◌+◌, ◌-◌, ◌*◌, ◌<◌, ◌≤◌, List, [], ◌∷◌, ◌++◌, length, take, drop, Option, Some, None, IfSome, Result, Ok, Err, refl, sym, ap, subst, ◌∙◌, arith, take-append-drop, length-append, ◌⊎◌, inl, inr}
+use Rattle.std.proofs.Common.{◌≡◌, ℕ, Bool, true, false, nat_le, ◌+◌, ◌-◌, ◌*◌, ◌<◌, ◌≤◌, List, ◌++◌, length, take, drop, Option, Some, None, IfSome, Result, Ok, Err, refl, sym, ap, subst, ◌∙◌, arith, take-append-drop, length-append, ◌⊎◌, inl, inr}
 use Rattle.std.proofs.Math.Seq.{take-add}
 use Rattle.std.proofs.lemmas.Bool.{leb-true, leb-false}
 use Rattle.disk.specs.Areas.{area_at}
 use Rattle.vst_base.specs.declared.stack.StackId.{StackId}
 use Rattle.wire_fields.specs.Formats.{Format, IsFormat}
-use Rattle.node_acts.specs.StateActs.{store_found}
-use Rattle.node_acts.specs.Stores.{store_of}
 use Rattle.node_body.specs.FrontLaws.{fronts_decide, longer_fronts_decide}
-use Rattle.node_body.specs.Fronts.{found_in_front, hides_more, with_more}
+use Rattle.node_body.specs.Fronts.{found_in_front, with_more}
 use Rattle.node_body.specs.Journals.{journal_as}
 use Rattle.node_body.specs.Slots.{held_as, slot_found}
 use Rattle.node_body.specs.declared.slot.Held.{Held}
-use Rattle.node_body.specs.declared.version.Version.{Version}
-use Rattle.node_body.specs.declared.version.Version.TheVariants.{One, Two}
 use Rattle.node_body.specs.declared.who.Who.{Who}
 use Rattle.node_body.specs.declared.why.Why.{Why}
 use Rattle.node_device.specs.Telling.{Told}
