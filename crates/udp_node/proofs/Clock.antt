@@ -15,6 +15,7 @@ use Rattle.node_body.specs.declared.why.Why.{Why}
 use Rattle.node_config.specs.declared.config.Config.{Config}
 use Rattle.node_core.specs.Replicas.{who_of}
 use Rattle.node_core.specs.declared.replica.Replica.{Replica}
+use Rattle.node_device.proofs.ClockValues.{nows_append}
 use Rattle.node_device.specs.Telling.{Told, told_after, nows_in, StoppedIn, TellsOn, WhereTold}
 use Rattle.node_records.specs.Records.{Stores}
 use Rattle.node_records.proofs.ActKinds.{areas_store, every_as, save_on_areas, short_stores}
@@ -34,21 +35,6 @@ use Rattle.udp_node.specs.declared.fault.NodeFault.{NodeFault}
 use Rattle.udp_node.specs.declared.fault.NodeFault.TheVariants as fault
 
 -- clock values among acts
-
-pub nows_append : (xs ys : List Act) → nows_in (xs ++ ys) ≡ nows_in xs + nows_in ys
-nows_append [] ys = omega arith
-nows_append (Now ms ∷ xs) ys = omega (arith, nows_append xs ys)
-nows_append (Began at dir ∷ xs) ys = nows_append xs ys
-nows_append (BeginFailed at dir ∷ xs) ys = nows_append xs ys
-nows_append (Took wait from bytes ∷ xs) ys = nows_append xs ys
-nows_append (Quiet wait ∷ xs) ys = nows_append xs ys
-nows_append (ReceiveFailed wait ∷ xs) ys = nows_append xs ys
-nows_append (Sent to bytes ∷ xs) ys = nows_append xs ys
-nows_append (SendFailed to bytes ∷ xs) ys = nows_append xs ys
-nows_append (Wrote area at bytes ∷ xs) ys = nows_append xs ys
-nows_append (Cut area len ∷ xs) ys = nows_append xs ys
-nows_append (Synced area ∷ xs) ys = nows_append xs ys
-nows_append (StoreFailed call ∷ xs) ys = nows_append xs ys
 
 none_both : (xs ys : List Act) → nows_in xs ≡ 0 → nows_in ys ≡ 0 → nows_in (xs ++ ys) ≡ 0
 none_both xs ys p q = omega (arith, nows_append xs ys, p, q)
