@@ -21,8 +21,8 @@ gate_after (Some p) = stands p.1
 abbrev pub has_gate : List ℕ → Bool
 has_gate bs = gate_after (sized.read bs)
 
--- What was found, where no bytes more can change it. What is no body stays so; a journal that is refused may only be cut short; and one that
--- is read from a gate on has come to a closed one.
+-- What was found, where no bytes more can change it. What is no body stays so; a journal that is refused may only be cut short; and
+-- one that is read from a gate on has come to a closed one.
 abbrev pub if_decided : {C : Type 0} → Bool → Result (Held C) Why → Option (Result (Held C) Why)
 if_decided gated (Err why.Body) = Some (Err why.Body)
 if_decided gated (Err why.Journal) = None

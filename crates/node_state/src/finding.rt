@@ -11,9 +11,9 @@ use node_body::{Commands, Held, Who, Why, find_in_front, find_slot};
 use node_device::Device;
 use std::alloc::Global;
 
-/// What the slot in an area is for a node that asks, by its front, and how many bytes that has. The slot is read, and held, until what was
-/// read decides what it is: a piece first, and then each time as many bytes more. So of what the first closed gate hides at most the rest
-/// of the piece is read in which it stands, or as many bytes as stand before it. A slot that no front decides is read to the end of its area.
+/// What the slot in an area is for a node that asks, by its front, and how many bytes that has. The slot is read, and held, until
+/// what was read decides what it is: a piece first, and then each time as many bytes more. So of what the first closed gate hides at
+/// most the rest of the first piece is read, or as many bytes as stand before it. A slot that no front decides is read to the end.
 pub fn find_in_area<D: Device, C: Commands, O: Commands>(
     alloc: Global,
     device: &mut D,
