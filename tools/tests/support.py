@@ -5,6 +5,7 @@ import contextlib
 import importlib.machinery
 import importlib.util
 import shutil
+import signal
 import subprocess
 import sys
 import tempfile
@@ -40,6 +41,11 @@ def awaits(what: Callable[[], bool]) -> bool:
     while not what() and time.monotonic() < limit:
         time.sleep(0.01)
     return what()
+
+
+def hears_interrupts() -> None:
+    """Lets a program that is started hear a Ctrl-C, as in the foreground: a shell has those in the background ignore it."""
+    signal.signal(signal.SIGINT, signal.SIG_DFL)
 
 
 def tool(name: str, *words: object) -> subprocess.CompletedProcess[str]:

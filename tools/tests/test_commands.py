@@ -5,7 +5,7 @@ import signal
 import subprocess
 import time
 
-from support import FAKE, PATIENCE, TOOLS, InFolder, awaits, tool
+from support import FAKE, PATIENCE, TOOLS, InFolder, awaits, hears_interrupts, tool
 from vstcluster import Room
 
 
@@ -52,7 +52,7 @@ class Commands(InFolder):
         self.start("mute")
         self.complains(tool("client", "--dir", self.room.path, "--timeout", 0.2, "get", "a"), 1, "no leader answered within 0.2 seconds")
         words = [str(TOOLS / "client"), "--dir", str(self.room.path), "put", "a", "x"]
-        with subprocess.Popen(words, stderr=subprocess.PIPE, text=True) as client:
+        with subprocess.Popen(words, stderr=subprocess.PIPE, text=True, preexec_fn=hears_interrupts) as client:
             self.assertTrue(awaits(lambda: self.room.slot(0).read_text(encoding="ascii").strip() == "3"))
             time.sleep(0.2)
             client.send_signal(signal.SIGINT)

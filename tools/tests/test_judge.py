@@ -9,7 +9,7 @@ from unittest import mock
 
 import vstasker
 import vstcluster
-from support import FAKE, PATIENCE, TOOLS, InFolder, load, tool
+from support import FAKE, PATIENCE, TOOLS, InFolder, hears_interrupts, load, tool
 from vstwire import Asked
 
 
@@ -23,7 +23,7 @@ class Judged(InFolder):
 
     def test_interrupted(self) -> None:
         words = [str(TOOLS / "judge"), "--nodes", "1", "--clients", "1", "--seconds", "60", "--vst", str(FAKE)]
-        with subprocess.Popen(words, stdout=subprocess.PIPE, stderr=subprocess.PIPE, text=True) as judge:
+        with subprocess.Popen(words, stdout=subprocess.PIPE, stderr=subprocess.PIPE, text=True, preexec_fn=hears_interrupts) as judge:
             self.assertIn("1 s: ", judge.stderr.readline() if judge.stderr else "")
             judge.send_signal(signal.SIGINT)
             told, said = judge.communicate(timeout=PATIENCE)
