@@ -1,12 +1,13 @@
 -- From what a device tells after it has begun to what it told before, and from a node's answer to what its run comes to.
 use Rattle.std.specs.Prelude.{◌≡◌, ℕ, List, [], ◌∷◌, Option, Some, None, Result, Ok, Err, IfSome, IsErrAnd}
-use Rattle.std.proofs.Common.{refl, subst, sym}
-use Rattle.disk.specs.Acts.{Act, Began}
+use Rattle.std.proofs.Common.{arith, refl, subst, sym}
+use Rattle.disk.specs.Acts.{Began}
 use Rattle.node_config.specs.declared.config.Config.{Config}
 use Rattle.node_datagrams.specs.Saying.{SendsOnly}
 use Rattle.node_device.specs.Faults.{Faults}
 use Rattle.node_device.specs.Telling.{Did, Told, told_after}
 use Rattle.outside.specs.declared.device.Address.{Address}
+use Rattle.udp_node.proofs.Clock.{nows_append}
 use Rattle.udp_node.specs.Causes.{RanFault}
 use Rattle.udp_node.specs.Serving.{Meets, StillTold}
 use Rattle.udp_node.specs.Stacks.{refused_areas}
@@ -35,11 +36,13 @@ areas_begun config at dir answer (Some told) mid did p =
     subst (λ first. Meets first answer) (refused_same config.stack config at dir told)
     (subst (λ mid. IfSome mid (λ told. Meets (refused_areas config.stack config told) answer)) did p)
 
-pub still_begun : (P : Told → Told → Type 0) (acts : List Act) (old mid new : Option Told) → Did old mid acts → StillTold mid new P
-    → StillTold old new (λ before now. P (told_after before acts) now)
-still_begun P acts old mid None did p = tt
-still_begun P acts None mid (Some now) did p = subst (λ mid. StillTold mid (Some now) P) did p
-still_begun P acts (Some before) mid (Some now) did p = subst (λ mid. StillTold mid (Some now) P) did p
+-- beginning asks for no clock value
+pub still_begun : (P : Told → Told → Type 0) (n : ℕ) (at : Address) (dir : List ℕ) (old mid new : Option Told) → Did old mid (Began at dir ∷ [])
+    → StillTold n mid new P → StillTold n old new (λ before now. P (told_after before (Began at dir ∷ [])) now)
+still_begun P n at dir None mid new did p = subst (λ mid. StillTold n mid new P) did p
+still_begun P n at dir (Some before) mid None did p =
+    let stopped = subst (λ mid. StillTold n mid None P) did p in omega (arith, stopped, nows_append before.acts (Began at dir ∷ []))
+still_begun P n at dir (Some before) mid (Some now) did p = subst (λ mid. StillTold n mid (Some now) P) did p
 
 -- counts that beginning left as they were
 pub sends_begun : (old mid new : Faults) → mid ≡ old → SendsOnly mid new → SendsOnly old new

@@ -1,5 +1,5 @@
 -- What reading the configuration, beginning and taking turns come to.
-use Rattle.std.specs.Prelude.{◌≡◌, ℕ, [], ◌∷◌, Some, None, Result, Ok, Err, IfSome}
+use Rattle.std.specs.Prelude.{◌≡◌, ◌+◌, ℕ, [], ◌∷◌, Some, None, Result, Ok, Err, IfSome}
 use Rattle.std.specs.List.{slice_get}
 use Rattle.command_line.specs.AskedNodes.{NodeWordsView}
 use Rattle.disk.specs.Acts.{Began, BeginFailed}
@@ -53,7 +53,8 @@ module _ (w : NodeWordsView) (input input' : SourceSeen) (device device' : Devic
     pub at : Address
     pub configured_so : IsConfigured config at
     pub areas : IfSome device.told (λ told. refused_areas config.stack config told ≡ None)
-    pub turns : StillTold device.told device'.told (λ before now. ServedOn config.stack config w.turns (begun_at at before) now)
+    pub turns : StillTold (1 + w.turns) device.told device'.told
+        (λ before now. ServedOn config.stack config w.turns (begun_at at before) now)
     pub counts : SendsOnly device.faults device'.faults
 
   -- The node ended by a fault before its last turn.
@@ -62,7 +63,8 @@ module _ (w : NodeWordsView) (input input' : SourceSeen) (device device' : Devic
     pub at : Address
     pub configured_so : IsConfigured config at
     pub areas : IfSome device.told (λ told. Meets {T = Unit {0}} (refused_areas config.stack config told) (Err e))
-    pub ended : StillTold device.told device'.told (λ before now. EndedOn config.stack config e w.turns (begun_at at before) now)
+    pub ended : StillTold (1 + w.turns) device.told device'.told
+        (λ before now. EndedOn config.stack config e w.turns (begun_at at before) now)
     pub counts : RanFault device.faults device'.faults e
 
   -- The device could not begin.

@@ -68,3 +68,7 @@ comes_to reads before after r = Comes words (source 0) (source reads) (device un
 -- and what it comes to where its input is empty
 abbrev pub comes_of_nothing : Result (Unit {0}) Trouble → Type 0
 comes_of_nothing r = Comes words empty empty idle idle r
+
+-- and where its device told before, and tells no more after
+abbrev pub comes_untold : Result (Unit {0}) Trouble → Type 0
+comes_untold r = Comes words (source 0) (source 0) idle (device untold (counts 1 1)) r

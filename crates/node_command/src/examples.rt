@@ -1,7 +1,7 @@
 ghost use Rattle.std.specs.Prelude.{◌≡◌, [], ◌∷◌, Err, None, Ok, Some, codes};
 ghost use Rattle.disk.specs.Acts.{Now};
 ghost use Rattle.node_command.specs.Complete.{areas_status, configured_status};
-ghost use Rattle.node_command.specs.Examples.{begins, comes_of_nothing, comes_to, complained, device, idle, untouched, words, wrote_out};
+ghost use Rattle.node_command.specs.Examples.{begins, comes_of_nothing, comes_to, comes_untold, complained, device, idle, untouched, words, wrote_out};
 ghost use Rattle.node_command.specs.Lines.{config_line, line_of, state_line, status_of, turns_line};
 ghost use Rattle.node_command.specs.Statuses.{EndsBy, IsConfigRefused, IsNodeStatus, IsOutOfMemory, MaySay};
 ghost use Rattle.node_device.specs.Examples.{counts, sends, tells};
@@ -48,11 +48,13 @@ pub fn worked_statuses()
     ensures says_memory { MaySay words (complained 0 [] idle) (codes "memory\n") }
 {}
 
-/// What reading the configuration, beginning and taking turns come to, by the calls that failed.
+/// What reading the configuration, beginning and taking turns come to, by the calls that failed. A device that told goes on to the
+/// end.
 pub fn worked_comings()
     ensures served { comes_to 0 (counts 1 1) (counts 1 1) (Ok tt) }
     ensures served_though_a_send_failed { comes_to 0 (sends 1) (sends 2) (Ok tt) }
     ensures not_served_where_a_store_failed { comes_to 0 (counts 1 1) (counts 1 2) (Ok tt) → ⊥ }
+    ensures not_served_where_the_device_stopped_telling { comes_untold (Ok tt) → ⊥ }
     ensures ended { comes_to 0 (counts 1 1) (counts 2 1) (Err (Trouble.Ended NodeFault.Receive)) }
     ensures not_ended_uncounted { comes_to 0 (counts 1 1) (counts 1 1) (Err (Trouble.Ended NodeFault.Receive)) → ⊥ }
     ensures not_ended_by_another { comes_to 0 (counts 1 1) (counts 2 2) (Err (Trouble.Ended NodeFault.Receive)) → ⊥ }

@@ -33,7 +33,7 @@ served before after counts = record {
   at = node_at 7000;
   configured_so = configured before after;
   areas = tt;
-  turns = tt;
+  turns = refl;
   counts = counts;
 }
 
@@ -46,13 +46,16 @@ returns-clause-served_though_a_send_failed c = served _ _ (record { begin = refl
 pub returns-clause-not_served_where_a_store_failed : goal.returns-clause-not_served_where_a_store_failed
 returns-clause-not_served_where_a_store_failed c = λ h. let e : ◌≡◌ {A = ℕ} 2 1 = h.counts.store in omega (arith, e)
 
+pub returns-clause-not_served_where_the_device_stopped_telling : goal.returns-clause-not_served_where_the_device_stopped_telling
+returns-clause-not_served_where_the_device_stopped_telling c = λ h. omega (arith, h.turns)
+
 pub returns-clause-ended : goal.returns-clause-ended
 returns-clause-ended c = record {
   config = alone;
   at = node_at 7000;
   configured_so = configured _ _;
   areas = tt;
-  ended = tt;
+  ended = refl;
   counts = record { begin = refl; receive = omega arith; store = refl; send = omega arith };
 }
 

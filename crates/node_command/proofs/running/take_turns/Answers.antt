@@ -1,6 +1,5 @@
-use Rattle.std.specs.Prelude.{◌∷◌, [], Err, Ok}
+use Rattle.std.specs.Prelude.{◌+◌, Err, Ok}
 use Rattle.command_line.specs.CommandSet.{node_words}
-use Rattle.disk.specs.Acts.{Began}
 use Rattle.node_command.specs.Coming.{Comes}
 use Rattle.node_command.specs.Seen.{device_seen}
 use Rattle.node_command.specs.declared.trouble.Trouble.TheVariants as trouble
@@ -40,7 +39,7 @@ returns-in_err-serve-clause-comes g c =
         at_is = c.own_address.ensures;
       };
       areas = areas_begun config at dir (Err e) _ _ c.in-Ready.ensures.outcome.1 c.in_err-serve.ensures.areas;
-      ended = still_begun (EndedOn config.stack config e c.args.turns) (Began at dir ∷ []) _ _ _ c.in-Ready.ensures.outcome.1 c.in_err-serve.ensures.ended;
+      ended = still_begun (EndedOn config.stack config e c.args.turns) (1 + c.args.turns) at dir _ _ _ c.in-Ready.ensures.outcome.1 c.in_err-serve.ensures.ended;
       counts = fault_begun _ _ _ e c.in-Ready.ensures.causes c.in_err-serve.ensures.causes;
     })
 
@@ -57,6 +56,6 @@ returns-clause-comes g c =
         at_is = c.own_address.ensures;
       };
       areas = areas_begun config at dir (Ok tt) _ _ c.in-Ready.ensures.outcome.1 c.in_ok-serve.ensures.areas;
-      turns = still_begun (ServedOn config.stack config c.args.turns) (Began at dir ∷ []) _ _ _ c.in-Ready.ensures.outcome.1 c.in_ok-serve.ensures.served;
+      turns = still_begun (ServedOn config.stack config c.args.turns) (1 + c.args.turns) at dir _ _ _ c.in-Ready.ensures.outcome.1 c.in_ok-serve.ensures.served;
       counts = sends_begun _ _ _ c.in-Ready.ensures.causes c.in_ok-serve.ensures.causes;
     }
