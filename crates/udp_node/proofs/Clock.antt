@@ -1,6 +1,6 @@
 -- Acts without a clock value, over which a device goes on telling.
 use Rattle.std.proofs.Common.{◌≡◌, ◌+◌, ◌≤◌, ℕ, List, [], ◌∷◌, ◌++◌, Option, Some, None, Result, Ok, Err, IfOk, OnErr, OnOk, refl, sym, ap, subst, arith, inl, inr}
-use Rattle.disk.specs.Acts.{Act, Began, BeginFailed, Now, Took, Quiet, ReceiveFailed, Sent, SendFailed, Wrote, Cut, Synced, StoreFailed}
+use Rattle.disk.specs.Acts.{Act, Took, Quiet, ReceiveFailed, Sent, SendFailed, Wrote, Cut, Synced, StoreFailed}
 use Rattle.disk.specs.Areas.{area_at}
 use Rattle.disk.specs.Disk.{Image, contents}
 use Rattle.disk.specs.DiskLaws.{Every}
