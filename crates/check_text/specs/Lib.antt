@@ -6,3 +6,4 @@ pub mod Forms
 pub mod ItemViews
 pub mod Drafts
 pub mod Outcomes
+pub mod Examples

@@ -1,5 +1,5 @@
--- Slot 0 alone, for examples.
-use Rattle.std.specs.Prelude.{ℕ, Bool, List, []}
+-- Disks for examples: most with slot 0 alone.
+use Rattle.std.specs.Prelude.{ℕ, Bool, List, [], ◌∷◌}
 use Rattle.disk.specs.Acts.{Act}
 use Rattle.disk.specs.Disk.{Area, Disk, settled, may_leave}
 use Rattle.disk.specs.Between.{may_leave_between}
@@ -25,3 +25,9 @@ leaves_between first acts image =
 -- the image of slot 0 by a word, after these acts
 abbrev pub worded : List ℕ → List Act → ℕ → List ℕ
 worded first acts word = (image_by_word (on_slot (settled first)) acts word).slot0
+
+-- whether a crash after these acts may leave this image, where each area held one byte at first: 1, 2 and 3
+abbrev pub leaves_all : List Act → List ℕ → List ℕ → List ℕ → Bool
+leaves_all acts slot0 slot1 selector =
+    may_leave (record { slot0 = settled (1 ∷ []); slot1 = settled (2 ∷ []); selector = settled (3 ∷ []) }) acts
+    (record { slot0 = slot0; slot1 = slot1; selector = selector })

@@ -2,7 +2,7 @@ ghost use Rattle.std.specs.Prelude.{◌≡◌, true, false, [], ◌∷◌};
 ghost use Rattle.disk.specs.Acts.{Wrote, Cut, Synced, StoreFailed, ReadAt, WriteAt, CutTo, Sync, Quiet};
 ghost use Rattle.disk.specs.Disk.{written, cut, settled};
 ghost use Rattle.disk.specs.DiskLaws.{IsCutShort};
-ghost use Rattle.disk.specs.Examples.{leaves, leaves_between, leaves_from, worded};
+ghost use Rattle.disk.specs.Examples.{leaves, leaves_all, leaves_between, leaves_from, worded};
 
 /// A write that is torn: any bytes in its range, the others as they were, the length as it was.
 pub fn worked_writes()
@@ -105,4 +105,26 @@ pub fn worked_short_acts()
     ensures other_call_failed { IsCutShort (Synced 0 ∷ []) (StoreFailed (CutTo 0 1) ∷ []) → ⊥ }
     ensures on_after_a_failure { IsCutShort (Synced 0 ∷ Synced 1 ∷ []) (StoreFailed (Sync 0) ∷ Synced 1 ∷ []) → ⊥ }
     ensures another_act { IsCutShort (Synced 0 ∷ []) (Quiet 5 ∷ []) → ⊥ }
+{}
+
+/// Writes and cuts that failed where the acts were cut short: the same bytes and length, in the same place. Nothing comes after the end.
+pub fn worked_short_failures()
+    ensures write { IsCutShort (Wrote 0 0 (9 ∷ []) ∷ Synced 0 ∷ []) (StoreFailed (WriteAt 0 0 (9 ∷ [])) ∷ []) }
+    ensures write_of_other_bytes { IsCutShort (Wrote 0 0 (9 ∷ []) ∷ []) (StoreFailed (WriteAt 0 0 (8 ∷ [])) ∷ []) → ⊥ }
+    ensures write_elsewhere { IsCutShort (Wrote 0 0 (9 ∷ []) ∷ []) (StoreFailed (WriteAt 1 0 (9 ∷ [])) ∷ []) → ⊥ }
+    ensures cut { IsCutShort (Cut 0 3 ∷ Synced 0 ∷ []) (StoreFailed (CutTo 0 3) ∷ []) }
+    ensures cut_to_another_length { IsCutShort (Cut 0 3 ∷ []) (StoreFailed (CutTo 0 2) ∷ []) → ⊥ }
+    ensures read_after_the_end { IsCutShort (Cut 0 3 ∷ []) (Cut 0 3 ∷ StoreFailed (ReadAt 0 0 1) ∷ []) }
+    ensures done_with_other_bytes { IsCutShort (Wrote 0 0 (9 ∷ []) ∷ []) (Wrote 0 0 (8 ∷ []) ∷ []) → ⊥ }
+    ensures more { IsCutShort (Synced 0 ∷ []) (Synced 0 ∷ Synced 0 ∷ []) → ⊥ }
+{}
+
+/// Each of the three areas counts: what is pending on one leaves the others as they are.
+pub fn worked_areas()
+    ensures as_read { leaves_all (Wrote 1 0 (9 ∷ []) ∷ []) (1 ∷ []) (9 ∷ []) (3 ∷ []) ≡ true }
+    ensures torn_slot_1 { leaves_all (Wrote 1 0 (9 ∷ []) ∷ []) (1 ∷ []) (7 ∷ []) (3 ∷ []) ≡ true }
+    ensures another_slot_0 { leaves_all (Wrote 1 0 (9 ∷ []) ∷ []) (7 ∷ []) (9 ∷ []) (3 ∷ []) ≡ false }
+    ensures another_slot_1 { leaves_all (Wrote 2 0 (9 ∷ []) ∷ []) (1 ∷ []) (7 ∷ []) (9 ∷ []) ≡ false }
+    ensures another_selector { leaves_all (Wrote 1 0 (9 ∷ []) ∷ []) (1 ∷ []) (9 ∷ []) (7 ∷ []) ≡ false }
+    ensures torn_selector { leaves_all (Wrote 2 0 (9 ∷ []) ∷ []) (1 ∷ []) (2 ∷ []) (7 ∷ []) ≡ true }
 {}

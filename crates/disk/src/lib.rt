@@ -7,6 +7,6 @@ mod examples;
 
 pub use every_disk::{laws, laws_between, worded_images};
 pub use examples::{
-    worked_between, worked_cuts, worked_faults, worked_gaps, worked_images, worked_pending,
-    worked_short_acts, worked_syncs, worked_writes,
+    worked_areas, worked_between, worked_cuts, worked_faults, worked_gaps, worked_images,
+    worked_pending, worked_short_acts, worked_short_failures, worked_syncs, worked_writes,
 };

@@ -6,3 +6,4 @@ pub mod Readers
 pub mod Filling
 pub mod Outcomes
 pub mod Whys
+pub mod Examples

@@ -9,6 +9,7 @@ mod fault;
 mod next;
 mod piece;
 mod reader;
+mod reading_examples;
 mod why;
 mod why_words;
 
@@ -17,4 +18,5 @@ pub use examples::{worked, worked_ends};
 pub use fault::LineFault;
 pub use next::next_line;
 pub use reader::{MAX_LINE, Reader};
+pub use reading_examples::{worked_reading, worked_stopping};
 pub use why::Why;

@@ -6,8 +6,10 @@ mod fault;
 mod laws;
 mod making;
 mod writing;
+mod writing_examples;
 
 pub use examples::worked;
 pub use fault::MakeFault;
 pub use laws::{made_schedules_are_allowed, made_schedules_are_replayed};
 pub use making::{make, summary};
+pub use writing_examples::worked_writings;

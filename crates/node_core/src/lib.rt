@@ -2,11 +2,13 @@
 //! its datagrams. So no datagram leaves before the state that it speaks of is durable. It knows one turn, and not which event comes.
 #![tactic(auto)]
 
+mod examples;
 mod replica;
 mod saved;
 mod shipped;
 mod taken;
 
+pub use examples::{worked_readiness, worked_replicas};
 pub use replica::Replica;
 pub use saved::Saved;
 pub use shipped::Shipped;

@@ -1,2 +1,3 @@
 pub mod Configured
 pub mod Saying
+pub mod Examples

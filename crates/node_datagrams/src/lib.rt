@@ -9,7 +9,7 @@ mod saying;
 mod shipping;
 
 pub use addresses::{address_of_client, address_of_node};
-pub use examples::{worked_events, worked_settings};
+pub use examples::{worked_bytes, worked_events, worked_sayings, worked_settings};
 pub use hearing::hear;
 pub use saying::{put_packet, put_reply};
 pub use shipping::ship;

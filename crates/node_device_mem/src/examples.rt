@@ -1,11 +1,13 @@
-ghost use Rattle.std.specs.Prelude.{◌≡◌, [], ◌∷◌, None, Some};
+ghost use Rattle.std.specs.Prelude.{◌≡◌, true, false, [], ◌∷◌, None, Some};
 ghost use Rattle.disk.specs.Acts.{WriteAt, Sync, Now, Wrote, Synced, StoreFailed};
 ghost use Rattle.disk.specs.Disk.{settled, written};
 ghost use Rattle.node_device.specs.Examples.{holds, node_at, shows, tells};
 ghost use Rattle.node_device_mem.specs.Histories.{clock_value, nows_from};
-ghost use Rattle.node_device_mem.specs.Scripts.{Brings, StoresExactly, cut_to, received_after};
+ghost use Rattle.node_device_mem.specs.Scripts.{BeginsBy, Brings, ReadsBy, ReceivesBy, SendsBy, StoresBy, StoresExactly, cut_to, next_arrival, received_after};
 
-use node_device::{Received, Stored};
+use crate::Arrival;
+use node_device::{AreaRead, Received, Shipped, Stored};
+use outside::Begun;
 
 /// Values of a scripted clock, of which the last comes again.
 pub fn worked_clocks()
@@ -41,4 +43,29 @@ pub fn worked_failures()
     ensures failed_sync { StoresExactly (Sync 0) (Synced 0) (shows [] (written 0 (9 ∷ []) (settled (1 ∷ []))))
         (shows (StoreFailed (Sync 0) ∷ []) (written 0 (9 ∷ []) (settled (1 ∷ [])))) Stored.Failed }
     ensures failed_unrecorded { StoresExactly (Sync 0) (Synced 0) (tells []) (tells []) Stored.Failed → ⊥ }
+{}
+
+/// A call that is due fails, and no other does; either may want memory.
+pub fn worked_dues()
+    ensures begins { BeginsBy false Begun.Ready }
+    ensures begins_where_due { BeginsBy true Begun.Ready → ⊥ }
+    ensures begin_fails { BeginsBy true Begun.Failed }
+    ensures begin_fails_unasked { BeginsBy false Begun.Failed → ⊥ }
+    ensures begin_wants { BeginsBy true Begun.Memory }
+    ensures receives { ReceivesBy false (Received.Datagram (node_at 7001) 1) }
+    ensures receives_where_due { ReceivesBy true (Received.Datagram (node_at 7001) 1) → ⊥ }
+    ensures quiet_where_due { ReceivesBy true Received.Quiet → ⊥ }
+    ensures receive_fails_unasked { ReceivesBy false Received.Failed → ⊥ }
+    ensures sends { SendsBy false Shipped.Sent }
+    ensures sends_where_due { SendsBy true Shipped.Sent → ⊥ }
+    ensures send_fails_unasked { SendsBy false Shipped.Failed → ⊥ }
+    ensures reads { ReadsBy false (AreaRead.Got 3) }
+    ensures reads_where_due { ReadsBy true (AreaRead.Got 3) → ⊥ }
+    ensures read_fails_unasked { ReadsBy false AreaRead.Failed → ⊥ }
+    ensures stores { StoresBy false Stored.Done }
+    ensures stores_where_due { StoresBy true Stored.Done → ⊥ }
+    ensures store_fails_unasked { StoresBy false Stored.Failed → ⊥ }
+    ensures store_wants { StoresBy true Stored.Memory }
+    ensures nothing_arrives { next_arrival [] 0 ≡ None }
+    ensures a_quiet_arrival { next_arrival (Arrival.Quiet ∷ []) 0 ≡ None }
 {}

@@ -13,7 +13,7 @@ mod script;
 mod steady;
 mod trail;
 
-pub use examples::{worked_clocks, worked_failures, worked_receives};
+pub use examples::{worked_clocks, worked_dues, worked_failures, worked_receives};
 pub use laws::areas_follow_the_acts;
 pub use memory::{Counts, MemoryDevice};
 pub use memory_disk::{Areas, MemoryDisk};

@@ -1,7 +1,7 @@
 ghost use Rattle.std.specs.Prelude.{◌≡◌, ◌^◌, ◌-◌, [], ◌∷◌, ◌++◌, None, Some};
 ghost use Rattle.disk.specs.Acts.{Now, Quiet, ReceiveFailed, Took};
 ghost use Rattle.node_run.specs.declared.event.Event.TheVariants.{Tick};
-ghost use Rattle.node_run.specs.Examples.{are_orderly, asked_by_1, asked_put, asks, at_port, candidate, cluster, datagram, done, happened, heard, kept_as, number_of_eight, put_a_x, run, settings, three_turns, top, turns, vote, voted_by_1, votes};
+ghost use Rattle.node_run.specs.Examples.{are_orderly, asked_by_1, asked_put, asks, at_port, candidate, cluster, datagram, done, happened, heard, kept_as, number_of_eight, put_a_x, run, three_turns, top, turns, vote, voted_by_1, votes};
 ghost use Rattle.node_run.specs.Settings.{due, later};
 ghost use Rattle.node_run.specs.declared.due.Due.TheVariants.{Timeout, Wait};
 
@@ -13,6 +13,8 @@ pub fn worked_waits()
     ensures a_minute { due 100000 0 ≡ Wait 60000 }
     ensures later { later 5 300 ≡ 305 }
     ensures at_the_greatest { later (2 ^ 64 - 2) 300 ≡ 2 ^ 64 - 1 }
+    ensures at_the_greatest_already { later (2 ^ 64 - 1) 300 ≡ 2 ^ 64 - 1 }
+    ensures due_at_the_greatest { due (later (2 ^ 64 - 1) 300) (2 ^ 64 - 1) ≡ Timeout }
 {}
 
 /// Which datagrams are events of node 0.
@@ -69,7 +71,13 @@ pub fn worked_turns()
     // A node that leads has the shorter period.
     ensures leads { happened (Now 0 ∷ Now 300 ∷ Now 310 ∷ Took 290 (at_port 7001) voted_by_1 ∷ Now 359 ∷ Quiet 1 ∷ Now 360 ∷ []) ≡
         Tick ∷ vote ∷ Tick ∷ [] }
+    // At the greatest time each turn is a timeout.
+    ensures at_the_greatest { happened (Now (2 ^ 64 - 1) ∷ Now (2 ^ 64 - 1) ∷ Now (2 ^ 64 - 1) ∷ []) ≡ Tick ∷ Tick ∷ [] }
     ensures orderly { are_orderly three_turns }
+    ensures a_receive_before_the_clock { are_orderly (Took 300 (at_port 7001) asked_by_1 ∷ []) → ⊥ }
+    ensures a_wait_before_the_clock { are_orderly (Quiet 300 ∷ []) → ⊥ }
+    ensures a_failed_receive_before_the_clock { are_orderly (ReceiveFailed 300 ∷ []) → ⊥ }
+    ensures a_receive_before_the_turn { are_orderly (Now 0 ∷ Took 300 (at_port 7001) asked_by_1 ∷ []) → ⊥ }
     ensures a_clock_that_falls { are_orderly (Now 1000 ∷ Now 0 ∷ Quiet 1300 ∷ Now 1300 ∷ []) }
     ensures another_wait { are_orderly (Now 0 ∷ Now 0 ∷ Quiet 299 ∷ []) → ⊥ }
     ensures a_wait_after_a_timeout { are_orderly (Now 0 ∷ Now 300 ∷ Quiet 300 ∷ []) → ⊥ }

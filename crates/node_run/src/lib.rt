@@ -5,7 +5,9 @@
 mod due;
 mod event;
 mod examples;
+mod saying_examples;
 
 pub use due::Due;
 pub use event::Event;
 pub use examples::{worked_hearing, worked_runs, worked_turns, worked_waits};
+pub use saying_examples::{worked_leading, worked_sayings};

@@ -3,3 +3,4 @@ pub mod Fronts
 pub mod Ends
 pub mod Crashes
 pub mod Answers
+pub mod Examples

@@ -3,6 +3,7 @@
 #![tactic(auto)]
 
 mod common;
+mod examples;
 mod faults;
 mod finding;
 mod opening;
@@ -11,6 +12,7 @@ mod saving;
 mod store;
 mod writing;
 
+pub use examples::{worked_answers, worked_counts, worked_crashes, worked_ends, worked_openings};
 pub use faults::StateFault;
 pub use finding::find_in_area;
 pub use opening::{OpenFault, Opened, Refusal, open};

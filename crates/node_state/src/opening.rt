@@ -75,13 +75,13 @@ impl From<AllocError> for OpenFault {
 /// What the areas of a node opened as.
 #[derive(Drop)]
 pub enum Opened<C> {
-    /// They were empty, and now hold the first state: term 0, no vote, no entries.
+    /// Area 2, the selector, was empty, whatever the slots held, and the areas now hold the first state: term 0, no vote, no entries.
     Fresh(Store),
     /// They hold this state.
     Held(Store, Kept<C>),
 }
 
-// Writes the first state into empty areas.
+// Writes the first state, whatever the slots hold.
 fn open_fresh<D: Device, C: Commands>(
     alloc: Global,
     device: &mut D,

@@ -1,3 +1,4 @@
 pub mod Counts
 pub mod Sinks
 pub mod Sources
+pub mod Examples

@@ -1,5 +1,5 @@
 -- What the worked rows of playing are about: locks, of which nothing runs but what clients saw.
-use Rattle.std.specs.Prelude.{ℕ, List, [], ◌∷◌, Option}
+use Rattle.std.specs.Prelude.{ℕ, List, [], ◌∷◌, Option, None, Some, Result, codes}
 use Rattle.vst_base.specs.declared.lock.LockInput.{LockInput}
 use Rattle.vst_base.specs.declared.lock.LockInput.TheVariants as ask
 use Rattle.vst_base.specs.declared.lock.LockOutput.{LockOutput}
@@ -8,7 +8,12 @@ use Rattle.line_reader.specs.Readers.{ReaderView, fresh}
 use Rattle.xform_stack.specs.Running.{Progress}
 use Rattle.stacks.specs.Table.{lock_texts}
 use Rattle.schedule_replay.specs.declared.tally.Tally.{Tally}
+use Rattle.line_reader.specs.declared.why.Why.TheVariants as why
+use Rattle.schedule_replay.specs.Outcomes.{ComesTo}
 use Rattle.schedule_replay.specs.Playing.{Writes}
+use Rattle.schedule_replay.specs.Replaying.{Replayed, no_counts}
+use Rattle.schedule_replay.specs.declared.done.Done.{Done}
+use Rattle.schedule_replay.specs.declared.fault.ReplayFault.{ReplayFault}
 
 -- a reader that has read these bytes ahead
 abbrev pub read_ahead : List ℕ → ReaderView
@@ -29,3 +34,18 @@ inputs n = record { inputs = n; outputs = 0; replies = 0 }
 abbrev pub WritesLocks : Progress LockInput LockOutput → Progress LockInput LockOutput → Tally → Tally → Option (List ℕ)
     → Option (List ℕ) → Type 0
 WritesLocks v u n m out after = Writes (λ r ss. Unit {0}) (λ r. r) lock_texts v u n m out after
+
+-- two steps after a header: their trace, and that the second of them is refused
+abbrev pub two_steps : Done
+two_steps = record { events = 2; inputs = 1; outputs = 0; replies = 0; image = 0 }
+
+abbrev pub taken : Replayed
+taken = record { out = codes "in 1 lock\n"; refused = None; counts = two_steps }
+
+abbrev pub stopped : Replayed
+stopped = record { out = codes "in 1 lock\n"; refused = Some (3, why.NoCopy); counts = no_counts }
+
+-- what a replay of them comes to that is to come to this, with so much left of the source, by a sink that held one line and has this now
+abbrev pub comes_to : Replayed → List ℕ → List ℕ → Result Done ReplayFault → Type 0
+comes_to replayed left out r =
+    ComesTo (λ _. replayed) (λ _. replayed) 1 (codes "in 1 lock\ntick 1\n") (Some left) (Some (codes "held\n")) (Some out) r

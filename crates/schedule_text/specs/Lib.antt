@@ -9,3 +9,4 @@ pub mod Spellable
 pub mod PartViews
 pub mod Streams
 pub mod Sending
+pub mod Examples

@@ -5,3 +5,4 @@ pub mod Heard
 pub mod Acts
 pub mod Going
 pub mod Served
+pub mod Worked

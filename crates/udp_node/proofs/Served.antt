@@ -42,7 +42,7 @@ module _ {S C O D : Type 0} (s : StackId) (config : Config) (m : MachineMeaning 
       (quiet_goes (settings_of config) m s f t h g (who_of config) (Between (view_of replica)) (kept_of replica.state) replica.store 0 (view_of replica) [] told
       ((turns_hear (settings_of config) m f g).nothing (Between (view_of replica))) held who)
 
-  at_most : (stage : Stage S C O) (kept : KeptView C) (store : StoreView) (a b : ℕ) (before now : Told) → a ≤ b →
+  pub at_most : (stage : Stage S C O) (kept : KeptView C) (store : StoreView) (a b : ℕ) (before now : Told) → a ≤ b →
       TurnsHalt s config m f g t h stage kept store a before now → TurnsHalt s config m f g t h stage kept store b before now
   at_most stage kept store a b before now le x = record {
     did = x.did;

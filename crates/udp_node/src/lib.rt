@@ -7,8 +7,10 @@ mod fault;
 mod listening;
 mod room;
 mod serving;
+mod serving_examples;
 mod turning;
 
 pub use examples::{worked_causes, worked_listening, worked_starts};
 pub use fault::NodeFault;
 pub use serving::{MAX_TURNS, serve};
+pub use serving_examples::{worked_areas, worked_faults, worked_serving};

@@ -183,8 +183,9 @@ fn serve_stack<
     Ok(())
 }
 
-/// Runs a node for so many turns over a device that has begun. `Ok` comes exactly after the last of them. Its areas are refused exactly
-/// where they are not this node's own, unless a store call fails or memory is wanted before that is known.
+/// Runs a node for so many turns over a device that has begun. `Ok` comes exactly after the last of them, where the device tells to the
+/// end. Its areas are refused exactly where they are not this node's own, unless a store call fails or memory is wanted before that is
+/// known.
 pub fn serve<D: Device>(
     alloc: Global,
     device: &mut D,

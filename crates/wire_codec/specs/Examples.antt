@@ -1,5 +1,5 @@
 -- Datagrams whose bytes were worked out by hand.
-use Rattle.std.specs.Prelude.{ℕ, List, [], ◌∷◌, ◌++◌}
+use Rattle.std.specs.Prelude.{ℕ, zero, suc, List, [], ◌∷◌, ◌++◌}
 
 abbrev pub cluster_name : List ℕ
 cluster_name = 0 ∷ 1 ∷ 2 ∷ 3 ∷ 4 ∷ 5 ∷ 6 ∷ 7 ∷ 8 ∷ 9 ∷ 10 ∷ 11 ∷ 12 ∷ 13 ∷ 14 ∷ 15 ∷ []
@@ -40,9 +40,36 @@ requests_put = one ++ puts_x
 abbrev pub replies_x : List ℕ
 replies_x = one ++ (1 ∷ 1 ∷ 97 ∷ 1 ∷ 0 ∷ 1 ∷ 120 ∷ 0 ∷ [])
 
--- one entry of term 1, request 1 of client 7, which node 0 took
+-- an entry of term 1, request 1 of client 7, which this node took, with put a x
+abbrev pub put_taken_by : ℕ → List ℕ
+put_taken_by origin = one ++ (1 ∷ 0 ∷ 0 ∷ 0 ∷ 0 ∷ 0 ∷ 0 ∷ 0 ∷ 7 ∷ (one ++ (origin ∷ puts_x)))
+
 abbrev pub entry_of_put : List ℕ
-entry_of_put = one ++ (1 ∷ 0 ∷ 0 ∷ 0 ∷ 0 ∷ 0 ∷ 0 ∷ 0 ∷ 7 ∷ (one ++ (0 ∷ puts_x)))
+entry_of_put = put_taken_by 0
+
+-- a leader of term 1 sends so many entries after the one at this index, and has committed none
+abbrev pub sends_after : List ℕ → ℕ → List ℕ → List ℕ
+sends_after prev_index count entries = 3 ∷ (one ++ (prev_index ++ (zero_of_eight ++ (zero_of_four ++ (count ∷ entries)))))
 
 abbrev pub sends_an_entry : List ℕ
-sends_an_entry = 3 ∷ (one ++ (zero_of_four ++ (zero_of_eight ++ (zero_of_four ++ (1 ∷ entry_of_put)))))
+sends_an_entry = sends_after zero_of_four 1 entry_of_put
+
+-- so many no-ops of term 1
+abbrev pub no_ops : ℕ → List ℕ
+no_ops zero = []
+no_ops (suc n) = one ++ (0 ∷ no_ops n)
+
+-- the greatest index of a log, 1,000,000, and the one before it
+abbrev pub greatest_index : List ℕ
+greatest_index = 0 ∷ 15 ∷ 66 ∷ 64 ∷ []
+
+abbrev pub before_greatest_index : List ℕ
+before_greatest_index = 0 ∷ 15 ∷ 66 ∷ 63 ∷ []
+
+-- a name and an owner: l bob
+abbrev pub l_and_bob : List ℕ
+l_and_bob = 1 ∷ 108 ∷ 3 ∷ 98 ∷ 111 ∷ 98 ∷ []
+
+-- the table's output: l is held by bob, and the answer is yes
+abbrev pub bob_holds_l : List ℕ
+bob_holds_l = 1 ∷ 108 ∷ 1 ∷ 3 ∷ 98 ∷ 111 ∷ 98 ∷ 1 ∷ []

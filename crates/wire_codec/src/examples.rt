@@ -1,18 +1,22 @@
-ghost use Rattle.std.specs.Prelude.{◌≡◌, ◌∷◌, ◌++◌, [], None, Some, codes, true};
+ghost use Rattle.std.specs.Prelude.{◌≡◌, ◌∷◌, ◌++◌, [], None, Some, codes, false, true};
 ghost use Rattle.kv_machine.specs.declared.cmd.KvCmd.TheVariants as command;
+ghost use Rattle.lock_table.specs.declared.cmd.TableCmd.TheVariants as table;
 ghost use Rattle.raft_types.specs.declared.msg.RaftMsg.TheVariants as message;
 ghost use Rattle.vst_base.specs.declared.lock.LockMsg.TheVariants as lock;
+ghost use Rattle.vst_base.specs.declared.pb_msg.PbMsg.TheVariants as backup;
 ghost use Rattle.vst_base.specs.declared.stack.StackId.TheVariants as stack;
 ghost use Rattle.vst_base.specs.declared.what.What.TheVariants as what;
+ghost use Rattle.wire_codec.specs.Bodies.{is_peer_message, is_reply, is_request};
 ghost use Rattle.wire_codec.specs.Datagrams.{message_of, read_datagram};
-ghost use Rattle.wire_codec.specs.Examples.{asks_for_a_vote, asks_for_the_lock, cluster_name, entry_of_put, framed, grants_a_vote, one, replies_x, requests_put, sends_an_entry, zero_of_eight, zero_of_four};
-ghost use Rattle.wire_codec.specs.Headings.{heading_of};
+ghost use Rattle.wire_codec.specs.Examples.{asks_for_a_vote, asks_for_the_lock, before_greatest_index, bob_holds_l, cluster_name, entry_of_put, framed, grants_a_vote, greatest_index, l_and_bob, no_ops, one, put_taken_by, puts_x, replies_x, requests_put, sends_after, sends_an_entry, zero_of_eight, zero_of_four};
+ghost use Rattle.wire_codec.specs.Headings.{heading_of, kind_field, stack_field};
 ghost use Rattle.wire_codec.specs.declared.kind.Kind.TheVariants as kind;
 ghost use Rattle.wire_messages.specs.ClientBytes.{client_reply, client_request};
-ghost use Rattle.wire_messages.specs.EntryBytes.{entry, old_entry};
+ghost use Rattle.wire_messages.specs.EntryBytes.{entry, entry_of, old_entry};
 ghost use Rattle.wire_messages.specs.KvBytes.{kv_command, kv_output};
-ghost use Rattle.wire_messages.specs.PeerBytes.{lock_message, numbered};
-ghost use Rattle.wire_messages.specs.RaftBytes.{raft_message};
+ghost use Rattle.wire_messages.specs.PeerBytes.{backup_message, lock_message, numbered};
+ghost use Rattle.wire_messages.specs.RaftBytes.{append_of, raft_message};
+ghost use Rattle.wire_messages.specs.TableBytes.{table_command, table_output};
 ghost use Rattle.wire_messages.specs.declared.client.Answer.TheVariants as answer;
 
 /// Datagrams are read as their headings and messages.
@@ -50,6 +54,126 @@ pub fn worked_messages()
     ensures no_old_no_op { (old_entry kv_command).read (one ++ (0 ∷ [])) ≡ None }
 {}
 
+/// The bytes of each command of the key-value machine, and of its outputs.
+#[tactic(auto, unfolding(wire_fields::specs::Bytes::number_bytes, wire_fields::specs::Bytes::number_in, wire_fields::specs::Bytes::has_bytes, wire_fields::specs::Bytes::read_number))]
+pub fn worked_commands()
+    ensures get { kv_command.spell (command.Get (codes "a")) ≡ 1 ∷ 1 ∷ 97 ∷ [] }
+    ensures put { kv_command.spell (command.Put (codes "a") (codes "x")) ≡ 2 ∷ 1 ∷ 97 ∷ 0 ∷ 1 ∷ 120 ∷ [] }
+    ensures del { kv_command.spell (command.Del (codes "a")) ≡ 3 ∷ 1 ∷ 97 ∷ [] }
+    ensures cas { kv_command.spell (command.Cas (codes "a") (Some (codes "y")) (codes "x"))
+        ≡ 4 ∷ 1 ∷ 97 ∷ 1 ∷ 0 ∷ 1 ∷ 121 ∷ 0 ∷ 1 ∷ 120 ∷ [] }
+    ensures cas_of_none { kv_command.spell (command.Cas (codes "a") None (codes "x")) ≡ 4 ∷ 1 ∷ 97 ∷ 0 ∷ 0 ∷ 1 ∷ 120 ∷ [] }
+    ensures cad { kv_command.spell (command.Cad (codes "a") (codes "x")) ≡ 5 ∷ 1 ∷ 97 ∷ 0 ∷ 1 ∷ 120 ∷ [] }
+    ensures reads_cad { kv_command.read (5 ∷ 1 ∷ 97 ∷ 0 ∷ 1 ∷ 120 ∷ []) ≡ Some (command.Cad (codes "a") (codes "x"), []) }
+    ensures no_command_0 { kv_command.read (0 ∷ 1 ∷ 97 ∷ 0 ∷ 1 ∷ 120 ∷ []) ≡ None }
+    ensures no_command_6 { kv_command.read (6 ∷ 1 ∷ 97 ∷ 0 ∷ 1 ∷ 120 ∷ []) ≡ None }
+    ensures was_set { kv_output.spell (record { key = codes "a"; after = Some (codes "x"); before = None })
+        ≡ 1 ∷ 97 ∷ 1 ∷ 0 ∷ 1 ∷ 120 ∷ 0 ∷ [] }
+    ensures was_deleted { kv_output.spell (record { key = codes "a"; after = None; before = Some (codes "x") })
+        ≡ 1 ∷ 97 ∷ 0 ∷ 1 ∷ 0 ∷ 1 ∷ 120 ∷ [] }
+{}
+
+/// The bytes of each command of the table of named locks, and of its outputs.
+#[tactic(auto, unfolding(wire_fields::specs::Bytes::number_bytes, wire_fields::specs::Bytes::number_in, wire_fields::specs::Bytes::has_bytes, wire_fields::specs::Bytes::read_number))]
+pub fn worked_table_commands()
+    ensures acquire { table_command.spell (table.Acquire (codes "l") (codes "bob")) ≡ 1 ∷ l_and_bob }
+    ensures release { table_command.spell (table.Release (codes "l") (codes "bob")) ≡ 2 ∷ l_and_bob }
+    ensures holder { table_command.spell (table.Holder (codes "l")) ≡ 3 ∷ 1 ∷ 108 ∷ [] }
+    ensures reads_acquire { table_command.read (1 ∷ l_and_bob) ≡ Some (table.Acquire (codes "l") (codes "bob"), []) }
+    ensures reads_release { table_command.read (2 ∷ l_and_bob) ≡ Some (table.Release (codes "l") (codes "bob"), []) }
+    ensures no_command_0 { table_command.read (0 ∷ l_and_bob) ≡ None }
+    ensures no_command_4 { table_command.read (4 ∷ l_and_bob) ≡ None }
+    ensures is_held { table_output.spell (record { name = codes "l"; holder = Some (codes "bob"); yes = true }) ≡ bob_holds_l }
+    ensures is_free { table_output.spell (record { name = codes "l"; holder = None; yes = false }) ≡ 1 ∷ 108 ∷ 0 ∷ 0 ∷ [] }
+    ensures reads_held { table_output.read bob_holds_l ≡ Some (record { name = codes "l"; holder = Some (codes "bob"); yes = true }, []) }
+    ensures no_answer_2 { table_output.read (1 ∷ 108 ∷ 0 ∷ 2 ∷ []) ≡ None }
+{}
+
+/// The bytes of each message of the lock server, of primary-backup and of sequence numbering.
+#[tactic(auto, unfolding(wire_fields::specs::Bytes::number_bytes, wire_fields::specs::Bytes::number_in, wire_fields::specs::Bytes::has_bytes, wire_fields::specs::Bytes::read_number))]
+pub fn worked_packets()
+    ensures asks { lock_message.spell lock.Lock ≡ 1 ∷ [] }
+    ensures gives_back { lock_message.spell lock.Unlock ≡ 2 ∷ [] }
+    ensures hands_over { lock_message.spell lock.Locked ≡ 3 ∷ [] }
+    ensures no_lock_0 { lock_message.read (0 ∷ []) ≡ None }
+    ensures no_lock_4 { lock_message.read (4 ∷ []) ≡ None }
+    ensures apply { (backup_message kv_command).spell (backup.Apply (command.Put (codes "a") (codes "x"))) ≡ 1 ∷ puts_x }
+    ensures ack { (backup_message kv_command).spell backup.Ack ≡ 2 ∷ [] }
+    ensures reads_apply { (backup_message kv_command).read (1 ∷ puts_x) ≡ Some (backup.Apply (command.Put (codes "a") (codes "x")), []) }
+    ensures reads_ack { (backup_message kv_command).read (2 ∷ []) ≡ Some (backup.Ack, []) }
+    ensures no_backup_0 { (backup_message kv_command).read (0 ∷ []) ≡ None }
+    ensures no_backup_3 { (backup_message kv_command).read (3 ∷ []) ≡ None }
+    ensures numbered { (numbered lock_message).spell (record { number = 1; inner = lock.Locked }) ≡ one ++ (3 ∷ []) }
+{}
+
+/// The bytes of each message between the nodes of a Raft cluster, and of entries, up to the ends of their ranges.
+#[tactic(auto, unfolding(wire_fields::specs::Bytes::number_bytes, wire_fields::specs::Bytes::number_in, wire_fields::specs::Bytes::has_bytes, wire_fields::specs::Bytes::read_number))]
+pub fn worked_cluster_messages()
+    ensures asks_for_a_vote { (raft_message kv_command).spell (message.RequestVote (record { term = 1; last_index = 0; last_term = 0 }))
+        ≡ asks_for_a_vote }
+    ensures grants_a_vote { (raft_message kv_command).spell (message.Vote (record { term = 1; granted = true })) ≡ grants_a_vote }
+    ensures refuses_a_vote { (raft_message kv_command).spell (message.Vote (record { term = 1; granted = false })) ≡ 2 ∷ (one ++ (0 ∷ [])) }
+    ensures sends_nothing { (raft_message kv_command).spell (message.Append (append_of 1 0 0 0 [])) ≡ sends_after zero_of_four 0 [] }
+    ensures appended { (raft_message kv_command).spell (message.Appended (record { term = 1; ok = true; index = 1000000 }))
+        ≡ 4 ∷ (one ++ (1 ∷ greatest_index)) }
+    ensures not_appended { (raft_message kv_command).spell (message.Appended (record { term = 1; ok = false; index = 0 }))
+        ≡ 4 ∷ (one ++ (0 ∷ zero_of_four)) }
+    ensures reads_appended { (raft_message kv_command).read (4 ∷ (one ++ (1 ∷ greatest_index)))
+        ≡ Some (message.Appended (record { term = 1; ok = true; index = 1000000 }), []) }
+    ensures no_message_0 { (raft_message kv_command).read (0 ∷ (one ++ (1 ∷ greatest_index))) ≡ None }
+    ensures no_message_5 { (raft_message kv_command).read (5 ∷ (one ++ (1 ∷ greatest_index))) ≡ None }
+    ensures up_to_the_greatest { (raft_message kv_command).read (sends_after before_greatest_index 1 (no_ops 1))
+        ≡ Some (message.Append (append_of 1 999999 0 0 (entry_of 1 what.Noop ∷ [])), []) }
+    ensures past_the_greatest { (raft_message kv_command).read (sends_after greatest_index 1 (no_ops 1)) ≡ None }
+    ensures eight_entries { is_peer_message stack.KvRaft (sends_after zero_of_four 8 (no_ops 8)) ≡ true }
+    ensures nine_entries { is_peer_message stack.KvRaft (sends_after zero_of_four 9 (no_ops 9)) ≡ false }
+    ensures request { (entry kv_command).spell (entry_of 1 (what.Request 7 1 8 (command.Put (codes "a") (codes "x")))) ≡ put_taken_by 8 }
+    ensures no_op { (entry kv_command).spell (entry_of 1 what.Noop) ≡ no_ops 1 }
+    ensures taken_by_the_last_node { (entry kv_command).read (put_taken_by 8)
+        ≡ Some (entry_of 1 (what.Request 7 1 8 (command.Put (codes "a") (codes "x"))), []) }
+    ensures taken_by_no_node { (entry kv_command).read (put_taken_by 9) ≡ None }
+    ensures no_entry_2 { (entry kv_command).read (one ++ (2 ∷ [])) ≡ None }
+{}
+
+/// The bytes of what clients ask and are told.
+#[tactic(auto, unfolding(wire_fields::specs::Bytes::number_bytes, wire_fields::specs::Bytes::number_in, wire_fields::specs::Bytes::has_bytes, wire_fields::specs::Bytes::read_number))]
+pub fn worked_answers()
+    ensures asks { (client_request kv_command).spell (record { request = 1; cmd = command.Put (codes "a") (codes "x") }) ≡ requests_put }
+    ensures reply { (client_reply kv_output).spell (record {
+      request = 1;
+      answer = answer.Reply (record { key = codes "a"; after = Some (codes "x"); before = None });
+    }) ≡ replies_x }
+    ensures not_the_leader { (client_reply kv_output).spell (record { request = 1; answer = answer.NotLeader }) ≡ one ++ (2 ∷ []) }
+    ensures full { (client_reply kv_output).spell (record { request = 1; answer = answer.Full }) ≡ one ++ (3 ∷ []) }
+    ensures reads_full { (client_reply kv_output).read (one ++ (3 ∷ [])) ≡ Some (record { request = 1; answer = answer.Full }, []) }
+    ensures no_answer_0 { (client_reply kv_output).read (one ++ (0 ∷ [])) ≡ None }
+    ensures no_answer_4 { (client_reply kv_output).read (one ++ (4 ∷ [])) ≡ None }
+    ensures of_a_table { is_reply stack.TableRaft (one ++ (1 ∷ bob_holds_l)) ≡ true }
+    ensures not_of_the_other_machine { is_reply stack.KvRaft (one ++ (1 ∷ bob_holds_l)) ≡ false }
+    ensures asked_of_a_table { is_request stack.TableRaft (one ++ (1 ∷ l_and_bob)) ≡ true }
+    ensures not_asked_of_the_other_machine { is_request stack.KvRaft (one ++ (1 ∷ l_and_bob)) ≡ false }
+    ensures no_reply_of_primary_backup { is_reply stack.KvPb (one ++ (2 ∷ [])) ≡ false }
+{}
+
+/// The bytes of stacks and of kinds in a heading.
+#[tactic(auto, unfolding(wire_fields::specs::Bytes::number_bytes, wire_fields::specs::Bytes::number_in, wire_fields::specs::Bytes::has_bytes, wire_fields::specs::Bytes::read_number))]
+pub fn worked_headings()
+    ensures lock { stack_field.spell stack.Lock ≡ 1 ∷ [] }
+    ensures lock_seq { stack_field.spell stack.LockSeq ≡ 2 ∷ [] }
+    ensures kv_pb { stack_field.spell stack.KvPb ≡ 3 ∷ [] }
+    ensures kv_pb_seq { stack_field.spell stack.KvPbSeq ≡ 4 ∷ [] }
+    ensures kv_raft { stack_field.spell stack.KvRaft ≡ 5 ∷ [] }
+    ensures table_pb_seq { stack_field.spell stack.TablePbSeq ≡ 6 ∷ [] }
+    ensures table_raft { stack_field.spell stack.TableRaft ≡ 7 ∷ [] }
+    ensures a_machine_alone_has_none { (stack_field.Fits stack.Kv → ⊥) × (stack_field.Fits stack.Table → ⊥) }
+    ensures no_stack_0 { stack_field.read (0 ∷ []) ≡ None }
+    ensures no_stack_8 { stack_field.read (8 ∷ []) ≡ None }
+    ensures peer { kind_field.spell kind.Peer ≡ 0 ∷ [] }
+    ensures request { kind_field.spell kind.Request ≡ 1 ∷ [] }
+    ensures reply { kind_field.spell kind.Reply ≡ 2 ∷ [] }
+    ensures no_kind_3 { kind_field.read (3 ∷ []) ≡ None }
+{}
+
 /// What is no datagram.
 #[tactic(auto, unfolding(wire_fields::specs::Bytes::number_bytes, wire_fields::specs::Bytes::number_in, wire_fields::specs::Bytes::has_bytes, wire_fields::specs::Bytes::read_number))]
 pub fn refused_datagrams()
@@ -68,5 +192,6 @@ pub fn refused_datagrams()
     ensures a_request_for_the_lock { read_datagram (framed 2 1 1 0 asks_for_the_lock) ≡ None }
     ensures a_tenth_node { read_datagram (framed 5 0 9 0 asks_for_a_vote) ≡ None }
     ensures a_client_past_the_last { read_datagram (framed 5 1 255 0 requests_put) ≡ None }
-    ensures a_machine_alone { read_datagram (framed 8 0 1 0 asks_for_a_vote) ≡ None }
+    ensures an_eighth_stack { read_datagram (framed 8 0 1 0 asks_for_a_vote) ≡ None }
+    ensures a_machine_alone { read_datagram (framed 0 0 1 0 asks_for_a_vote) ≡ None }
 {}

@@ -9,7 +9,10 @@ mod kind;
 mod laws;
 
 pub use datagram::{Datagram, MAX_DATAGRAM, decode, encode_into};
-pub use examples::{refused_datagrams, worked_datagrams, worked_messages};
+pub use examples::{
+    refused_datagrams, worked_answers, worked_cluster_messages, worked_commands, worked_datagrams,
+    worked_headings, worked_messages, worked_packets, worked_table_commands,
+};
 pub use heading::Heading;
 pub use kind::Kind;
 pub use laws::datagrams_have_one_spelling;

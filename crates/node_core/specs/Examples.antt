@@ -1,0 +1,36 @@
+-- Node 0 of three, whose areas hold the first state, and what events make of it.
+use Rattle.std.specs.Prelude.{ℕ, List, [], ◌∷◌}
+use Rattle.outside.specs.declared.device.Address.{Address}
+use Rattle.raft_types.specs.Keeping.{KeptView}
+use Rattle.wire_messages.specs.KvBytes.{kv_command, kv_output}
+use Rattle.node_acts.specs.Examples.{Command, knowing}
+use Rattle.node_acts.specs.StateActs.{first_kept}
+use Rattle.node_config.specs.Examples.{local, sample_with}
+use Rattle.node_config.specs.declared.config.Config.{Config}
+use Rattle.node_run.specs.Examples.{Given, Values, machine}
+use Rattle.node_run.specs.declared.event.Event.{Event}
+use Rattle.node_core.specs.Replicas.{after_event, effect_on, said_of, starting}
+use Rattle.node_core.specs.declared.replica.Replica.{Replica}
+
+abbrev pub config : Config
+config = sample_with 0 (local 7100 ∷ [])
+
+abbrev pub first : KeptView Command
+first = first_kept
+
+-- started at this time
+abbrev pub started : ℕ → Replica Values Command Given
+started time = starting config machine (knowing 0 38 1000 first) first time
+
+-- the same, which knows its areas to hold this state
+abbrev pub thinking : KeptView Command → Replica Values Command Given
+thinking kept = record (started 0) { store = knowing 0 38 1000 kept }
+
+-- after an event that it takes in a turn that begins at this time, and what it says
+abbrev pub after : ℕ → Event Command → Replica Values Command Given
+after time event = after_event config machine kv_command kv_output (record (started 0) { time = time }) event
+
+abbrev pub says : Event Command → List (Address × List ℕ)
+says event =
+    let effect = effect_on config machine kv_command kv_output (started 0) event in
+    said_of config kv_command kv_output effect.sends effect.outputs

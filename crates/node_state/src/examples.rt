@@ -1,0 +1,87 @@
+ghost use Rattle.std.specs.Prelude.{◌≡◌, [], ◌∷◌, ◌++◌, Err, Ok, Some, take};
+ghost use Rattle.disk.specs.Acts.{StoreFailed, Sync, Synced, Wrote};
+ghost use Rattle.node_acts.specs.Examples.{knowing, state, three_syncs, whole};
+ghost use Rattle.node_acts.specs.StateActs.{first_kept};
+ghost use Rattle.node_body.specs.Examples.{first_slot, old_first, vote_record, voted_slot};
+ghost use Rattle.node_device.specs.Examples.{counts};
+ghost use Rattle.node_state.specs.Answers.{IfRefused, OpenCounts, OpenGrowsFirst};
+ghost use Rattle.node_state.specs.Calls.{DeviceWants, GrowsFirst, StateCounts};
+ghost use Rattle.node_state.specs.Examples.{answers, empty, end_at, found_so, goes_on, held, is_held_before, known, leaves_either, leaves_found, opened_so, renewed, saves, told_at};
+ghost use Rattle.slots.specs.Opening.{BadSelector, BadSlot, Fresh, Held, Refused};
+
+use crate::{OpenFault, Opened, Refusal, StateFault};
+use node_body::{Version, Why};
+
+/// What openings answer, by what the areas open as, and why they are refused.
+pub fn worked_answers()
+    ensures fresh { answers (Opened.Fresh known) Fresh }
+    ensures fresh_though_held { answers (Opened.Fresh known) (Held first_kept 0) → ⊥ }
+    ensures held { answers (Opened.Held known first_kept) (Held first_kept 4) }
+    ensures held_as_another { answers (Opened.Held known first_kept) (Held (state 1 (Some 1) []) 4) → ⊥ }
+    ensures held_though_refused { answers (Opened.Held known first_kept) (Refused BadSlot) → ⊥ }
+    ensures for_the_selector { IfRefused (OpenFault.Refused Refusal.Selector) (λ why. why ≡ BadSelector) }
+    ensures for_the_slot { IfRefused (OpenFault.Refused (Refusal.Slot Why.Slot)) (λ why. why ≡ BadSlot) }
+    ensures for_another { IfRefused (OpenFault.Refused (Refusal.Slot Why.Slot)) (λ why. why ≡ BadSelector) → ⊥ }
+    ensures for_a_fault { IfRefused OpenFault.Store (λ why. ⊥) }
+{}
+
+/// Counts of faults and of wants, by what openings and saves answer.
+pub fn worked_counts()
+    ensures opened { OpenCounts {T = Unit {0}} (counts 1 1) (counts 1 1) (Ok tt) }
+    ensures opened_and_counted { OpenCounts {T = Unit {0}} (counts 1 1) (counts 1 2) (Ok tt) → ⊥ }
+    ensures failed { OpenCounts {T = Unit {0}} (counts 1 1) (counts 1 2) (Err OpenFault.Store) }
+    ensures failed_uncounted { OpenCounts {T = Unit {0}} (counts 1 1) (counts 1 1) (Err OpenFault.Store) → ⊥ }
+    ensures failed_as_a_receive { OpenCounts {T = Unit {0}} (counts 1 1) (counts 2 1) (Err OpenFault.Store) → ⊥ }
+    ensures refused_and_counted { OpenCounts {T = Unit {0}} (counts 1 1) (counts 1 2) (Err (OpenFault.Refused Refusal.Selector)) → ⊥ }
+    ensures wanted_and_counted { OpenCounts {T = Unit {0}} (counts 1 1) (counts 1 2) (Err OpenFault.Memory) → ⊥ }
+    ensures saved_and_counted { StateCounts {T = Unit {0}} (counts 1 1) (counts 1 2) (Ok tt) → ⊥ }
+    ensures save_failed { StateCounts {T = Unit {0}} (counts 1 1) (counts 1 2) (Err StateFault.Store) }
+    ensures save_failed_uncounted { StateCounts {T = Unit {0}} (counts 1 1) (counts 1 1) (Err StateFault.Store) → ⊥ }
+    ensures save_wanted_and_counted { StateCounts {T = Unit {0}} (counts 1 1) (counts 1 2) (Err StateFault.Memory) → ⊥ }
+    ensures device_wanted { DeviceWants {T = Unit {0}} 3 4 (Err StateFault.Memory) }
+    ensures wanted_by_none { DeviceWants {T = Unit {0}} 3 3 (Err StateFault.Memory) → ⊥ }
+    ensures wanted_though_done { DeviceWants {T = Unit {0}} 3 4 (Ok tt) → ⊥ }
+    ensures a_growth_after_acts { GrowsFirst {T = Unit {0}} ⊥ 3 3 (Err StateFault.Memory) → ⊥ }
+    ensures a_growth_after_an_opening { OpenGrowsFirst {T = Unit {0}} ⊥ 3 3 (Err OpenFault.Memory) → ⊥ }
+    ensures a_want_for_a_fault { OpenGrowsFirst {T = Unit {0}} ⊥ 3 4 (Err OpenFault.Store) → ⊥ }
+{}
+
+/// Where the journal goes on: after a record, after a base where no record may follow, and after a slot of version 1.
+#[tactic(auto, unfolding(wire_fields::specs::Bytes::number_bytes))]
+pub fn worked_ends()
+    ensures after_a_record { goes_on (end_at 0 38 1000) 0 (state 1 (Some 1) []) ≡ end_at 0 56 999 }
+    ensures after_a_base { goes_on (end_at 255 0 0) 0 (state 1 (Some 1) []) ≡ end_at 0 38 1000 }
+    ensures renewed { renewed Version.One (end_at 4 22 7) first_kept ≡ end_at 5 38 1000 }
+    ensures as_found { renewed Version.Two (end_at 4 38 7) first_kept ≡ end_at 4 38 7 }
+{}
+
+/// Areas that were opened so: as fresh ones, with the first state, and with one of version 1, which is a base then.
+#[tactic(auto, unfolding(wire_fields::specs::Bytes::number_bytes, wire_fields::specs::Bytes::number_in, wire_fields::specs::Bytes::has_bytes, wire_fields::specs::Bytes::read_number, node_body::specs::Journals::from_gate))]
+pub fn worked_openings()
+    ensures found { found_so 0 known first_kept held }
+    ensures found_at_another_gate { found_so 0 (knowing 0 37 1000 first_kept) first_kept held → ⊥ }
+    ensures found_as_another { found_so 0 known (state 1 (Some 1) []) held → ⊥ }
+    ensures found_in_the_other_slot { found_so 1 known first_kept held → ⊥ }
+    ensures of_version_one { found_so 0 (knowing 1 38 1000 first_kept) first_kept (told_at old_first [] (0 ∷ [])) }
+    ensures of_version_one_as_it_is { found_so 0 (knowing 0 22 1000 first_kept) first_kept (told_at old_first [] (0 ∷ [])) → ⊥ }
+    ensures fresh { opened_so (Opened.Fresh known) empty }
+    ensures fresh_though_held { opened_so (Opened.Fresh known) held → ⊥ }
+    ensures opened { opened_so (Opened.Held known first_kept) held }
+    ensures opened_though_empty { opened_so (Opened.Held known first_kept) empty → ⊥ }
+{}
+
+/// What a crash leaves in an opening of empty areas: not where a vote is written for the first state, and whatever it is before the third
+/// sync. In the save of a vote: the vote or what was held, and neither where its gate is opened before it stands.
+#[tactic(auto, unfolding(wire_fields::specs::Bytes::number_bytes, wire_fields::specs::Bytes::number_in, wire_fields::specs::Bytes::has_bytes, wire_fields::specs::Bytes::read_number, node_body::specs::Journals::from_gate))]
+pub fn worked_crashes()
+    ensures fresh { leaves_found empty (three_syncs ++ (whole 0 (first_slot ++ 0 ∷ []) ++ (whole 1 (first_slot ++ 0 ∷ [])
+        ++ (Wrote 2 0 (0 ∷ []) ∷ Synced 2 ∷ [])))) }
+    ensures cut_short { leaves_found empty (take 2 three_syncs ++ StoreFailed (Sync 2) ∷ []) }
+    ensures a_vote { leaves_found empty (three_syncs ++ (whole 0 (voted_slot ++ 0 ∷ []) ++ (Wrote 2 0 (0 ∷ []) ∷ []))) → ⊥ }
+    ensures saved { saves (state 1 (Some 1) []) }
+    ensures held { is_held_before known (state 1 (Some 1) []) }
+    ensures not_held { is_held_before (knowing 0 37 1000 first_kept) (state 1 (Some 1) []) → ⊥ }
+    ensures either { leaves_either (state 1 (Some 1) [])
+        (Wrote 0 39 (vote_record ++ 0 ∷ []) ∷ Synced 0 ∷ Wrote 0 38 (1 ∷ []) ∷ Synced 0 ∷ []) }
+    ensures neither { leaves_either (state 1 (Some 1) []) (Wrote 0 38 (1 ∷ []) ∷ []) → ⊥ }
+{}
