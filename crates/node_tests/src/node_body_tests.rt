@@ -1,5 +1,5 @@
 use crate::slot_bytes::{
-    FRESH, NAME, OLD_FIRST, OLD_VOTED, VOTED, VOTED_IN_A_RECORD, WHO, old_first_and,
+    FRESH, NAME, OLD_FIRST, OLD_PUT, OLD_VOTED, PUT, VOTED, VOTED_IN_A_RECORD, WHO, old_first_and,
 };
 use kv_machine::KvCmd;
 use lock_table::TableCmd;
@@ -61,6 +61,8 @@ fn slots_are_found(rt: HostRuntime) -> Result<(), Fail> {
     for (bytes, wanted) in [
         (OLD_FIRST.as_slice(), Ok(first(Version::One, 0, 0))),
         (&OLD_VOTED, Ok(voted(Version::One, 0))),
+        (&OLD_PUT, Ok(voted(Version::One, 0))),
+        (&PUT, Ok(voted(Version::Two, 1000))),
         (&FRESH, Ok(first(Version::Two, 1000, 0))),
         (&VOTED, Ok(voted(Version::Two, 1000))),
         (&VOTED_IN_A_RECORD, Ok(voted(Version::Two, 999))),
@@ -157,6 +159,18 @@ fn a_base_is_made(rt: HostRuntime) -> Result<(), Fail> {
     let kept = Kept::<KvCmd>::new(0, None, Entries::new(Vec::new(alloc)));
     let slot = make_base(alloc, &WHO, &kept)?;
     assert!(rt; slot.as_slice() == FRESH.as_slice());
+    Ok(())
+}
+
+// A log that nodes of version 1 wrote is read, and stands in the base that it is written anew as.
+#[test]
+fn an_old_log_is_made_a_base(rt: HostRuntime) -> Result<(), Fail> {
+    let alloc = rt.alloc();
+    let Ok(held) = find_slot::<KvCmd, TableCmd>(alloc, &WHO, &OLD_PUT)? else {
+        return Err(Fail::from("no slot"));
+    };
+    let slot = make_base(alloc, &WHO, &held.journal.kept)?;
+    assert!(rt; slot.as_slice() == PUT.as_slice());
     Ok(())
 }
 

@@ -1,5 +1,5 @@
 -- The law of a stack at a running schedule of it, before its first step and after.
-use Rattle.std.specs.Prelude.{◌≡◌, ℕ, ◌≤◌, List, []}
+use Rattle.std.specs.Prelude.{◌≡◌, refl, ℕ, ◌≤◌, List, []}
 use Rattle.std.proofs.Common.{sym, subst}
 use Rattle.handler_trait.specs.Handling.{Meaning}
 use Rattle.net_semantics.specs.Runs.{no_recovery}
@@ -14,10 +14,14 @@ use Rattle.wire_fields.specs.Formats.{Format}
 use Rattle.wired.specs.Same.{RunsAlike}
 use Rattle.wired.specs.StackRuns.{MayCome, RunsAsBytes}
 use Rattle.wired.specs.WiredRuns.{world_in_bytes}
-use Rattle.wired.specs.Wiring.{Named, wired}
+use Rattle.wired.specs.Wiring.{Named, no_name, wired}
 use Rattle.xform_stack.specs.Running.{RunView}
 use Rattle.runs_in_bytes.specs.Running.{HasFollowedInBytes}
 use Rattle.runs_in_bytes.proofs.Moving.{ran_none}
+
+-- the name of sixteen bytes 0 is one
+pub is_name : (bs : List ℕ) → bs ≡ no_name → name.Fits bs
+is_name bs named = subst (λ (x : List ℕ). name.Fits x) (sym named) (refl, refl)
 
 module _ {H S I O M T : Type 0} (f : Format M) (own : StackId) (IsInput : I → Type 0) (meaning : H → Meaning S I O M) (follows : T → Meaning S I O M → List (Step I) → Type 0) where
   abbrev pub Law : Type 0

@@ -6,24 +6,23 @@ use Rattle.raft_xform.specs.Clusters.{Cluster}
 use Rattle.raft_xform.specs.Nodes.{RaftView}
 use Rattle.net_semantics.specs.Worlds.{World}
 use Rattle.vst_base.specs.declared.stack.StackId.{StackId}
-use Rattle.wire_fields.specs.Fields.{name}
 use Rattle.wire_fields.specs.Formats.{Format}
 use Rattle.wire_messages.specs.RaftBytes.{raft_message}
 use Rattle.wired.specs.RaftSaving.{raft_saving}
 use Rattle.wired.specs.Saving.{Labelled, Seated, world_saved}
 use Rattle.wired.specs.WiredRuns.{world_in_bytes}
-use Rattle.wired.specs.Wiring.{Named}
+use Rattle.wired.specs.Wiring.{Named, no_name}
 
 -- a cluster that keeps bytes and whose packets are bytes
 abbrev pub ByteCluster : Type 0 → Type 0
 ByteCluster M = Named (Labelled (Cluster M))
 
--- the packets and the bodies are those of this stack, under one name of sixteen bytes
+-- the packets and the bodies are those of this stack, under the name of sixteen bytes 0
 pub record IsOwnCluster {M : Type 0} (own : StackId) (w : ByteCluster M) : Type 0 where
   pub size : IsClusterSize w.inner.inner.nodes
   pub stack : w.stack ≡ own
   pub same_name : w.inner.name ≡ w.name
-  pub named : name.Fits w.name
+  pub named : w.name ≡ no_name
 
 -- the world of a cluster of this stack, whose packets and kept states are bytes, over commands of this format
 abbrev pub byte_world : {M S C O : Type 0} → Format C → StackId → ByteCluster M → RaftWorld S C O

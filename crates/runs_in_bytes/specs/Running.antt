@@ -9,12 +9,11 @@ use Rattle.vst_base.specs.declared.net.Net.{Net}
 use Rattle.vst_base.specs.declared.node.TheConstants.{MAX_NODES}
 use Rattle.vst_base.specs.declared.stack.StackId.{StackId}
 use Rattle.vst_base.specs.declared.step.Step.{Step}
-use Rattle.wire_fields.specs.Fields.{name}
 use Rattle.wire_fields.specs.Formats.{Format}
 use Rattle.wired.specs.Same.{RunsTheSame}
 use Rattle.wired.specs.StackRuns.{AreInputSteps}
 use Rattle.wired.specs.WiredRuns.{world_in_bytes}
-use Rattle.wired.specs.Wiring.{Named, wired}
+use Rattle.wired.specs.Wiring.{Named, no_name, wired}
 use Rattle.xform_stack.specs.Running.{RunView}
 
 -- all inputs of these steps have bytes, and handlers that deal in bytes do in them as the handlers within
@@ -31,11 +30,11 @@ pub record HasFollowedInBytes {H S I O M T : Type 0} (f : Format M) (IsInput : I
   pub mapped : follows v.map m ss
 
 -- what holds of a world in bytes when it is made and after each step that doesn't answer want of memory: its packets are those of the
--- stack, between at most nine nodes, under a name of sixteen bytes
+-- stack, between at most nine nodes, under the name of sixteen bytes 0
 pub record IsSoundInBytes {H S I O M : Type 0} (f : Format M) (own : StackId) (h : HandlersFacts H S I O M) (v : WorldView (Named H) S I O (List ℕ)) : Type 0 where
   pub few : (h.meaning v.handlers.inner).nodes ≤ MAX_NODES
   pub stack : v.handlers.stack ≡ own
-  pub named : name.Fits v.handlers.name
+  pub named : v.handlers.name ≡ no_name
   pub world : IsSound (record {
     meaning = wired f v.handlers.stack v.handlers.name (h.meaning v.handlers.inner);
     sound = h.sound v.handlers.inner;

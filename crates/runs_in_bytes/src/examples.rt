@@ -17,9 +17,9 @@ pub fn worked_worlds()
 
 /// Clusters whose packets and bodies are those of their stack, and clusters where these are not.
 pub fn worked_clusters()
-    ensures own { IsOwnCluster StackId.KvRaft (cluster_of 3 StackId.KvRaft 7 7) }
-    ensures not_of_another_stack { IsOwnCluster StackId.KvRaft (cluster_of 3 StackId.TableRaft 7 7) → ⊥ }
-    ensures not_under_two_names { IsOwnCluster StackId.KvRaft (cluster_of 3 StackId.KvRaft 7 8) → ⊥ }
-    ensures not_of_ten_nodes { IsOwnCluster StackId.KvRaft (cluster_of 10 StackId.KvRaft 7 7) → ⊥ }
-    ensures not_of_other_numbers { IsOwnCluster StackId.KvRaft (cluster_of 3 StackId.KvRaft 256 256) → ⊥ }
+    ensures own { IsOwnCluster StackId.KvRaft (cluster_of 3 StackId.KvRaft 0 0) }
+    ensures not_of_another_stack { IsOwnCluster StackId.KvRaft (cluster_of 3 StackId.TableRaft 0 0) → ⊥ }
+    ensures not_under_another_name { IsOwnCluster StackId.KvRaft (cluster_of 3 StackId.KvRaft 7 7) → ⊥ }
+    ensures not_under_two_names { IsOwnCluster StackId.KvRaft (cluster_of 3 StackId.KvRaft 0 8) → ⊥ }
+    ensures not_of_ten_nodes { IsOwnCluster StackId.KvRaft (cluster_of 10 StackId.KvRaft 0 0) → ⊥ }
 {}

@@ -1,5 +1,5 @@
 -- Handlers whose packets are bytes: each message is sent as a datagram between two nodes, and what comes is read as one.
-use Rattle.std.specs.Prelude.{ℕ, ◌==◌, Bool, ◌&&◌, List, [], ◌∷◌, Option, None, Some, bytes_eq, if◌then◌else◌}
+use Rattle.std.specs.Prelude.{ℕ, ◌==◌, Bool, ◌&&◌, List, [], ◌∷◌, Option, None, Some, bytes_eq, replicate, if◌then◌else◌}
 use Rattle.handler_trait.specs.Handling.{Meaning, Effect}
 use Rattle.vst_base.specs.declared.stack.StackId.{StackId}
 use Rattle.wire_codec.specs.Datagrams.{Message, message_of, read_datagram, spell_datagram}
@@ -7,7 +7,12 @@ use Rattle.wire_codec.specs.Headings.{heading_of, kind_byte, stack_byte}
 use Rattle.wire_codec.specs.declared.heading.Heading.{Heading}
 use Rattle.wire_codec.specs.declared.kind.Kind.TheVariants as kind
 use Rattle.wire_fields.specs.Formats.{Format}
+use Rattle.wire_fields.specs.declared.name.TheConstants.{NAME_LEN}
 use Rattle.wire_messages.specs.Wires.{read_whole}
+
+-- the name of a cluster that has no other: sixteen bytes 0
+abbrev pub no_name : List ℕ
+no_name = replicate NAME_LEN 0
 
 -- what stands before a message from one node to another, of a stack and a cluster of this name
 abbrev pub peer_heading : StackId → List ℕ → ℕ → ℕ → Heading

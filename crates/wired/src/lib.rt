@@ -18,7 +18,7 @@ mod stacks;
 mod wired;
 
 pub use cluster::Cluster;
-pub use examples::{worked_packets, worked_states};
+pub use examples::{worked_packets, worked_runs, worked_states, worked_stops};
 pub use hearing::hear;
 pub use laws::{
     bytes_run_the_same, fitting_messages_have_bytes, saved_runs_are_the_same,

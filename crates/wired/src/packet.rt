@@ -8,7 +8,7 @@ use vst_base::Node;
 use wire_codec::{Heading, Kind};
 use wire_messages::Wire;
 
-// How many bytes a packet has room for from the first: a message of Raft with one entry of short tokens takes no more.
+// How many bytes a packet has room for from the first: those of an append with one put, of a key and a value with 18 bytes in all.
 const ROOM: usize = 96;
 
 /// What is sent in place of a message: the bytes of a datagram, or any others. Contracts see the bytes.

@@ -12,5 +12,5 @@ returns-clause-own g c =
       size = rw (ap (λ w. w.inner) within ∙ c.new.ensures) c.requires;
       stack = ap (λ w. w.stack) made ∙ c.stack.ensures;
       same_name = ap (λ w. w.name) within ∙ sym (ap (λ w. w.name) made);
-      named = rw (ap (λ w. w.name) made) c.no_name-name.ensures;
+      named = ap (λ w. w.name) made ∙ c.no_name-name.ensures;
     }

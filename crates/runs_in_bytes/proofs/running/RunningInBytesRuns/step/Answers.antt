@@ -7,7 +7,7 @@ use Rattle.wired.specs.WiredRuns.{world_in_bytes}
 use Rattle.wired.specs.Wiring.{Named, wired}
 use Rattle.xform_stack.specs.Running.{system_of}
 use Rattle.xform_stack.proofs.More.{allowed-more, followed-after, has_run-more}
-use Rattle.runs_in_bytes.proofs.InBytes.{alike_in_bytes, followed_same}
+use Rattle.runs_in_bytes.proofs.InBytes.{alike_in_bytes, followed_same, is_name}
 use Rattle.runs_in_bytes.proofs.Moving.{items_alike, next_alike, ran_more, refused_alike}
 use Rattle.runs_in_bytes.proofs.running.RunningInBytesRuns.step.Goals as goal
 
@@ -31,7 +31,7 @@ returns-clause-next g c = λ ss gone had.
     let s = c.args.step.now in
     let sys = system_of world.net m (t.image_of m) in
     let has = before.followed in
-    let alike = alike_in_bytes f own IsInput meaning t.has_followed c.run_as_bytes.ensures h world.net sound.few sound.stack sound.named in
+    let alike = alike_in_bytes f own IsInput meaning t.has_followed c.run_as_bytes.ensures h world.net sound.few sound.stack (is_name h.name sound.named) in
     let not_refused = sym (refused_alike IsInput world.net m2 r m r bytes ss s has.ran) ∙ c.in-Ok.ensures.refused w has.shows in
     let allowed = allowed-more sys ss s before.allowed not_refused in
     let few : length ss < MAX_STEPS = omega (arith, steps, before.counted) in
