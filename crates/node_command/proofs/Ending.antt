@@ -1,15 +1,17 @@
 -- How a node's run ends: each status by what the run came to and said.
-use Rattle.std.specs.Prelude.{◌≡◌, ℕ, List, Result, Ok, Err}
-use Rattle.std.proofs.Common.{inl, inr, ◌∙◌, subst, sym, arith, refl}
+use Rattle.std.specs.Prelude.{◌≡◌, ◌⊎◌, ℕ, List, Result, Ok, Err}
+use Rattle.std.proofs.Common.{inl, inr, ap, ◌∙◌, subst, sym, arith, refl}
 use Rattle.command_line.specs.AskedNodes.{NodeWordsView}
+use Rattle.outside.specs.Counting.{Rose}
 use Rattle.outside.specs.Wholes.{Gained, GainedFront}
 use Rattle.run_streams.specs.Lines.{memory_line}
 use Rattle.run_streams.specs.Saying.{Said, Tells}
+use Rattle.run_streams.specs.Seen.{SinkSeen}
 use Rattle.udp_node.specs.declared.fault.NodeFault.TheVariants as fault
 use Rattle.node_command.specs.Lines.{line_of, status_of}
 use Rattle.node_command.specs.Seen.{NodeRun}
-use Rattle.node_command.specs.Statuses.{AreAreasRefused, CameTo, EndsBy, HasCome, HasListeningFailed, HasWriteFailed, IsConfigRefused, IsDone, IsNodeStatus, IsOutOfMemory, MaySay, WasSaying, WroteTurnsAtMost}
-use Rattle.node_command.specs.Telling.{Ends, TellsTrouble, TellsTurns, TellsWhat}
+use Rattle.node_command.specs.Statuses.{AreAreasRefused, CameTo, EndsBy, HasCome, HasListeningFailed, HasWriteFailed, IsConfigRefused, IsDone, IsNodeStatus, IsOutOfMemory, MaySay, WantedAtRead, WantsMemory, WasSaying, WroteTurnsAtMost}
+use Rattle.node_command.specs.Telling.{Ends, MaySayMemory, OutWanted, TellsLine, TellsTurns, TellsWhat}
 use Rattle.node_command.specs.declared.trouble.Trouble.{Trouble}
 use Rattle.node_command.specs.declared.trouble.Trouble.TheVariants as trouble
 
@@ -20,34 +22,103 @@ pub data Ending (w : NodeWordsView) (r : NodeRun) (result : ℕ) : Type 0 where
   Failed : HasWriteFailed w r → result ≡ 5 → Ending w r result
   Wanted : IsOutOfMemory w r → result ≡ 8 → Ending w r result
 
+module _ (w : NodeWordsView) (r : NodeRun) where
+  -- no read failed where `memory` may be said
+  pub reads_stay : (came : Result (Unit {0}) Trouble) → CameTo w r came → MaySayMemory came → r.streams.after.input.faults ≡ r.streams.before.input.faults
+  reads_stay (Ok x) came may = came.configured_so.read.quiet
+  reads_stay (Err trouble.Read) came may = absurd may
+  reads_stay (Err (trouble.Config key)) came may = came.quiet
+  reads_stay (Err trouble.Begin) came may = absurd may
+  reads_stay (Err trouble.Memory) came may = came.quiet
+  reads_stay (Err (trouble.Ended fault.Receive)) came may = absurd may
+  reads_stay (Err (trouble.Ended fault.Store)) came may = absurd may
+  reads_stay (Err (trouble.Ended (fault.Refused why))) came may = came.configured_so.read.quiet
+  reads_stay (Err (trouble.Ended fault.Memory)) came may = came.configured_so.read.quiet
+
+  -- and where the error stream wanted memory for the line of a trouble none did, unless that is the trouble
+  reads_told : (t : Trouble) → CameTo w r (Err t) → GainedFront r.streams.before.err.written r.streams.after.err.written (line_of t)
+      → Rose r.streams.before.err.wants r.streams.after.err.wants
+      → (r.streams.after.input.faults ≡ r.streams.before.input.faults) ⊎ WantedAtRead w r
+  reads_told trouble.Read came front rose = inr (record { came = came; front = front; rose = rose })
+  reads_told (trouble.Config key) came front rose = inl came.quiet
+  reads_told trouble.Begin came front rose = inl came.configured_so.read.quiet
+  reads_told trouble.Memory came front rose = inl came.quiet
+  reads_told (trouble.Ended e) came front rose = inl came.configured_so.read.quiet
+
+  out_unfailed : WroteTurnsAtMost w r → r.streams.after.out.faults ≡ r.streams.before.out.faults
+  out_unfailed (inl same) = ap (λ (k : SinkSeen). k.faults) same
+  out_unfailed (inr wanted) = wanted.1.unfailed
+
 module _ (w : NodeWordsView) (r : NodeRun) (result : ℕ) where
   saying : (line : List ℕ) → MaySay w r line → GainedFront r.streams.before.err.written r.streams.after.err.written line
       → WroteTurnsAtMost w r → WasSaying w r
   saying line may front out = record { line = line; may = may; front = front; out = out }
 
   -- that memory was wanted is said, or not
-  pub said_memory : WroteTurnsAtMost w r → Said 8 memory_line r.streams.before.err r.streams.after.err result → Ending w r result
-  said_memory out (inl whole) = Wanted (inl (record { err = whole.1; out = out })) whole.0
-  said_memory out (inr (inl failed)) = Failed (inr (failed.2, saying memory_line (inr refl) failed.1 out)) failed.0
-  said_memory out (inr (inr wanted)) = Wanted (inr (wanted.3, saying memory_line (inr refl) wanted.1 out)) wanted.0
+  said_memory : WantsMemory w r → WroteTurnsAtMost w r → Said 8 memory_line r.streams.before.err r.streams.after.err result → Ending w r result
+  said_memory wants out (inl whole) =
+      Wanted (record {
+        said = inl (record { came = wants; err = whole.1; unwanted = whole.2.wants; out = out });
+        reads = inl (reads_stay w r wants.0 wants.1 wants.2);
+        out = out_unfailed w r out;
+        err = whole.2.faults;
+      }) whole.0
+  said_memory wants out (inr (inl failed)) =
+      Failed (inr (record { saying = saying memory_line (inr (wants, refl)) failed.1 out; rose = failed.2; unwanted = failed.3 })) failed.0
+  said_memory wants out (inr (inr wanted)) =
+      Wanted (record {
+        said = inr (record { saying = saying memory_line (inr (wants, refl)) wanted.1 out; rose = wanted.3 });
+        reads = inl (reads_stay w r wants.0 wants.1 wants.2);
+        out = out_unfailed w r out;
+        err = wanted.2;
+      }) wanted.0
 
-  told : (t : Trouble) → CameTo w r (Err t) → TellsTrouble t r.streams.before.out r.streams.after.out r.streams.before.err r.streams.after.err result
+  -- the line of the trouble that came is said, or not
+  said_line : (t : Trouble) → CameTo w r (Err t) → r.streams.after.out ≡ r.streams.before.out
+      → Said (status_of t) (line_of t) r.streams.before.err r.streams.after.err result → Ending w r result
+  said_line t came same (inl whole) = Ended t (record { came = came; out = same; err = whole.1; quiet = whole.2 }) whole.0
+  said_line t came same (inr (inl failed)) =
+      Failed (inr (record { saying = saying (line_of t) (inl (t, came, refl)) failed.1 (inl same); rose = failed.2; unwanted = failed.3 })) failed.0
+  said_line t came same (inr (inr wanted)) =
+      Wanted (record {
+        said = inr (record { saying = saying (line_of t) (inl (t, came, refl)) wanted.1 (inl same); rose = wanted.3 });
+        reads = reads_told w r t came wanted.1 wanted.3;
+        out = out_unfailed w r (inl same);
+        err = wanted.2;
+      }) wanted.0
+
+  -- or, where it could not be made, that memory is wanted
+  made_line : (t : Trouble) → MaySayMemory (Err t) → CameTo w r (Err t) → r.streams.after.out ≡ r.streams.before.out
       → Tells (status_of t) (line_of t) r.streams.before.err r.streams.after.err result → Ending w r result
-  told t came tells (inl (inl whole)) = Ended t (record { came = came; out = tells.out_is; err = whole.1; quiet = whole.2 }) whole.0
-  told t came tells (inl (inr (inl failed))) = Failed (inr (failed.2, saying (line_of t) (inl (t, came, refl)) failed.1 (inl tells.out_is))) failed.0
-  told t came tells (inl (inr (inr wanted))) = Wanted (inr (wanted.3, saying (line_of t) (inl (t, came, refl)) wanted.1 (inl tells.out_is))) wanted.0
-  told t came tells (inr said) = said_memory (inl tells.out_is) said
+  made_line t may came same (inl said) = said_line t came same said
+  made_line t may came same (inr said) = said_memory (Err t, came, may) (inl same) said
+
+  told : (t : Trouble) → CameTo w r (Err t) → r.streams.after.out ≡ r.streams.before.out
+      → TellsLine t r.streams.before.err r.streams.after.err result → Ending w r result
+  told trouble.Read came same tells = said_line trouble.Read came same tells
+  told (trouble.Config key) came same tells = made_line (trouble.Config key) tt came same tells
+  told trouble.Begin came same tells = said_line trouble.Begin came same tells
+  told trouble.Memory came same tells = said_line trouble.Memory came same tells
+  told (trouble.Ended fault.Receive) came same tells = said_line (trouble.Ended fault.Receive) came same tells
+  told (trouble.Ended fault.Store) came same tells = said_line (trouble.Ended fault.Store) came same tells
+  told (trouble.Ended (fault.Refused why)) came same tells = made_line (trouble.Ended (fault.Refused why)) tt came same tells
+  told (trouble.Ended fault.Memory) came same tells = said_line (trouble.Ended fault.Memory) came same tells
+
+  wrote_at_most : CameTo w r (Ok tt) → (r.streams.after.out ≡ r.streams.before.out) ⊎ OutWanted w.turns r.streams.before.out r.streams.after.out
+      → WroteTurnsAtMost w r
+  wrote_at_most came (inl same) = inl same
+  wrote_at_most came (inr wanted) = inr (came, wanted)
 
   finished : CameTo w r (Ok tt) → TellsTurns w.turns r.streams.before.out r.streams.after.out r.streams.before.err r.streams.after.err result → Ending w r result
   finished came (inl wrote) = Finished (record { served = came; out = wrote.out_is; err = wrote.err_is; quiet = wrote.counts }) wrote.status
   finished came (inr (inl failed)) =
-      Failed (inl (record { served = came; front = failed.out_is; rose = failed.rose; err = failed.err_is })) failed.status
-  finished came (inr (inr wanted)) = said_memory (inr (came, wanted.out_is)) wanted.said
+      Failed (inl (record { served = came; front = failed.out_is; rose = failed.rose; unwanted = failed.unwanted; err = failed.err_is })) failed.status
+  finished came (inr (inr wanted)) = said_memory (Ok tt, came, tt) (wrote_at_most came wanted.out_is) wanted.said
 
   ending_of : (came : Result (Unit {0}) Trouble) → CameTo w r came
       → TellsWhat w.turns came r.streams.before.out r.streams.after.out r.streams.before.err r.streams.after.err result → Ending w r result
   ending_of (Ok tt) came tells = finished came tells
-  ending_of (Err t) came tells = told t came tells tells.told
+  ending_of (Err t) came tells = told t came tells.out_is tells.told
 
   pub ending : Ends w r result → Ending w r result
   ending e = ending_of e.came e.comes e.tells
@@ -135,15 +206,28 @@ module _ (w : NodeWordsView) (r : NodeRun) where
   by_nine (trouble.Ended (fault.Refused why)) x e = (why, x)
   by_nine (trouble.Ended fault.Memory) x e = absurd (omega (arith, e))
 
-  by_eight : (t : Trouble) → EndsBy w r t → status_of t ≡ 8 → line_of t ≡ memory_line
+  said_whole : (t : Trouble) → MaySayMemory (Err t) → line_of t ≡ memory_line → EndsBy w r t → IsOutOfMemory w r
+  said_whole t may line x = record {
+    said = inl (record {
+      came = (Err t, x.came, may);
+      err = subst (λ line. Gained r.streams.before.err.written r.streams.after.err.written line) line x.err;
+      unwanted = x.quiet.wants;
+      out = inl x.out;
+    });
+    reads = inl (reads_stay w r (Err t) x.came may);
+    out = ap (λ (k : SinkSeen). k.faults) x.out;
+    err = x.quiet.faults;
+  }
+
+  by_eight : (t : Trouble) → EndsBy w r t → status_of t ≡ 8 → IsOutOfMemory w r
   by_eight trouble.Read x e = absurd (omega (arith, e))
   by_eight (trouble.Config key) x e = absurd (omega (arith, e))
   by_eight trouble.Begin x e = absurd (omega (arith, e))
-  by_eight trouble.Memory x e = refl
+  by_eight trouble.Memory x e = said_whole trouble.Memory tt refl x
   by_eight (trouble.Ended fault.Receive) x e = absurd (omega (arith, e))
   by_eight (trouble.Ended fault.Store) x e = absurd (omega (arith, e))
   by_eight (trouble.Ended (fault.Refused why)) x e = absurd (omega (arith, e))
-  by_eight (trouble.Ended fault.Memory) x e = refl
+  by_eight (trouble.Ended fault.Memory) x e = said_whole (trouble.Ended fault.Memory) tt refl x
 
 module _ (w : NodeWordsView) (r : NodeRun) (result : ℕ) where
   is_status : Ending w r result → IsNodeStatus result
@@ -170,7 +254,7 @@ module _ (w : NodeWordsView) (r : NodeRun) (result : ℕ) where
   is_unread (Failed x e) is = absurd (omega (arith, e, is))
   is_unread (Wanted x e) is = absurd (omega (arith, e, is))
 
-  pub is_unwritten : Ending w r result → result ≡ 5 → HasWriteFailed w r
+  is_unwritten : Ending w r result → result ≡ 5 → HasWriteFailed w r
   is_unwritten (Finished x e) is = absurd (omega (arith, e, is))
   is_unwritten (Ended t x e) is = absurd (no_five w r t (sym e ∙ is))
   is_unwritten (Failed x e) is = x
@@ -188,13 +272,9 @@ module _ (w : NodeWordsView) (r : NodeRun) (result : ℕ) where
   is_unstored (Failed x e) is = absurd (omega (arith, e, is))
   is_unstored (Wanted x e) is = absurd (omega (arith, e, is))
 
-  pub is_wanting : Ending w r result → result ≡ 8 → IsOutOfMemory w r
+  is_wanting : Ending w r result → result ≡ 8 → IsOutOfMemory w r
   is_wanting (Finished x e) is = absurd (omega (arith, e, is))
-  is_wanting (Ended t x e) is =
-      inl (record {
-        err = subst (λ line. Gained r.streams.before.err.written r.streams.after.err.written line) (by_eight w r t x (sym e ∙ is)) x.err;
-        out = inl x.out;
-      })
+  is_wanting (Ended t x e) is = by_eight w r t x (sym e ∙ is)
   is_wanting (Failed x e) is = absurd (omega (arith, e, is))
   is_wanting (Wanted x e) is = x
 
@@ -233,3 +313,9 @@ module _ (w : NodeWordsView) (r : NodeRun) (result : ℕ) where
 
   pub has_come : Ends w r result → HasCome w r
   has_come e = (e.came, e.comes)
+
+-- memory was wanted before anything was done, and that is said
+pub wanted_first : (w : NodeWordsView) (r : NodeRun) (result : ℕ) → r.after ≡ r.before → r.streams.after.input.faults ≡ r.streams.before.input.faults
+    → r.streams.after.out ≡ r.streams.before.out → Said 8 memory_line r.streams.before.err r.streams.after.err result → Ends w r result
+wanted_first w r result device input out said =
+    record { came = Err trouble.Memory; comes = record { quiet = input; device_stays = device }; tells = record { out_is = out; told = said } }

@@ -1,14 +1,15 @@
 -- What reading the configuration, beginning and taking turns come to.
-use Rattle.std.specs.Prelude.{◌≡◌, ◌+◌, ℕ, [], ◌∷◌, Some, None, Result, Ok, Err, IfSome}
+use Rattle.std.specs.Prelude.{◌≡◌, ◌+◌, ℕ, [], ◌∷◌, drop, Some, None, option_map, Result, Ok, Err, IfSome}
 use Rattle.std.specs.List.{slice_get}
 use Rattle.command_line.specs.AskedNodes.{NodeWordsView}
 use Rattle.disk.specs.Acts.{Began, BeginFailed}
 use Rattle.node_config.specs.Configs.{configured}
-use Rattle.node_config.specs.Outcomes.{Fits}
+use Rattle.node_config.specs.Outcomes.{Fits, Took}
 use Rattle.node_config.specs.declared.config.Config.{Config}
 use Rattle.node_config.specs.declared.fault.ConfigFault.{ConfigFault}
 use Rattle.node_config.specs.declared.fault.ConfigFault.TheVariants as config
 use Rattle.node_config.specs.declared.key.ConfigKey.{ConfigKey}
+use Rattle.node_config.specs.declared.limits.TheConstants.{MAX_CONFIG}
 use Rattle.node_datagrams.specs.Saying.{SendsOnly}
 use Rattle.node_device.specs.Faults.{BeginCounts}
 use Rattle.node_device.specs.Telling.{Did, Told, told_after}
@@ -75,14 +76,17 @@ module _ (w : NodeWordsView) (input input' : SourceSeen) (device device' : Devic
     pub told : Did device.told device'.told (BeginFailed at w.state ∷ [])
     pub counts : BeginCounts device.faults device'.faults begun.Failed
 
-  -- The configuration is refused for a key, and nothing was done with the device.
+  -- The configuration is refused for a key. It was read to its end, or to the byte that makes it too long, and nothing was done with
+  -- the device.
   pub record IsRefused (key : ConfigKey) : Type 0 where
     pub says : IfSome input.left (λ text. configured w.me text ≡ Err key)
+    pub given : input'.left ≡ option_map (drop (MAX_CONFIG + 1)) input.left
     pub quiet : input'.faults ≡ input.faults
     pub device_stays : device' ≡ device
 
-  -- A read of it failed.
+  -- A read of it failed, before that byte.
   pub record IsUnread : Type 0 where
+    pub given : Took input.left input'.left MAX_CONFIG
     pub rose : Rose input.faults input'.faults
     pub device_stays : device' ≡ device
 

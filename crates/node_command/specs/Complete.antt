@@ -1,5 +1,5 @@
 -- Which status a node's run answers where no call fails.
-use Rattle.std.specs.Prelude.{◌≡◌, ◌⊎◌, ℕ, List, Option, None, Some, Result, Ok, Err, IfSome}
+use Rattle.std.specs.Prelude.{◌≡◌, ◌⊎◌, ℕ, Option, None, Some, Result, Ok, Err, IfSome}
 use Rattle.command_line.specs.AskedNodes.{NodeWordsView}
 use Rattle.node_config.specs.Configs.{configured}
 use Rattle.node_config.specs.declared.config.Config.{Config}
@@ -14,13 +14,10 @@ abbrev pub areas_status : Option Why → ℕ
 areas_status None = 0
 areas_status (Some why) = 9
 
-abbrev pub configured_status : Result Config ConfigKey → Told → ℕ
-configured_status (Err key) told = 3
-configured_status (Ok config) told = areas_status (refused_areas config.stack config told)
-
--- of an input and of what a device tells before the run
-abbrev pub status_for : NodeWordsView → List ℕ → Told → ℕ
-status_for w text told = configured_status (configured w.me text) told
+-- the status of what a configuration says, which needs no areas where it is refused
+abbrev pub IsStatusOf : Result Config ConfigKey → Option Told → ℕ → Type 0
+IsStatusOf (Err key) told result = result ≡ 3
+IsStatusOf (Ok config) told result = IfSome told (λ before. result ≡ areas_status (refused_areas config.stack config before))
 
 -- no call failed but sends, which are losses
 pub record NoneRose (r : NodeRun) : Type 0 where
@@ -32,5 +29,5 @@ pub record NoneRose (r : NodeRun) : Type 0 where
   pub stores : ¬ Rose r.before.faults.store r.after.faults.store
 
 abbrev pub IsComplete : NodeWordsView → NodeRun → ℕ → Type 0
-IsComplete w r result = IfSome r.streams.before.input.left (λ text. IfSome r.before.told (λ told.
-    NoneRose r → (result ≡ status_for w text told) ⊎ (result ≡ 8)))
+IsComplete w r result = IfSome r.streams.before.input.left (λ text.
+    NoneRose r → IsStatusOf (configured w.me text) r.before.told result ⊎ (result ≡ 8))

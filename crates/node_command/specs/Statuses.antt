@@ -11,6 +11,7 @@ use Rattle.udp_node.specs.declared.fault.NodeFault.TheVariants as fault
 use Rattle.node_command.specs.Coming.{Comes}
 use Rattle.node_command.specs.Lines.{line_of, turns_line}
 use Rattle.node_command.specs.Seen.{NodeRun}
+use Rattle.node_command.specs.Telling.{MaySayMemory, OutWanted}
 use Rattle.node_command.specs.declared.trouble.Trouble.{Trouble}
 use Rattle.node_command.specs.declared.trouble.Trouble.TheVariants as trouble
 
@@ -50,15 +51,18 @@ module _ (w : NodeWordsView) (r : NodeRun) where
   abbrev pub AreAreasRefused : Type 0
   AreAreasRefused = (why : Refusal) × EndsBy (trouble.Ended (fault.Refused why))
 
+  -- it came to what `memory` may be said for
+  abbrev pub WantsMemory : Type 0
+  WantsMemory = (came : Result (Unit {0}) Trouble) × CameTo came × MaySayMemory came
+
   -- a line that the run may say: that of the trouble that came, or that memory is wanted
   abbrev pub MaySay : List ℕ → Type 0
-  MaySay line = ((t : Trouble) × CameTo (Err t) × (line ≡ line_of t)) ⊎ (line ≡ memory_line)
+  MaySay line = ((t : Trouble) × CameTo (Err t) × (line ≡ line_of t)) ⊎ (WantsMemory × (line ≡ memory_line))
 
-  -- the output is as it was, or, after the last turn, gained a front of the line of the turns
+  -- the output is as it was, or, after the last turn, it wanted memory as it got the line of the turns
   abbrev pub WroteTurnsAtMost : Type 0
   WroteTurnsAtMost =
-      (r.streams.after.out ≡ r.streams.before.out)
-      ⊎ (CameTo (Ok tt) × GainedFront r.streams.before.out.written r.streams.after.out.written (turns_line w.turns))
+      (r.streams.after.out ≡ r.streams.before.out) ⊎ (CameTo (Ok tt) × OutWanted w.turns r.streams.before.out r.streams.after.out)
 
   -- a front of such a line was written
   pub record WasSaying : Type 0 where
@@ -72,16 +76,39 @@ module _ (w : NodeWordsView) (r : NodeRun) where
     pub served : CameTo (Ok tt)
     pub front : GainedFront r.streams.before.out.written r.streams.after.out.written (turns_line w.turns)
     pub rose : Rose r.streams.before.out.faults r.streams.after.out.faults
+    pub unwanted : r.streams.after.out.wants ≡ r.streams.before.out.wants
     pub err : r.streams.after.err ≡ r.streams.before.err
 
-  -- or one of the error stream
-  abbrev pub HasWriteFailed : Type 0
-  HasWriteFailed = HasOutFailed ⊎ (Rose r.streams.before.err.faults r.streams.after.err.faults × WasSaying)
+  -- or one of the error stream, as it got a line
+  pub record HasErrFailed : Type 0 where
+    pub saying : WasSaying
+    pub rose : Rose r.streams.before.err.faults r.streams.after.err.faults
+    pub unwanted : r.streams.after.err.wants ≡ r.streams.before.err.wants
 
-  -- 8: memory was wanted: the error stream gained that line, or it wanted memory itself
+  abbrev pub HasWriteFailed : Type 0
+  HasWriteFailed = HasOutFailed ⊎ HasErrFailed
+
+  -- the error stream gained the line that memory is wanted
   pub record HasSaidMemory : Type 0 where
+    pub came : WantsMemory
     pub err : Gained r.streams.before.err.written r.streams.after.err.written memory_line
+    pub unwanted : r.streams.after.err.wants ≡ r.streams.before.err.wants
     pub out : WroteTurnsAtMost
 
-  abbrev pub IsOutOfMemory : Type 0
-  IsOutOfMemory = HasSaidMemory ⊎ (Rose r.streams.before.err.wants r.streams.after.err.wants × WasSaying)
+  -- or it wanted memory itself, as it got a line
+  pub record HasErrWanted : Type 0 where
+    pub saying : WasSaying
+    pub rose : Rose r.streams.before.err.wants r.streams.after.err.wants
+
+  -- a read failed, and the error stream wanted memory as it got the line of that
+  pub record WantedAtRead : Type 0 where
+    pub came : CameTo (Err trouble.Read)
+    pub front : GainedFront r.streams.before.err.written r.streams.after.err.written (line_of trouble.Read)
+    pub rose : Rose r.streams.before.err.wants r.streams.after.err.wants
+
+  -- 8: memory was wanted. No write failed, and no read but where the error stream wanted memory for the line of it
+  pub record IsOutOfMemory : Type 0 where
+    pub said : HasSaidMemory ⊎ HasErrWanted
+    pub reads : (r.streams.after.input.faults ≡ r.streams.before.input.faults) ⊎ WantedAtRead
+    pub out : r.streams.after.out.faults ≡ r.streams.before.out.faults
+    pub err : r.streams.after.err.faults ≡ r.streams.before.err.faults

@@ -6,10 +6,18 @@ use Rattle.outside.specs.Wholes.{Gained, GainedFront}
 use Rattle.run_streams.specs.Lines.{memory_line}
 use Rattle.run_streams.specs.Saying.{Said, Tells}
 use Rattle.run_streams.specs.Seen.{CountsNothing, SinkSeen}
+use Rattle.udp_node.specs.declared.fault.NodeFault.TheVariants as fault
 use Rattle.node_command.specs.Coming.{Comes}
 use Rattle.node_command.specs.Lines.{line_of, status_of, turns_line}
 use Rattle.node_command.specs.Seen.{NodeRun}
 use Rattle.node_command.specs.declared.trouble.Trouble.{Trouble}
+use Rattle.node_command.specs.declared.trouble.Trouble.TheVariants as trouble
+
+-- the output wanted memory as it got the line of the turns
+pub record OutWanted (turns : ℕ) (out out' : SinkSeen) : Type 0 where
+  pub front : GainedFront out.written out'.written (turns_line turns)
+  pub unfailed : out'.faults ≡ out.faults
+  pub rose : Rose out.wants out'.wants
 
 -- After the last turn the line on the output is written whole, or a front of it: a write failed, or memory was wanted.
 module _ (turns : ℕ) (out out' err err' : SinkSeen) (result : ℕ) where
@@ -23,20 +31,36 @@ module _ (turns : ℕ) (out out' err err' : SinkSeen) (result : ℕ) where
     pub status : result ≡ 5
     pub out_is : GainedFront out.written out'.written (turns_line turns)
     pub rose : Rose out.faults out'.faults
+    pub unwanted : out'.wants ≡ out.wants
     pub err_is : err' ≡ err
 
+  -- the line could not be made, or the output wanted memory
   pub record WantedTurns : Type 0 where
-    pub out_is : GainedFront out.written out'.written (turns_line turns)
-    pub unfailed : out'.faults ≡ out.faults
+    pub out_is : (out' ≡ out) ⊎ OutWanted turns out out'
     pub said : Said 8 memory_line err err' result
 
   abbrev pub TellsTurns : Type 0
   TellsTurns = WroteTurns ⊎ FailedTurns ⊎ WantedTurns
 
+-- The line of a trouble is said. One that names a key, or why areas are refused, is made first, and memory may be wanted for it.
+abbrev pub TellsLine : Trouble → SinkSeen → SinkSeen → ℕ → Type 0
+TellsLine (trouble.Config key) = Tells (status_of (trouble.Config key)) (line_of (trouble.Config key))
+TellsLine (trouble.Ended (fault.Refused why)) =
+    Tells (status_of (trouble.Ended (fault.Refused why))) (line_of (trouble.Ended (fault.Refused why)))
+TellsLine t = Said (status_of t) (line_of t)
+
+-- what `memory` may be said for: memory was wanted, or the line is made first, since it names turns, a key, or why areas are refused
+abbrev pub MaySayMemory : Result (Unit {0}) Trouble → Type 0
+MaySayMemory (Err trouble.Read) = ⊥
+MaySayMemory (Err trouble.Begin) = ⊥
+MaySayMemory (Err (trouble.Ended fault.Receive)) = ⊥
+MaySayMemory (Err (trouble.Ended fault.Store)) = ⊥
+MaySayMemory came = Unit {0}
+
 -- Else the output stays, and the error stream gets the line of the trouble.
 pub record TellsTrouble (t : Trouble) (out out' err err' : SinkSeen) (result : ℕ) : Type 0 where
   pub out_is : out' ≡ out
-  pub told : Tells (status_of t) (line_of t) err err' result
+  pub told : TellsLine t err err' result
 
 abbrev pub TellsWhat : ℕ → Result (Unit {0}) Trouble → (out out' err err' : SinkSeen) → ℕ → Type 0
 TellsWhat turns (Ok x) = TellsTurns turns

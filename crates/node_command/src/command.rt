@@ -1,7 +1,7 @@
 ghost use Rattle.std.specs.Prelude.{◌≡◌, ◌≤◌};
 ghost use Rattle.command_line.specs.CommandSet.{CanBeRun};
 ghost use Rattle.node_command.specs.Complete.{IsComplete};
-ghost use Rattle.node_command.specs.Seen.{node_ran};
+ghost use Rattle.node_command.specs.Seen.{KeepsAllCounts, node_ran};
 ghost use Rattle.node_command.specs.Statuses.{AreAreasRefused, EndsBy, HasCome, HasListeningFailed, HasWriteFailed};
 ghost use Rattle.node_command.specs.Statuses.{IsConfigRefused, IsDone, IsNodeStatus, IsOutOfMemory};
 ghost use Rattle.node_command.specs.Telling.{Ends};
@@ -74,7 +74,8 @@ pub fn run_node<S: Source, O: Sink, E: Sink, D: Device>(
     ensures areas { result ≡ 9 → AreAreasRefused words.now (node_ran
         (ran S.Source O.Sink E.Sink input.old input.new out.old out.new err.old err.new)
         D.Device device.old device.new) }
-    ensures counts { KeepsCounts (ran S.Source O.Sink E.Sink input.old input.new out.old out.new err.old err.new) }
+    ensures counts { KeepsAllCounts (node_ran (ran S.Source O.Sink E.Sink input.old input.new out.old out.new err.old err.new)
+        D.Device device.old device.new) }
 {
     run_and_tell(alloc, words, input, out, err, device)
 }

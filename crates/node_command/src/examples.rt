@@ -1,9 +1,14 @@
-ghost use Rattle.std.specs.Prelude.{◌≡◌, [], ◌∷◌, Err, None, Ok, Some, codes};
-ghost use Rattle.disk.specs.Acts.{Now};
-ghost use Rattle.node_command.specs.Complete.{areas_status, configured_status};
-ghost use Rattle.node_command.specs.Examples.{begins, comes_of_nothing, comes_to, comes_untold, complained, device, idle, untouched, words, wrote_out};
+ghost use Rattle.std.specs.Prelude.{◌≡◌, ◌++◌, ◌+◌, [], ◌∷◌, Err, None, Ok, Some, codes, replicate};
+ghost use Rattle.disk.specs.Acts.{BeginFailed, Now};
+ghost use Rattle.node_command.specs.Complete.{IsComplete, IsStatusOf, NoneRose, areas_status};
+ghost use Rattle.node_command.specs.Examples.{alone, begins, comes_of, comes_of_nothing, comes_to, comes_untold, complained, device};
+ghost use Rattle.node_command.specs.Examples.{err_as, failing, fed, idle, in_silence, out_as, selecting, sink, untouched, wanting, words};
 ghost use Rattle.node_command.specs.Lines.{config_line, line_of, state_line, status_of, turns_line};
-ghost use Rattle.node_command.specs.Statuses.{EndsBy, IsConfigRefused, IsNodeStatus, IsOutOfMemory, MaySay};
+ghost use Rattle.node_command.specs.Seen.{KeepsAllCounts};
+ghost use Rattle.node_command.specs.Statuses.{AreAreasRefused, EndsBy, HasListeningFailed, HasWriteFailed, IsConfigRefused, IsDone};
+ghost use Rattle.node_command.specs.Statuses.{IsNodeStatus, IsOutOfMemory, MaySay, WroteTurnsAtMost};
+ghost use Rattle.node_config.specs.Examples.{local, sample_text};
+ghost use Rattle.node_config.specs.declared.limits.TheConstants.{MAX_CONFIG};
 ghost use Rattle.node_device.specs.Examples.{counts, sends, tells};
 ghost use Rattle.slots.specs.Opening.{BadSelector};
 
@@ -33,7 +38,11 @@ pub fn worked_statuses()
     ensures of_a_receive { status_of (Trouble.Ended NodeFault.Receive) ≡ 6 }
     ensures of_areas { status_of (Trouble.Ended (NodeFault.Refused Refusal.Selector)) ≡ 9 }
     ensures never { IsNodeStatus 2 → ⊥ }
-    ensures without_faults { configured_status (Err ConfigKey.Me) untouched ≡ 3 }
+    ensures a_key_needs_no_areas { IsStatusOf (Err ConfigKey.Me) None 3 }
+    ensures a_key_as_done { IsStatusOf (Err ConfigKey.Me) (Some untouched) 0 → ⊥ }
+    ensures fresh_areas { IsStatusOf (Ok alone) (Some untouched) 0 }
+    ensures fresh_areas_as_refused { IsStatusOf (Ok alone) (Some untouched) 9 → ⊥ }
+    ensures a_selector_of_two_bytes { IsStatusOf (Ok alone) (Some (selecting (0 ∷ 0 ∷ []))) 9 }
     ensures refused_areas { areas_status (Some BadSelector) ≡ 9 }
     ensures opened_areas { areas_status None ≡ 0 }
     ensures unread { EndsBy words (complained 1 (codes "read\n") idle) Trouble.Read }
@@ -42,11 +51,61 @@ pub fn worked_statuses()
     ensures unread_in_silence { EndsBy words (complained 1 [] idle) Trouble.Read → ⊥ }
     ensures refused { IsConfigRefused words (complained 0 (codes "config: me\n") idle) }
     ensures refused_after_a_fault { EndsBy words (complained 1 (codes "config: me\n") idle) (Trouble.Config ConfigKey.Me) → ⊥ }
+    ensures says_memory { MaySay words (complained 0 [] idle) (codes "memory\n") }
+    ensures says_memory_of_a_read { MaySay words (complained 1 [] idle) (codes "memory\n") → ⊥ }
+{}
+
+/// Runs that took all turns, that could not listen, and whose areas are refused.
+pub fn worked_ends()
+    ensures done { IsDone words (out_as (sink (codes "turns 3\n")) (in_silence (counts 1 1) (counts 1 1))) }
+    ensures done_without_the_line { IsDone words (in_silence (counts 1 1) (counts 1 1)) → ⊥ }
+    ensures done_after_a_failed_write { IsDone words (out_as (failing (codes "turns 3\n")) (in_silence (counts 1 1) (counts 1 1))) → ⊥ }
+    ensures done_with_a_complaint { IsDone words (err_as (sink (codes "no\n")) (in_silence (counts 1 1) (counts 1 1))) → ⊥ }
+    ensures unbegun { HasListeningFailed words (err_as (sink (codes "open\n")) (in_silence (begins 1) (begins 2))) }
+    ensures unbegun_uncounted { HasListeningFailed words (err_as (sink (codes "open\n")) (in_silence (begins 1) (begins 1))) → ⊥ }
+    ensures unheard { HasListeningFailed words (err_as (sink (codes "receive\n")) (in_silence (counts 1 1) (counts 2 1))) }
+    ensures unheard_for_a_store { HasListeningFailed words (err_as (sink (codes "receive\n")) (in_silence (counts 1 1) (counts 1 2))) → ⊥ }
+    ensures areas { AreAreasRefused words (err_as (sink (codes "state: selector\n")) (in_silence (counts 1 1) (counts 1 1))) }
+    ensures areas_for_a_store { AreAreasRefused words (err_as (sink (codes "state: selector\n"))
+        (in_silence (counts 1 1) (counts 1 2))) → ⊥ }
+{}
+
+/// Runs of which a write failed, and that wanted memory.
+pub fn worked_failures()
+    ensures out_failed { HasWriteFailed words (out_as (failing (codes "tur")) (in_silence (counts 1 1) (counts 1 1))) }
+    ensures out_failed_uncounted { HasWriteFailed words (out_as (sink (codes "tur")) (in_silence (counts 1 1) (counts 1 1))) → ⊥ }
+    ensures out_wanted_as_failed { HasWriteFailed words (out_as (wanting (codes "tur")) (in_silence (counts 1 1) (counts 1 1))) → ⊥ }
+    ensures err_failed { HasWriteFailed words (err_as (failing (codes "re")) (complained 1 [] idle)) }
+    ensures err_failed_in_another_line { HasWriteFailed words (err_as (failing (codes "op")) (complained 1 [] idle)) → ⊥ }
+    ensures err_failed_uncounted { HasWriteFailed words (complained 1 (codes "re") idle) → ⊥ }
+    ensures wrote_at_most { WroteTurnsAtMost words (out_as (wanting (codes "tur")) (in_silence (counts 1 1) (counts 1 1))) }
+    ensures wrote_in_part { WroteTurnsAtMost words (out_as (sink (codes "tur")) (in_silence (counts 1 1) (counts 1 1))) → ⊥ }
     ensures wanted { IsOutOfMemory words (complained 0 (codes "memory\n") idle) }
     ensures wanted_in_silence { IsOutOfMemory words (complained 0 [] idle) → ⊥ }
-    ensures wanted_after_turns_that_none_took { IsOutOfMemory words (wrote_out (codes "turns 3\n") (complained 1 (codes "memory\n") idle)) → ⊥ }
-    ensures says_memory { MaySay words (complained 0 [] idle) (codes "memory\n") }
+    ensures wanted_after_turns_that_none_took { IsOutOfMemory words
+        (out_as (sink (codes "turns 3\n")) (complained 0 (codes "memory\n") (device (tells []) (counts 1 2)))) → ⊥ }
+    ensures wanted_for_the_line_of_a_read { IsOutOfMemory words (err_as (wanting (codes "re")) (complained 1 [] idle)) }
+    ensures wanted_in_another_line { IsOutOfMemory words (err_as (wanting (codes "op")) (complained 1 [] idle)) → ⊥ }
+    ensures wanted_for_a_read { IsOutOfMemory words (complained 1 (codes "memory\n") idle) → ⊥ }
+    ensures wanted_for_a_failed_write { IsOutOfMemory words (err_as (failing (codes "memory\n")) (complained 0 [] idle)) → ⊥ }
+    ensures wanted_for_a_beginning { IsOutOfMemory words (err_as (sink (codes "memory\n")) (in_silence (begins 1) (begins 2))) → ⊥ }
+    ensures wanted_for_a_receive { IsOutOfMemory words (err_as (sink (codes "memory\n")) (in_silence (counts 1 1) (counts 2 1))) → ⊥ }
 {}
+
+/// Runs in which no call failed but sends, what they answer, and counts that stay.
+pub fn worked_counts()
+    ensures none_rose { NoneRose (in_silence (sends 1) (sends 2)) }
+    ensures one_rose { NoneRose (in_silence (begins 1) (begins 2)) → ⊥ }
+    ensures refused { IsComplete words (fed [] (in_silence (sends 1) (sends 2))) 3 }
+    ensures refused_as_done { IsComplete words (fed [] (in_silence (sends 1) (sends 2))) 0 → ⊥ }
+    ensures kept { KeepsAllCounts (in_silence (sends 1) (sends 2)) }
+    ensures a_send_found_again { KeepsAllCounts (in_silence (sends 2) (sends 1)) → ⊥ }
+    ensures a_beginning_found_again { KeepsAllCounts (in_silence (begins 2) (begins 1)) → ⊥ }
+    ensures a_receive_found_again { KeepsAllCounts (in_silence (counts 2 1) (counts 1 1)) → ⊥ }
+    ensures a_store_found_again { KeepsAllCounts (in_silence (counts 1 2) (counts 1 1)) → ⊥ }
+{
+    worked_texts();
+}
 
 /// What reading the configuration, beginning and taking turns come to, by the calls that failed. A device that told goes on to the
 /// end.
@@ -60,7 +119,13 @@ pub fn worked_comings()
     ensures not_ended_by_another { comes_to 0 (counts 1 1) (counts 2 2) (Err (Trouble.Ended NodeFault.Receive)) → ⊥ }
     ensures unbegun { comes_to 0 (begins 1) (begins 2) (Err Trouble.Begin) }
     ensures not_unbegun_uncounted { comes_to 0 (begins 1) (begins 1) (Err Trouble.Begin) → ⊥ }
+    ensures unbegun_where_it_is_configured { comes_of sample_text (BeginFailed (local 7000) (codes "d") ∷ []) (Err Trouble.Begin) }
+    ensures not_unbegun_at_another_address { comes_of sample_text (BeginFailed (local 7001) (codes "d") ∷ []) (Err Trouble.Begin) → ⊥ }
+    ensures not_unbegun_in_another_directory { comes_of sample_text (BeginFailed (local 7000) (codes "e") ∷ []) (Err Trouble.Begin) → ⊥ }
+    ensures not_unbegun_in_silence { comes_of sample_text [] (Err Trouble.Begin) → ⊥ }
     ensures refused { comes_of_nothing (Err (Trouble.Config ConfigKey.Stack)) }
+    ensures not_refused_where_more_was_read { comes_of (replicate (MAX_CONFIG + 1) 35 ++ codes "a") []
+        (Err (Trouble.Config ConfigKey.Text)) → ⊥ }
     ensures not_refused_for_another_key { comes_of_nothing (Err (Trouble.Config ConfigKey.Me)) → ⊥ }
     ensures not_refused_where_a_read_failed { comes_to 1 (counts 1 1) (counts 1 1) (Err (Trouble.Config ConfigKey.Stack)) → ⊥ }
     ensures not_refused_where_a_receive_failed { comes_to 0 (counts 1 1) (counts 2 1) (Err (Trouble.Config ConfigKey.Stack)) → ⊥ }

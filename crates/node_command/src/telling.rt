@@ -1,8 +1,6 @@
 ghost use Rattle.std.specs.Prelude.{◌≤◌};
-ghost use Rattle.node_command.specs.Lines.{line_of, status_of};
-ghost use Rattle.node_command.specs.Telling.{TellsTurns};
+ghost use Rattle.node_command.specs.Telling.{TellsLine, TellsTurns};
 ghost use Rattle.node_command.specs.declared.trouble.Trouble.TheVariants as trouble;
-ghost use Rattle.run_streams.specs.Saying.{Tells};
 ghost use Rattle.run_streams.specs.Seen.{sink_seen};
 
 use crate::Trouble;
@@ -17,8 +15,7 @@ use udp_node::NodeFault;
 
 // Says on the error stream by what a node ended.
 fn tell_fault<E: Sink>(alloc: Global, err: &mut E, fault: NodeFault) -> u8
-    ensures told { Tells (status_of (trouble.Ended fault)) (line_of (trouble.Ended fault)) (sink_seen E.Sink err.old)
-        (sink_seen E.Sink err.new) result }
+    ensures told { TellsLine (trouble.Ended fault) (sink_seen E.Sink err.old) (sink_seen E.Sink err.new) result }
     ensures counts { E.faults err.old ≤ E.faults err.new }
 {
     match fault {
@@ -31,7 +28,7 @@ fn tell_fault<E: Sink>(alloc: Global, err: &mut E, fault: NodeFault) -> u8
 
 // Says on the error stream why not all turns were taken.
 pub(crate) fn tell_trouble<E: Sink>(alloc: Global, err: &mut E, trouble: Trouble) -> u8
-    ensures told { Tells (status_of trouble) (line_of trouble) (sink_seen E.Sink err.old) (sink_seen E.Sink err.new) result }
+    ensures told { TellsLine trouble (sink_seen E.Sink err.old) (sink_seen E.Sink err.new) result }
     ensures counts { E.faults err.old ≤ E.faults err.new }
 {
     match trouble {

@@ -1,16 +1,16 @@
 -- What telling a complaint comes to, by the status of the run.
-use Rattle.std.specs.Prelude.{◌≡◌, ◌⊎◌, ℕ, List, Option, Some, None, IfSome, Bool, true, false}
+use Rattle.std.specs.Prelude.{◌≡◌, ◌⊎◌, ℕ, List, Option, Some, None, IfSome, IsTrue, Bool, true, false}
 use Rattle.std.specs.Bool.{OnTrue}
 use Rattle.std.proofs.Common.{inl, inr, ap, ◌∙◌, subst, sym, append-nil, arith, refl}
-use Rattle.outside.specs.Counting.{Rose}
 use Rattle.outside.specs.Wholes.{Gained, GainedFront}
+use Rattle.line_reader.specs.declared.why.Why.{Why}
 use Rattle.command_line.specs.declared.command.Command.{Command}
 use Rattle.run_streams.specs.Lines.{memory_line}
 use Rattle.text_commands.specs.Answers.{answer_by, input_of, is_check, permitted_line}
 use Rattle.run_streams.specs.Saying.{Said}
-use Rattle.text_commands.specs.Complaints.{HasCause, Told, WasSaying, line_of, status_of}
+use Rattle.text_commands.specs.Complaints.{HasCause, HidesNothing, Told, WasSaying, is_made, line_of, status_of}
 use Rattle.run_streams.specs.Seen.{CountsNothing, Run, SinkSeen}
-use Rattle.text_commands.specs.Statuses.{HasWriteFailed, IsOutOfMemory, WroteFront}
+use Rattle.text_commands.specs.Statuses.{HasErrFailed, HasWriteFailed, IsOutOfMemory, WroteFront}
 use Rattle.text_commands.specs.declared.complaint.Complaint.{Complaint}
 use Rattle.text_commands.specs.declared.complaint.Complaint.TheVariants as complaint
 
@@ -38,40 +38,83 @@ said-whole status line b a r (inr (inr wants)) written kept = absurd (kept wants
 
 pub told-whole : (c : Complaint) (b a : SinkSeen) (r : ℕ) → Told c b a r → (r ≡ 5 → ⊥) → (r ≡ 8 → ⊥) → (r ≡ status_of c) × Gained b.written a.written (line_of c) × CountsNothing b a
 told-whole c b a r (inl said) written kept = said-whole (status_of c) (line_of c) b a r said written kept
-told-whole c b a r (inr said) written kept = absurd (kept (said-whole 8 memory_line b a r said written kept).0)
+told-whole c b a r (inr made) written kept = absurd (kept (said-whole 8 memory_line b a r made.1 written kept).0)
+
+-- what holds unless a complaint is that of another status
+unless : {A : Type 0} {c d : Complaint} → (status_of c ≡ status_of d → ⊥) → A ⊎ (c ≡ d) → A
+unless other (inl a) = a
+unless other (inr e) = absurd (other (ap status_of e))
+
+-- no read failed before a complaint whose line is made
+made-reads : (c : Complaint) → IsTrue (is_made c) → status_of c ≡ status_of complaint.Read → ⊥
+made-reads (complaint.Condition condition line) made e = omega (arith, e)
+made-reads complaint.Words made e = omega (arith, e)
+made-reads (complaint.Line line why) made e = omega (arith, e)
+made-reads complaint.Read made e = cc
+made-reads complaint.Memory made e = omega (arith, e)
+
+-- where its line cannot be made, want of memory is the complaint
+wanting : (c : Complaint) (run : Run) → IsTrue (is_made c) → HidesNothing c run → HidesNothing complaint.Memory run
+wanting c run made hides = record { reads = inl (unless (made-reads c made) hides.reads); writes = hides.writes; wants = inr refl }
 
 -- a line that the run was saying
-saying : (command : Option Command) (run : Run) (c : Complaint) → HasCause command run c → GainedFront run.before.err.written run.after.err.written (line_of c) → WasSaying command run
-saying command run c cause front = record {
-  status = status_of c;
+saying : (command : Option Command) (run : Run) (c : Complaint) → HasCause command run c → HidesNothing c run → GainedFront run.before.err.written run.after.err.written (line_of c) → WasSaying command run
+saying command run c cause hides front = record {
   line = line_of c;
-  may = record { saying = c; cause = cause; status_is = refl; line_is = refl };
+  may = record { saying = c; cause = cause; hides = hides; line_is = refl };
   front = front;
 }
 
-said-failed : (command : Option Command) (run : Run) (c : Complaint) (r : ℕ) → HasCause command run c → Said (status_of c) (line_of c) run.before.err run.after.err r → r ≡ 5
-    → Rose run.before.err.faults run.after.err.faults × WasSaying command run
-said-failed command run c r cause (inl whole) is = absurd (not-five c (sym whole.0 ∙ is))
-said-failed command run c r cause (inr (inl failed)) is = (failed.2, saying command run c cause failed.1)
-said-failed command run c r cause (inr (inr wants)) is = absurd (omega (arith, wants.0, is))
+said-failed : (command : Option Command) (run : Run) (c : Complaint) (r : ℕ) → HasCause command run c → HidesNothing c run → Said (status_of c) (line_of c) run.before.err run.after.err r → r ≡ 5
+    → HasErrFailed command run
+said-failed command run c r cause hides (inl whole) is = absurd (not-five c (sym whole.0 ∙ is))
+said-failed command run c r cause hides (inr (inl failed)) is = record { rose = failed.2; wants = failed.3; saying = saying command run c cause hides failed.1 }
+said-failed command run c r cause hides (inr (inr wants)) is = absurd (omega (arith, wants.0, is))
 
-said-memory : (command : Option Command) (run : Run) (c : Complaint) (r : ℕ) → HasCause command run c → Said (status_of c) (line_of c) run.before.err run.after.err r → r ≡ 8
-    → Gained run.before.err.written run.after.err.written memory_line ⊎ (Rose run.before.err.wants run.after.err.wants × WasSaying command run)
-said-memory command run c r cause (inl whole) is = inl (subst (λ line. Gained run.before.err.written run.after.err.written line) (eight c (sym whole.0 ∙ is)) whole.1)
-said-memory command run c r cause (inr (inl failed)) is = absurd (omega (arith, failed.0, is))
-said-memory command run c r cause (inr (inr wants)) is = inr (wants.3, saying command run c cause wants.1)
+-- the only complaint with the status of want of memory is that
+said-memory : (command : Option Command) (run : Run) (c : Complaint) (r : ℕ) → HasCause command run c → HidesNothing c run → WroteFront command run
+    → Said (status_of c) (line_of c) run.before.err run.after.err r → r ≡ 8 → IsOutOfMemory command run
+said-memory command run c r cause hides front (inl whole) is =
+    let eighth = sym whole.0 ∙ is in
+    record {
+      front = front;
+      writes = hides.writes;
+      complains = whole.2.faults;
+      wanted = inl (record {
+        err = subst (λ line. Gained run.before.err.written run.after.err.written line) (eight c eighth) whole.1;
+        reads = unless (λ e. omega (arith, e, eighth)) hides.reads;
+      });
+    }
+said-memory command run c r cause hides front (inr (inl failed)) is = absurd (omega (arith, failed.0, is))
+said-memory command run c r cause hides front (inr (inr wants)) is =
+    record { front = front; writes = hides.writes; complains = wants.2; wanted = inr (wants.3, saying command run c cause hides wants.1) }
 
 -- a run that ends so where a write of its complaint fails
-pub told_failed : (command : Option Command) (run : Run) (c : Complaint) (r : ℕ) → Told c run.before.err run.after.err r → r ≡ 5 → HasCause command run c → WroteFront command run
-    → HasWriteFailed command run
-told_failed command run c r (inl said) is cause front = record { front = front; err = inr (said-failed command run c r cause said is) }
-told_failed command run c r (inr said) is cause front = record { front = front; err = inr (said-failed command run complaint.Memory r tt said is) }
+pub told_failed : (command : Option Command) (run : Run) (c : Complaint) (r : ℕ) → Told c run.before.err run.after.err r → r ≡ 5 → HasCause command run c → HidesNothing c run
+    → WroteFront command run → HasWriteFailed command run
+told_failed command run c r (inl said) is cause hides front = record { front = front; failed = inr (said-failed command run c r cause hides said is) }
+told_failed command run c r (inr made) is cause hides front =
+    record { front = front; failed = inr (said-failed command run complaint.Memory r tt (wanting c run made.0 hides) made.1 is) }
 
 -- and where memory is wanted
-pub told_memory : (command : Option Command) (run : Run) (c : Complaint) (r : ℕ) → Told c run.before.err run.after.err r → r ≡ 8 → HasCause command run c → WroteFront command run
-    → IsOutOfMemory command run
-told_memory command run c r (inl said) is cause front = record { front = front; err = said-memory command run c r cause said is }
-told_memory command run c r (inr said) is cause front = record { front = front; err = said-memory command run complaint.Memory r tt said is }
+pub told_memory : (command : Option Command) (run : Run) (c : Complaint) (r : ℕ) → Told c run.before.err run.after.err r → r ≡ 8 → HasCause command run c → HidesNothing c run
+    → WroteFront command run → IsOutOfMemory command run
+told_memory command run c r (inl said) is cause hides front = said-memory command run c r cause hides front said is
+told_memory command run c r (inr made) is cause hides front = said-memory command run complaint.Memory r tt (wanting c run made.0 hides) front made.1 is
+
+-- a complaint hides nothing where no other call was made, or none of them failed
+pub none-hidden : (c : Complaint) (run : Run) → run.after.input.faults ≡ run.before.input.faults → run.after.out ≡ run.before.out → HidesNothing c run
+none-hidden c run reads same = record { reads = inl reads; writes = ap (λ sink. sink.faults) same; wants = inl (ap (λ sink. sink.wants) same) }
+
+pub read-told : (run : Run) → run.after.out.faults ≡ run.before.out.faults → run.after.out.wants ≡ run.before.out.wants → HidesNothing complaint.Read run
+read-told run writes wants = record { reads = inr refl; writes = writes; wants = inl wants }
+
+pub line-told : (run : Run) (line : ℕ) (why : Why) → run.after.input.faults ≡ run.before.input.faults → run.after.out.faults ≡ run.before.out.faults
+    → run.after.out.wants ≡ run.before.out.wants → HidesNothing (complaint.Line line why) run
+line-told run line why reads writes wants = record { reads = inl reads; writes = writes; wants = inl wants }
+
+pub memory-told : (run : Run) → run.after.input.faults ≡ run.before.input.faults → run.after.out.faults ≡ run.before.out.faults → HidesNothing complaint.Memory run
+memory-told run reads writes = record { reads = inl reads; writes = writes; wants = inr refl }
 
 -- what is said of any value
 if-any : {A : Type 0} {P : A → Type 0} (o : Option A) → ((a : A) → P a) → IfSome o P

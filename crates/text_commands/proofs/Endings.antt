@@ -11,13 +11,15 @@ use Rattle.schedule_replay.specs.Replays.{replayed, replayed_so_far}
 use Rattle.vst_base.specs.declared.stack.StackId.{StackId}
 use Rattle.claim_verdicts.specs.declared.verdict.Verdict.{Verdict}
 use Rattle.claim_verdicts.specs.declared.verdict.Verdict.TheVariants as says
-use Rattle.stacks.specs.Checks.{checked}
+use Rattle.stacks.specs.Checks.{checked, refused_so_far}
+use Rattle.trace_check.specs.Outcomes as checks
 use Rattle.trace_check.specs.Outcomes.{LooksAhead}
 use Rattle.trace_check.specs.declared.fault.CheckFault.TheVariants as claim
 use Rattle.command_line.specs.declared.command.Command.TheVariants as command
 use Rattle.text_commands.specs.Answers.{answer_to_claim, permitted_line, refusal_status, refusal_text}
 use Rattle.text_commands.specs.Complaints.{HasCause, Told}
 use Rattle.run_streams.specs.Seen.{Run}
+use Rattle.text_commands.specs.Runs.{BrokeOff}
 use Rattle.text_commands.specs.Statuses.{IsLineRefused, WroteFront}
 use Rattle.text_commands.specs.declared.complaint.Complaint.TheVariants as complaint
 use Rattle.text_commands.proofs.Complained.{told-whole}
@@ -93,10 +95,27 @@ line-front r line why told = record {
   verdict = tt;
 }
 
+broke-told : (r : Run) (left : Option (List ℕ)) → r.before.input.left ≡ left
+    → IfSome left (λ bytes. ComesTo replayed replayed_so_far 0 bytes r.after.input.left r.before.out.written r.after.out.written (Err fault.Read))
+    → IfSome left (λ bytes. BrokeOff (Some command.Replay) r)
+broke-told r None same told = tt
+broke-told r (Some bytes) same told = record {
+  given = told.given;
+  gave = subst (λ left. Gave left r.after.input.left told.given) (sym same) (told.gave.others, told.gave.whole, told.gave.left_is);
+  short = told.short;
+  taken = told.taken;
+  out = told.written;
+}
+
 -- the whole lines before a read that failed left their trace
 pub broke-front : (r : Run) → IfSome r.before.input.left (λ bytes. ComesTo replayed replayed_so_far 0 bytes r.after.input.left r.before.out.written r.after.out.written (Err fault.Read))
     → WroteFront (Some command.Replay) r
 broke-front r told = record { out = if-told r.before.input.left (λ bytes t. t.front) told; verdict = tt }
+
+-- and the bytes that they came from
+pub broke-line : (r : Run) → IfSome r.before.input.left (λ bytes. ComesTo replayed replayed_so_far 0 bytes r.after.input.left r.before.out.written r.after.out.written (Err fault.Read))
+    → IfSome r.before.input.left (λ bytes. BrokeOff (Some command.Replay) r)
+broke-line r told = broke-told r r.before.input.left refl told
 
 -- and where memory is wanted a front of the answer was written
 pub wanting-front : (r : Run) → IfSome r.before.input.left (λ bytes. ComesTo replayed replayed_so_far 0 bytes r.after.input.left r.before.out.written r.after.out.written (Err fault.Memory))
@@ -117,3 +136,20 @@ pub denied-cause : (stack : StackId) (r : Run) (condition line : ℕ) → IfSome
     → HasCause (Some (command.Check stack)) r (complaint.Condition condition line)
 denied-cause stack r condition line told =
     (refl, if-told r.before.input.left (λ bytes t. record { status = ap (λ v. (answer_to_claim v).status) t.1; line = ap (λ v. (answer_to_claim v).err) t.1 }) told)
+
+-- a claim that broke off
+claim-told : (stack : StackId) (r : Run) (left : Option (List ℕ)) → r.before.input.left ≡ left → r.after.out.written ≡ r.before.out.written
+    → IfSome left (λ bytes. checks.ComesTo (checked stack) (refused_so_far stack) bytes r.after.input.left (Err claim.Read)) → IfSome left (λ bytes. BrokeOff (Some (command.Check stack)) r)
+claim-told stack r None same unwritten told = tt
+claim-told stack r (Some bytes) same unwritten told = record {
+  given = told.0;
+  gave = subst (λ left. Gave left r.after.input.left told.0) (sym same) (told.1.rest', told.1.whole, told.1.left_is);
+  short = told.1.short;
+  taken = told.2;
+  out = gained-none r.before.out.written r.after.out.written unwritten;
+}
+
+pub claim-broke : (stack : StackId) (r : Run) → r.after.out.written ≡ r.before.out.written
+    → IfSome r.before.input.left (λ bytes. checks.ComesTo (checked stack) (refused_so_far stack) bytes r.after.input.left (Err claim.Read))
+    → IfSome r.before.input.left (λ bytes. BrokeOff (Some (command.Check stack)) r)
+claim-broke stack r unwritten told = claim-told stack r r.before.input.left refl unwritten told

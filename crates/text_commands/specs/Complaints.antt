@@ -1,13 +1,13 @@
 -- What a run says on its error stream, and when it may say so.
-use Rattle.std.specs.Prelude.{◌≡◌, ℕ, List, IsTrue, None, Option}
+use Rattle.std.specs.Prelude.{◌≡◌, ◌⊎◌, ℕ, Bool, true, false, List, IfSome, IsTrue, None, Option}
 use Rattle.outside.specs.Counting.{Rose}
 use Rattle.outside.specs.Wholes.{GainedFront}
 use Rattle.schedule_text.specs.Printing.{refusal_line}
 use Rattle.command_line.specs.declared.command.Command.{Command}
 use Rattle.text_commands.specs.Answers.{Answer, condition_line, is_check, reads, usage_line}
-use Rattle.text_commands.specs.Runs.{IfAnswered}
+use Rattle.text_commands.specs.Runs.{BrokeOff, IfAnswered}
 use Rattle.run_streams.specs.Lines.{memory_line, read_failed_line}
-use Rattle.run_streams.specs.Saying.{Tells}
+use Rattle.run_streams.specs.Saying.{Said}
 use Rattle.run_streams.specs.Seen.{Run, SinkSeen}
 use Rattle.text_commands.specs.declared.complaint.Complaint.{Complaint}
 use Rattle.text_commands.specs.declared.complaint.Complaint.TheVariants as complaint
@@ -33,28 +33,43 @@ pub record Complains (c : Complaint) (answer : Answer) : Type 0 where
   pub line : answer.err ≡ line_of c
 
 -- a run of a command has cause for a complaint: a false condition and a refused line where the answer to its input complains so,
--- refused words where they name no command, a failed read where a read failed. Want of memory needs none
+-- refused words where they name no command, a failed read where a read failed and the input broke off there. Want of memory needs none
 abbrev pub HasCause : Option Command → Run → Complaint → Type 0
 HasCause command r (complaint.Condition condition line) = IsTrue (is_check command) × IfAnswered command r (Complains (complaint.Condition condition line))
 HasCause command r complaint.Words = command ≡ None
 HasCause command r (complaint.Line line why) = IsTrue (reads command) × IfAnswered command r (Complains (complaint.Line line why))
-HasCause command r complaint.Read = IsTrue (reads command) × Rose r.before.input.faults r.after.input.faults
+HasCause command r complaint.Read = IsTrue (reads command) × Rose r.before.input.faults r.after.input.faults × IfSome r.before.input.left (λ bytes. BrokeOff command r)
 HasCause command r complaint.Memory = Unit {0}
 
--- a run of a command may end with this status and this line on the error stream
-pub record MaySay (command : Option Command) (r : Run) (status : ℕ) (line : List ℕ) : Type 0 where
+-- a complaint hides no other fault: a read failed only where that is the complaint, no write of the output failed, and one wanted
+-- memory only where that is the complaint
+pub record HidesNothing (c : Complaint) (r : Run) : Type 0 where
+  pub reads : (r.after.input.faults ≡ r.before.input.faults) ⊎ (c ≡ complaint.Read)
+  pub writes : r.after.out.faults ≡ r.before.out.faults
+  pub wants : (r.after.out.wants ≡ r.before.out.wants) ⊎ (c ≡ complaint.Memory)
+
+-- a run of a command may say this line on the error stream
+pub record MaySay (command : Option Command) (r : Run) (line : List ℕ) : Type 0 where
   pub saying : Complaint
   pub cause : HasCause command r saying
-  pub status_is : status ≡ status_of saying
+  pub hides : HidesNothing saying r
   pub line_is : line ≡ line_of saying
 
 -- a front of such a line was written
 pub record WasSaying (command : Option Command) (r : Run) : Type 0 where
-  pub status : ℕ
   pub line : List ℕ
-  pub may : MaySay command r status line
+  pub may : MaySay command r line
   pub front : GainedFront r.before.err.written r.after.err.written line
 
--- what telling a complaint comes to
+-- whether the line of a complaint is made, which takes memory. The others stand in the program
+abbrev pub is_made : Complaint → Bool
+is_made (complaint.Condition condition line) = true
+is_made complaint.Words = false
+is_made (complaint.Line line why) = true
+is_made complaint.Read = false
+is_made complaint.Memory = false
+
+-- what telling a complaint comes to: its line is said; or, where the line could not be made, that memory is wanted
 abbrev pub Told : Complaint → SinkSeen → SinkSeen → ℕ → Type 0
-Told c before after result = Tells (status_of c) (line_of c) before after result
+Told c before after result =
+    Said (status_of c) (line_of c) before after result ⊎ (IsTrue (is_made c) × Said 8 memory_line before after result)

@@ -24,11 +24,18 @@ read_failed r = record r { after = record r.after { input = record r.after.input
 abbrev pub out_failed : Run → Run
 out_failed r = record r { after = record r.after { out = record r.after.out { faults = 1 } } }
 
+abbrev pub out_wanted : Run → Run
+out_wanted r = record r { after = record r.after { out = record r.after.out { wants = 1 } } }
+
 abbrev pub err_failed : Run → Run
 err_failed r = record r { after = record r.after { err = record r.after.err { faults = 1 } } }
 
 abbrev pub err_wanted : Run → Run
 err_wanted r = record r { after = record r.after { err = record r.after.err { wants = 1 } } }
+
+-- the run in which what came after came before
+abbrev pub backwards : Run → Run
+backwards r = record { before = r.after; after = r.before }
 
 -- a schedule of one step, and its text
 abbrev pub one_tick : MadeSchedule

@@ -1,7 +1,9 @@
 -- What is said of a run by the answer without faults.
-use Rattle.std.specs.Prelude.{◌≡◌, ◌⊎◌, ℕ, List, [], ◌++◌, Option, Some, None, IfSome}
+use Rattle.std.specs.Prelude.{◌≡◌, ◌⊎◌, ℕ, ◌≤◌, List, [], ◌++◌, length, Option, Some, None, IfSome}
 use Rattle.std.specs.Bool.{OnTrue}
 use Rattle.outside.specs.Counting.{Rose}
+use Rattle.outside.specs.Wholes.{Gained, Gave}
+use Rattle.line_reader.specs.Lines.{split_lines}
 use Rattle.command_line.specs.declared.command.Command.{Command}
 use Rattle.command_line.specs.declared.command.Command.TheVariants as command
 use Rattle.command_line.specs.declared.command.MadeSchedule.{MadeSchedule}
@@ -9,7 +11,7 @@ use Rattle.made_schedules.specs.MadeTexts.{made_counts, made_text}
 use Rattle.schedule_replay.specs.Explained.{IsReplay}
 use Rattle.schedule_replay.specs.Replays.{replayed}
 use Rattle.stacks.specs.Checks.{IsNotPermitted, IsPermitted}
-use Rattle.text_commands.specs.Answers.{Answer, answer_by, input_of, reads}
+use Rattle.text_commands.specs.Answers.{Answer, answer_by, input_of, reads, so_far_by}
 use Rattle.run_streams.specs.Seen.{Run}
 
 -- what is said of the answer, where it is known: of a command that reads, where its input is told; of any other always
@@ -24,6 +26,15 @@ IsComplete command r result = IfAnswered command r (λ answer. ¬ Rose r.before.
 -- a command that reads has read its input to its end
 abbrev pub IsReadToEnd : Option Command → Run → Type 0
 IsReadToEnd command r = OnTrue (reads command) (IfSome r.before.input.left (λ bytes. r.after.input.left ≡ Some []))
+
+-- of an input that broke off these bytes were given: none of their whole lines is refused, what comes after the last of these is
+-- not too long yet, and the output gained exactly what the command writes for them
+pub record BrokeOff (command : Option Command) (r : Run) : Type 0 where
+  pub given : List ℕ
+  pub gave : Gave r.before.input.left r.after.input.left given
+  pub short : length (split_lines given).1 ≤ 4096
+  pub taken : (so_far_by command given).refused ≡ None
+  pub out : Gained r.before.out.written r.after.out.written (so_far_by command given).out
 
 -- out gained a replay of these bytes: they read as a header and steps that the network allows, and the text is that of their trace
 -- and of an image that explains it

@@ -1,18 +1,18 @@
 -- What each status of the program says of a run: one record for each. Told contents are optional; what is said of them holds where
 -- they are told. What a check leaves on the output is said whatever its input tells (`verdict`).
-use Rattle.std.specs.Prelude.{◌≡◌, ◌⊎◌, ℕ, ◌+◌, ◌≤◌, false, List, length, IsTrue, Option, None, IfSome}
+use Rattle.std.specs.Prelude.{◌≡◌, ◌⊎◌, ℕ, ◌+◌, ◌≤◌, false, List, length, IsTrue, Option, IfSome}
 use Rattle.std.specs.Bool.{OnTrue}
 use Rattle.outside.specs.Counting.{Rose}
 use Rattle.outside.specs.Wholes.{Gained, GainedFront, Gave}
 use Rattle.line_reader.specs.declared.why.Why.{Why}
-use Rattle.line_reader.specs.Lines.{decided, split_lines}
+use Rattle.line_reader.specs.Lines.{decided}
 use Rattle.schedule_text.specs.Printing.{refusal_line}
 use Rattle.command_line.specs.CommandSet.{takes_words}
 use Rattle.command_line.specs.declared.command.Command.{Command}
 use Rattle.run_streams.specs.Lines.{memory_line, read_failed_line}
-use Rattle.text_commands.specs.Answers.{condition_line, is_check, permitted_line, reads, so_far_by, usage_line}
+use Rattle.text_commands.specs.Answers.{condition_line, is_check, permitted_line, reads, usage_line}
 use Rattle.text_commands.specs.Complaints.{WasSaying}
-use Rattle.text_commands.specs.Runs.{IfAnswered, IsExplained, IsReadToEnd, IsRefuted}
+use Rattle.text_commands.specs.Runs.{BrokeOff, IfAnswered, IsExplained, IsReadToEnd, IsRefuted}
 use Rattle.run_streams.specs.Seen.{IsQuiet, Run, WritesQuietly}
 
 -- a status of a command over texts
@@ -64,15 +64,6 @@ pub record IsLineRefused (command : Option Command) (r : Run) : Type 0 where
   pub err : Gained r.before.err.written r.after.err.written (refusal_line line why)
   pub quiet : IsQuiet r
 
--- of an input that broke off these bytes were given: none of their whole lines is refused, what comes after the last of these is
--- not too long yet, and the output gained exactly what the command writes for them
-pub record BrokeOff (command : Option Command) (r : Run) : Type 0 where
-  pub given : List ℕ
-  pub gave : Gave r.before.input.left r.after.input.left given
-  pub short : length (split_lines given).1 ≤ 4096
-  pub taken : (so_far_by command given).refused ≡ None
-  pub out : Gained r.before.out.written r.after.out.written (so_far_by command given).out
-
 -- 4: a read failed, and the error stream gained the line that says so
 pub record HasReadFailed (command : Option Command) (r : Run) : Type 0 where
   pub reading : IsTrue (reads command)
@@ -87,13 +78,33 @@ pub record WroteFront (command : Option Command) (r : Run) : Type 0 where
   pub out : IfAnswered command r (λ answer. GainedFront r.before.out.written r.after.out.written answer.out)
   pub verdict : OnTrue (is_check command) (GainedFront r.before.out.written r.after.out.written permitted_line)
 
--- 5: a write failed: one of the output, and the error stream is as it was; or one of the error stream, while it gained a line that
--- the run may say
+-- a write of the output failed, and no other call: the error stream is as it was
+pub record HasOutFailed (r : Run) : Type 0 where
+  pub rose : Rose r.before.out.faults r.after.out.faults
+  pub wants : r.after.out.wants ≡ r.before.out.wants
+  pub reads : r.after.input.faults ≡ r.before.input.faults
+  pub err : r.after.err ≡ r.before.err
+
+-- a write of the error stream failed, and none wanted memory, while it gained a line that the run may say
+pub record HasErrFailed (command : Option Command) (r : Run) : Type 0 where
+  pub rose : Rose r.before.err.faults r.after.err.faults
+  pub wants : r.after.err.wants ≡ r.before.err.wants
+  pub saying : WasSaying command r
+
+-- 5: a write failed: one of the output, or one of the error stream
 pub record HasWriteFailed (command : Option Command) (r : Run) : Type 0 where
   pub front : WroteFront command r
-  pub err : (Rose r.before.out.faults r.after.out.faults × (r.after.err ≡ r.before.err)) ⊎ (Rose r.before.err.faults r.after.err.faults × WasSaying command r)
+  pub failed : HasOutFailed r ⊎ HasErrFailed command r
 
--- 8: want of memory. The error stream gained its line; or it wanted memory itself, while it gained a line that the run may say
+-- the error stream gained the line of want of memory, and no read failed
+pub record HasSaidMemory (r : Run) : Type 0 where
+  pub err : Gained r.before.err.written r.after.err.written memory_line
+  pub reads : r.after.input.faults ≡ r.before.input.faults
+
+-- 8: want of memory, and no write failed. The error stream gained its line; or it wanted memory itself, while it gained a line that
+-- the run may say
 pub record IsOutOfMemory (command : Option Command) (r : Run) : Type 0 where
   pub front : WroteFront command r
-  pub err : Gained r.before.err.written r.after.err.written memory_line ⊎ (Rose r.before.err.wants r.after.err.wants × WasSaying command r)
+  pub writes : r.after.out.faults ≡ r.before.out.faults
+  pub complains : r.after.err.faults ≡ r.before.err.faults
+  pub wanted : HasSaidMemory r ⊎ (Rose r.before.err.wants r.after.err.wants × WasSaying command r)

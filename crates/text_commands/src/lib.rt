@@ -16,5 +16,5 @@ pub use commands::run_command;
 pub use complaint::Complaint;
 pub use examples::{worked, worked_breaks};
 pub use make_examples::{worked_make_statuses, worked_making};
-pub use status_examples::{worked_complaints, worked_statuses};
+pub use status_examples::{worked_complaints, worked_counts, worked_statuses, worked_tellings};
 pub use telling::tell;

@@ -1,11 +1,12 @@
 ghost use Rattle.std.specs.Prelude.{◌≡◌, [], None, Some, codes};
 ghost use Rattle.command_line.specs.declared.command.Command.TheVariants as command;
 ghost use Rattle.run_streams.specs.Lines.{memory_line, read_failed_line};
-ghost use Rattle.text_commands.specs.Answers.{answer_by, counts_text, so_far_by, usage_line};
-ghost use Rattle.text_commands.specs.Complaints.{MaySay};
+ghost use Rattle.text_commands.specs.Answers.{answer_by, counts_text, so_far_by};
+ghost use Rattle.text_commands.specs.Complaints.{HasCause, MaySay};
 ghost use Rattle.text_commands.specs.Examples.{one_tick, one_tick_text, out_failed, quiet_run, read_failed};
 ghost use Rattle.text_commands.specs.Statuses.{HasReadFailed, HasWriteFailed, IsDenied, IsDone, IsLineRefused, IsOutOfMemory};
 
+use crate::Complaint;
 use made_schedules::made_schedules_are_replayed;
 
 /// What the two commands that read nothing write.
@@ -29,9 +30,10 @@ pub fn worked_make_statuses()
     ensures memory_in_silence { IsOutOfMemory (Some (command.Make one_tick)) (quiet_run [] [] (codes "sch") []) → ⊥ }
     ensures no_read { HasReadFailed (Some (command.Make one_tick)) (read_failed (quiet_run [] [] [] read_failed_line)) → ⊥ }
     ensures no_line { IsLineRefused (Some (command.Make one_tick)) (quiet_run [] [] [] (codes "line 1: header\n")) → ⊥ }
-    ensures says_memory { MaySay (Some (command.Make one_tick)) (quiet_run [] [] [] []) 8 memory_line }
-    ensures says_no_usage { MaySay (Some (command.Make one_tick)) (quiet_run [] [] [] []) 2 usage_line → ⊥ }
-    ensures says_no_read { MaySay (Some (command.Summarize one_tick)) (read_failed (quiet_run [] [] [] [])) 4 read_failed_line → ⊥ }
+    ensures says_memory { MaySay (Some (command.Make one_tick)) (quiet_run [] [] [] []) memory_line }
+    ensures says_no_usage { HasCause (Some (command.Make one_tick)) (quiet_run [] [] [] []) Complaint.Words → ⊥ }
+    ensures says_no_read { HasCause (Some (command.Summarize one_tick)) (read_failed (quiet_run [] [] [] [])) Complaint.Read → ⊥ }
+    ensures memory_for_a_failed_write { IsOutOfMemory (Some (command.Make one_tick)) (out_failed (quiet_run [] [] (codes "sch") memory_line)) → ⊥ }
     ensures no_condition { IsDenied (Some (command.Summarize one_tick)) (quiet_run [] [] [] (codes "condition 5 line 1\n")) → ⊥ }
 {
     made_schedules_are_replayed();

@@ -1,1 +1,2 @@
+pub mod Headlines
 pub mod Untaken

@@ -19,9 +19,9 @@ module _ (asked : Option Asked) (r : NodeRun) where
   abbrev pub IsComplete : ℕ → Type 0
   IsComplete result = By asked (λ command. text_answers.IsComplete command r.streams result) (λ w. node_answers.IsComplete w r result)
 
-  -- what the device was used for, whatever the status is: for nothing, or for a node's run
+  -- what a node's run came to, whatever the status is
   abbrev pub HasRun : Type 0
-  HasRun = By asked (λ command. r.after ≡ r.before) (λ w. node.HasCome w r)
+  HasRun = By asked (λ command. Unit {0}) (λ w. node.HasCome w r)
 
   -- 0
   abbrev pub IsDone : Type 0

@@ -1,9 +1,12 @@
-ghost use Rattle.std.specs.Prelude.{◌≡◌, ℕ, None, map, string_bytes};
+ghost use Rattle.std.specs.Prelude.{◌≡◌, ℕ, IfSome, None, Some, map, string_bytes};
 ghost use Rattle.std.specs.Bool.{OnFalse};
-ghost use Rattle.node_command.specs.Seen.{node_ran};
-ghost use Rattle.run_streams.specs.Seen.{KeepsCounts, ran};
+ghost use Rattle.command_line.specs.declared.asked.Asked.TheVariants.{Texts};
+ghost use Rattle.command_line.specs.declared.command.Command.TheVariants as command;
+ghost use Rattle.node_command.specs.Seen.{KeepsAllCounts, node_ran};
+ghost use Rattle.run_streams.specs.Seen.{ran};
 ghost use Rattle.text_commands.specs.Answers.{reads};
 ghost use Rattle.text_commands.specs.Statuses.{AreWordsRefused};
+ghost use Rattle.top_call.specs.Headline.{GainedHeadline};
 ghost use Rattle.top_call.specs.Requests.{By, asked};
 ghost use Rattle.top_call.specs.Statuses.{AreAreasRefused, HasListeningFailed, HasReadFailed, HasRun, HasStoreFailed, HasWriteFailed};
 ghost use Rattle.top_call.specs.Statuses.{IsComplete, IsDenied, IsDone, IsInputRefused, IsOutOfMemory, IsStatus};
@@ -33,6 +36,8 @@ pub fn run<S: Source, O: Sink, E: Sink, D: Device>(
         D.Device device.old device.new) result }
     ensures ran { HasRun (asked words.now) (node_ran (ran S.Source O.Sink E.Sink input.old input.new out.old out.new err.old err.new)
         D.Device device.old device.new) }
+    ensures headline { asked words.now ≡ Some (Texts command.Replay) → result ≡ 0
+        → IfSome (S.left input.old) (GainedHeadline (O.written out.old) (O.written out.new)) }
     ensures done { result ≡ 0 → IsDone (asked words.now) (node_ran
         (ran S.Source O.Sink E.Sink input.old input.new out.old out.new err.old err.new)
         D.Device device.old device.new) }
@@ -64,7 +69,8 @@ pub fn run<S: Source, O: Sink, E: Sink, D: Device>(
         D.Device device.old device.new) }
     ensures unread { By (asked words.now) (λ command. OnFalse (reads command) (input.new ≡ input.old)) (λ w. Unit {0}) }
     ensures unwritten { asked words.now ≡ None → out.new ≡ out.old }
-    ensures counts { KeepsCounts (ran S.Source O.Sink E.Sink input.old input.new out.old out.new err.old err.new) }
+    ensures counts { KeepsAllCounts (node_ran (ran S.Source O.Sink E.Sink input.old input.new out.old out.new err.old err.new)
+        D.Device device.old device.new) }
     ensures device { By (asked words.now) (λ command. device.new ≡ device.old) (λ w. Unit {0}) }
 {
     match read_words(alloc, words) {

@@ -2,5 +2,7 @@
 #![tactic(auto)]
 
 mod answers;
+mod examples;
 
 pub use answers::run;
+pub use examples::{worked_headlines, worked_nodes, worked_requests, worked_texts};

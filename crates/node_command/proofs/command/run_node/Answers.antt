@@ -1,4 +1,5 @@
 use Rattle.node_command.proofs.Completing.{is_complete}
+use Rattle.node_command.proofs.Counting.{keeps_all}
 use Rattle.node_command.proofs.Ending.{has_come, has_done, has_refused, has_status, has_unheard, has_unread, has_unstored, has_unwritten, has_wanting, have_refused}
 use Rattle.node_command.proofs.command.run_node.Goals as goal
 
@@ -34,3 +35,6 @@ returns-clause-memory g c = has_wanting c.args.words.now _ c.run_and_tell.result
 
 pub returns-clause-areas : goal.returns-clause-areas
 returns-clause-areas g c = have_refused c.args.words.now _ c.run_and_tell.result c.run_and_tell.ensures.ends
+
+pub returns-clause-counts : goal.returns-clause-counts
+returns-clause-counts g c = keeps_all c.args.words.now _ c.run_and_tell.result c.run_and_tell.ensures.ends c.run_and_tell.ensures.counts

@@ -1,41 +1,19 @@
-use Rattle.std.proofs.Common.{◌≡◌, ◌∙◌, ℕ, Err, Result, ap, refl, sym, arith}
+use Rattle.std.specs.List.{slice_get}
+use Rattle.std.proofs.Common.{◌≡◌, ◌∙◌, ◌+◌, ℕ, List, [], ◌∷◌, Option, None, Some, Ok, Err, Result, ap, refl, sym, arith}
+use Rattle.disk.specs.Acts.{Act, BeginFailed}
+use Rattle.outside.specs.declared.device.Address.{Address}
+use Rattle.node_config.specs.Examples.{local, sample_with}
+use Rattle.node_config.specs.Outcomes.{Fits}
+use Rattle.node_device.specs.Telling.{Told}
 use Rattle.node_config.specs.declared.config.Config.{Config}
 use Rattle.node_config.specs.declared.key.ConfigKey.{ConfigKey}
 use Rattle.node_config.specs.declared.key.ConfigKey.TheVariants as key
-use Rattle.node_config.specs.Outcomes.{Fits}
-use Rattle.node_datagrams.specs.Saying.{SendsOnly}
-use Rattle.node_device.specs.Faults.{Faults}
+use Rattle.node_config.specs.declared.limits.TheConstants.{MAX_CONFIG}
 use Rattle.node_device.specs.Examples.{counts, node_at, untold}
-use Rattle.node_command.specs.Coming.{IsConfigured, IsServed}
-use Rattle.node_command.specs.Examples.{alone, device, source, words}
+use Rattle.node_command.specs.Examples.{alone, device}
 use Rattle.node_command.specs.Seen.{DeviceSeen}
+use Rattle.node_command.proofs.Silent.{configured, one_more, served}
 use Rattle.node_command.proofs.examples.worked_comings.Goals as goal
-
-fits : Fits 0 alone
-fits = record {
-  stack = refl;
-  me_is = refl;
-  within = omega arith;
-  peers = omega arith;
-  clients = omega arith;
-  ports = refl;
-  distinct = refl;
-  heartbeat = (omega arith, omega arith);
-  election = (omega arith, omega arith);
-}
-
-configured : (before after : Faults) → IsConfigured words (source 0) (source 0) (device untold before) (device untold after) alone (node_at 7000)
-configured before after = record { read = record { fits = fits; says = tt; ended = tt; quiet = refl }; at_is = refl }
-
-served : (before after : Faults) → SendsOnly before after → IsServed words (source 0) (source 0) (device untold before) (device untold after)
-served before after counts = record {
-  config = alone;
-  at = node_at 7000;
-  configured_so = configured before after;
-  areas = tt;
-  turns = refl;
-  counts = counts;
-}
 
 pub returns-clause-served : goal.returns-clause-served
 returns-clause-served c = served _ _ (record { begin = refl; receive = refl; store = refl; send = omega arith })
@@ -86,7 +64,7 @@ touched : device untold (counts 2 1) ≡ device untold (counts 1 1) → ⊥
 touched stays = let e : ◌≡◌ {A = ℕ} 2 1 = ap (λ (d : DeviceSeen). d.faults.receive) stays in omega (arith, e)
 
 pub returns-clause-refused : goal.returns-clause-refused
-returns-clause-refused c = record { says = c.worked_texts.ensures.no_text; quiet = refl; device_stays = refl }
+returns-clause-refused c = record { says = c.worked_texts.ensures.no_text; given = refl; quiet = refl; device_stays = refl }
 
 pub returns-clause-not_refused_for_another_key : goal.returns-clause-not_refused_for_another_key
 returns-clause-not_refused_for_another_key c = λ h. let e : failed key.Stack ≡ failed key.Me = sym c.worked_texts.ensures.no_text ∙ h.says in cc
@@ -98,7 +76,7 @@ pub returns-clause-not_refused_where_a_receive_failed : goal.returns-clause-not_
 returns-clause-not_refused_where_a_receive_failed c = λ h. touched h.device_stays
 
 pub returns-clause-unread : goal.returns-clause-unread
-returns-clause-unread c = record { rose = omega arith; device_stays = refl }
+returns-clause-unread c = record { given = (0, omega arith, refl); rose = omega arith; device_stays = refl }
 
 pub returns-clause-not_unread_uncounted : goal.returns-clause-not_unread_uncounted
 returns-clause-not_unread_uncounted c = λ h. omega (arith, h.rose)
@@ -114,3 +92,67 @@ returns-clause-not_wanted_where_a_read_failed c = λ h. let e : ◌≡◌ {A = �
 
 pub returns-clause-not_wanted_where_a_receive_failed : goal.returns-clause-not_wanted_where_a_receive_failed
 returns-clause-not_wanted_where_a_receive_failed c = λ h. touched h.device_stays
+
+pub returns-clause-not_refused_where_more_was_read : goal.returns-clause-not_refused_where_more_was_read
+returns-clause-not_refused_where_more_was_read c = λ h. one_more (MAX_CONFIG + 1) h.given
+
+sample_fits : Fits 0 (sample_with 0 [])
+sample_fits = record {
+  stack = refl;
+  me_is = refl;
+  within = omega arith;
+  peers = omega arith;
+  clients = omega arith;
+  ports = refl;
+  distinct = refl;
+  heartbeat = (omega arith, omega arith);
+  election = (omega arith, omega arith);
+}
+
+pub returns-clause-unbegun_where_it_is_configured : goal.returns-clause-unbegun_where_it_is_configured
+returns-clause-unbegun_where_it_is_configured c = record {
+  config = sample_with 0 [];
+  at = local 7000;
+  configured_so = record { read = record { fits = sample_fits; says = c.worked_texts.ensures.whole; ended = refl; quiet = refl }; at_is = refl };
+  told = refl;
+  counts = (omega arith, refl);
+}
+
+-- the port and the first byte of the directory of the first act, where a beginning failed
+abbrev port_in : List Act → ℕ
+port_in [] = 0
+port_in (BeginFailed at dir ∷ acts) = at.port
+port_in (act ∷ acts) = 0
+
+abbrev byte_in : List Act → ℕ
+byte_in [] = 0
+byte_in (BeginFailed at [] ∷ acts) = 0
+byte_in (BeginFailed at (b ∷ dir) ∷ acts) = b
+byte_in (act ∷ acts) = 0
+
+abbrev acts_in : Option Told → List Act
+acts_in None = []
+acts_in (Some told) = told.acts
+
+abbrev port_of : Option Address → ℕ
+port_of None = 0
+port_of (Some at) = at.port
+
+abbrev own_port : Result Config ConfigKey → ℕ
+own_port (Ok config) = port_of (slice_get config.peers config.me)
+own_port (Err key) = 0
+
+pub returns-clause-not_unbegun_at_another_address : goal.returns-clause-not_unbegun_at_another_address
+returns-clause-not_unbegun_at_another_address c = λ h.
+    let did : ◌≡◌ {A = ℕ} 7001 h.at.port = ap (λ t. port_in (acts_in t)) h.told in
+    let own : ◌≡◌ {A = ℕ} (port_of (slice_get h.config.peers h.config.me)) 7000 = ap own_port (sym h.configured_so.read.says ∙ c.worked_texts.ensures.whole) in
+    let at : ◌≡◌ {A = ℕ} (port_of (slice_get h.config.peers h.config.me)) h.at.port = ap port_of h.configured_so.at_is in
+    omega (arith, did, own, at)
+
+pub returns-clause-not_unbegun_in_another_directory : goal.returns-clause-not_unbegun_in_another_directory
+returns-clause-not_unbegun_in_another_directory c = λ h.
+    let did : ◌≡◌ {A = ℕ} 101 100 = ap (λ t. byte_in (acts_in t)) h.told in omega (arith, did)
+
+pub returns-clause-not_unbegun_in_silence : goal.returns-clause-not_unbegun_in_silence
+returns-clause-not_unbegun_in_silence c = λ h.
+    let did : ◌≡◌ {A = ℕ} 0 100 = ap (λ t. byte_in (acts_in t)) h.told in omega (arith, did)

@@ -4,6 +4,7 @@ use Rattle.std.specs.Prelude.{get_or, length, take}
 use Rattle.std.specs.Fmt.{digits}
 use Rattle.text_commands.specs.Examples.{one_tick, one_tick_text}
 use Rattle.run_streams.specs.Seen.{CountsNothing}
+use Rattle.text_commands.specs.declared.complaint.Complaint.TheVariants as complaint
 use Rattle.text_commands.proofs.make_examples.worked_make_statuses.Goals as goal
 
 -- a sink without counts
@@ -43,7 +44,10 @@ returns-clause-summarized_as_a_text c = λ h. let e : 115 ≡ 101 = ap written_f
 
 pub returns-clause-write : goal.returns-clause-write
 unfolding digits
-returns-clause-write c = record { front = record { out = (3, refl); verdict = tt }; err = inl (lit≤ tt, refl) }
+returns-clause-write c = record {
+  front = record { out = (3, refl); verdict = tt };
+  failed = inl (record { rose = lit≤ tt; wants = refl; reads = refl; err = refl });
+}
 
 another : (n : ℕ) → Some (codes "tick") ≡ Some (take n one_tick_text) → ⊥
 another zero e = let d : 4 ≡ 0 = ap written_length e in omega (arith, d)
@@ -55,4 +59,13 @@ returns-clause-write_of_another_text c = λ h. another h.front.out.0 h.front.out
 
 pub returns-clause-memory : goal.returns-clause-memory
 unfolding digits
-returns-clause-memory c = record { front = record { out = (3, refl); verdict = tt }; err = inl refl }
+returns-clause-memory c = record {
+  front = record { out = (3, refl); verdict = tt };
+  writes = refl;
+  complains = refl;
+  wanted = inl (record { err = refl; reads = refl });
+}
+
+pub returns-clause-says_memory : goal.returns-clause-says_memory
+returns-clause-says_memory c =
+    record { saying = complaint.Memory; cause = tt; hides = record { reads = inl refl; writes = refl; wants = inl refl }; line_is = refl }

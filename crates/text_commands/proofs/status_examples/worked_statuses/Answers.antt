@@ -4,7 +4,7 @@ use Rattle.std.specs.Fmt.{digits}
 use Rattle.line_reader.specs.declared.why.Why.TheVariants as why
 use Rattle.vst_base.specs.declared.stack.StackId.TheVariants as stack
 use Rattle.schedule_replay.specs.Replays.{replayed}
-use Rattle.run_streams.specs.Lines.{memory_line}
+use Rattle.run_streams.specs.Lines.{memory_line, read_failed_line}
 use Rattle.run_streams.specs.Seen.{CountsNothing}
 use Rattle.text_commands.specs.declared.complaint.Complaint.TheVariants as complaint
 use Rattle.command_line.proofs.OnLiterals.{words_on_literals}
@@ -98,38 +98,74 @@ returns-clause-read c = record {
 
 pub returns-clause-write : goal.returns-clause-write
 unfolding digits
-returns-clause-write c = record { front = record { out = (3, refl); verdict = (3, refl) }; err = inl (lit≤ tt, refl) }
+returns-clause-write c = record {
+  front = record { out = (3, refl); verdict = (3, refl) };
+  failed = inl (record { rose = lit≤ tt; wants = refl; reads = refl; err = refl });
+}
 
 pub returns-clause-write_of_a_line : goal.returns-clause-write_of_a_line
 unfolding digits
 returns-clause-write_of_a_line c = record {
   front = record { out = (0, refl); verdict = tt };
-  err = inr (
-    lit≤ tt,
-    record {
-      status = 3;
+  failed = inr (record {
+    rose = lit≤ tt;
+    wants = refl;
+    saying = record {
       line = codes "line 2: no copy\n";
-      may = record { saying = complaint.Line 2 why.NoCopy; cause = (refl, record { status = refl; line = refl }); status_is = refl; line_is = refl };
+      may = record {
+        saying = complaint.Line 2 why.NoCopy;
+        cause = (refl, record { status = refl; line = refl });
+        hides = record { reads = inl refl; writes = refl; wants = inl refl };
+        line_is = refl;
+      };
       front = (4, refl);
-    },
-  );
+    };
+  });
 }
 
 pub returns-clause-memory : goal.returns-clause-memory
 unfolding digits
-returns-clause-memory c = record { front = record { out = (3, refl); verdict = tt }; err = inl refl }
+returns-clause-memory c = record {
+  front = record { out = (3, refl); verdict = tt };
+  writes = refl;
+  complains = refl;
+  wanted = inl (record { err = refl; reads = refl });
+}
 
 pub returns-clause-memory_of_the_error_stream : goal.returns-clause-memory_of_the_error_stream
 unfolding digits
 returns-clause-memory_of_the_error_stream c = record {
   front = record { out = (0, refl); verdict = tt };
-  err = inr (
+  writes = refl;
+  complains = refl;
+  wanted = inr (
     lit≤ tt,
     record {
-      status = 8;
       line = memory_line;
-      may = record { saying = complaint.Memory; cause = tt; status_is = refl; line_is = refl };
+      may = record { saying = complaint.Memory; cause = tt; hides = record { reads = inl refl; writes = refl; wants = inl refl }; line_is = refl };
       front = (3, refl);
+    },
+  );
+}
+
+-- a read failed at the end of this input
+pub returns-clause-memory_while_it_said_read : goal.returns-clause-memory_while_it_said_read
+unfolding digits
+returns-clause-memory_while_it_said_read c = record {
+  front = record { out = (0, refl); verdict = tt };
+  writes = refl;
+  complains = refl;
+  wanted = inr (
+    lit≤ tt,
+    record {
+      line = read_failed_line;
+      may = record {
+        saying = complaint.Read;
+        cause = (refl, lit≤ tt, record { given = codes "schedule 1 bag lock 2\n"; gave = ([], refl, refl); short = lit≤ tt; taken = refl; out = refl });
+        hides = record { reads = inr refl; writes = refl; wants = inl refl };
+        line_is = refl;
+      };
+      front = (2, refl);
     },
   );
 }
