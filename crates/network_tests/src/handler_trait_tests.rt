@@ -1,11 +1,15 @@
 ghost use Rattle.std.specs.Prelude.{◌≡◌, ◌+◌, ◌<◌, ◌≤◌, IfOk, OnOk};
 ghost use Rattle.handler_trait.specs.declared.handlers.TheConstants.{STEP_COST, SPENT_MAX};
 
-use crate::events::are;
 use handler_trait::{Echo, Effects, Handlers, MAX_SENDS, Rebootable};
 use std::alloc::{AllocError, Global};
 use std::test::Fail;
 use vst_base::Node;
+
+// Whether these are the effects, in order.
+fn are(effects: &Effects<u8, u8>, outputs: &[u8], sends: &[(Node, u8)]) -> bool {
+    effects.outputs() == outputs && effects.sends() == sends
+}
 
 // Adds what an input does at a node, where it takes any.
 fn add_input<H: Handlers>(

@@ -5,24 +5,14 @@
 #[cfg(test)]
 mod counts;
 #[cfg(test)]
-mod events;
-#[cfg(test)]
 mod handler_trait_tests;
-#[cfg(test)]
-mod lock_server_tests;
 #[cfg(test)]
 mod net_semantics_fail_tests;
 #[cfg(test)]
 mod net_semantics_tests;
 #[cfg(test)]
-mod primary_backup_tests;
-#[cfg(test)]
 mod seqnum_xform_tests;
 #[cfg(test)]
-mod single_node_tests;
-#[cfg(test)]
 mod trace_maps_tests;
-#[cfg(test)]
-mod xform_stack_machine_tests;
 #[cfg(test)]
 mod xform_stack_tests;

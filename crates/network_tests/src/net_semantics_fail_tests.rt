@@ -74,26 +74,3 @@ fn a_world_takes_steps_around_a_reboot(rt: HostRuntime) -> Result<(), Fail> {
     assert!(rt; once_forgotten(world) == (3, 0));
     Ok(())
 }
-
-// Whether one of these steps is refused for this.
-fn is_refused<H: Rebootable>(
-    alloc: Global,
-    handlers: H,
-    steps: &[Step<H::Input>],
-    why: StepRefusal,
-) -> bool
-    requires { length steps.now < MAX_STEPS }
-{
-    match after(alloc, handlers, steps) {
-        Ok(_) => false,
-        Err(told) => told == why,
-    }
-}
-
-#[test]
-fn a_stopped_node_cannot_stop_and_a_running_one_cannot_start(rt: HostRuntime) {
-    let twice = [Step::Crash(0), Step::Crash(0)];
-    assert!(rt; is_refused(rt.alloc(), Echo::new(3), &twice, StepRefusal::NodeDown));
-    let at_once = [Step::Reboot(0)];
-    assert!(rt; is_refused(rt.alloc(), Echo::new(3), &at_once, StepRefusal::NodeUp));
-}

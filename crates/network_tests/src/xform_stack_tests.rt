@@ -1,92 +1,11 @@
-ghost use Rattle.std.specs.Prelude.{◌+◌, ◌≤◌};
-ghost use Rattle.vst_base.specs.declared.step.TheConstants.{MAX_STEPS};
-
 use crate::counts::{Counts, tells};
 use lock_server::LockServer;
-use net_semantics::Trace;
 use std::test::Fail;
-use vst_base::{Item, LockInput, LockOutput, Net, Node, Step, StepRefusal};
-use xform_stack::{Itself, RunFault, Running, Runs, run_bag, run_dup};
-
-// Client 1 asked for the lock and got it.
-fn is_locked(trace: &Trace<LockInput, LockOutput>) -> bool {
-    let client = Node::new(1, 2).unwrap();
-    let seen = [
-        Item::Input(client, LockInput::Lock),
-        Item::Output(client, LockOutput::Locked),
-    ];
-    trace.items() == seen.as_slice()
-}
-
-// The steps that hand the lock over.
-fn hands_over(steps: &[Step<LockInput>]) -> bool {
-    let wanted = [
-        Step::In(1, LockInput::Lock),
-        Step::Deliver(0),
-        Step::Deliver(1),
-    ];
-    steps == wanted.as_slice()
-}
-
-// Client 1 got the lock, and nothing stands before that.
-fn is_only_told(trace: &Trace<LockInput, LockOutput>) -> bool {
-    let client = Node::new(1, 2).unwrap();
-    let seen = [Item::Output(client, LockOutput::Locked)];
-    trace.items() == seen.as_slice()
-}
-
-// Takes a step, clears what clients saw of it, and takes two more.
-fn forgets_the_first<R: Runs>(
-    running: &mut R,
-    first: &Step<R::Input>,
-    others: (&Step<R::Input>, &Step<R::Input>),
-) -> Result<(), RunFault>
-    requires sound { R.sound running.old }
-    requires few { (R.progress running.old).taken + 3 ≤ MAX_STEPS }
-{
-    running.step(first)?;
-    running.forget_trace();
-    running.step(others.0)?;
-    running.step(others.1)
-}
-
-#[test]
-fn a_forgotten_trace_begins_anew(rt: HostRuntime) -> Result<(), Fail> {
-    let server = LockServer::new(2);
-    let mut running = Running::<LockServer, Itself<LockInput>>::new(rt.alloc(), server, Net::Bag)?;
-    let others = (&Step::Deliver(0), &Step::Deliver(1));
-    forgets_the_first(&mut running, &Step::In(1, LockInput::Lock), others)?;
-    assert!(rt; is_only_told(running.trace()));
-    assert!(rt; hands_over(running.image()));
-    Ok(())
-}
-
-#[test]
-fn a_copy_of_a_numbered_packet_does_nothing(rt: HostRuntime) -> Result<(), Fail> {
-    let steps = [
-        Step::In(1, LockInput::Lock),
-        Step::Dup(0),
-        Step::Deliver(0),
-        Step::Deliver(1),
-        Step::Deliver(0),
-    ];
-    let ran = run_dup(rt.alloc(), LockServer::new(2), &steps)?;
-    assert!(rt; is_locked(&ran.trace));
-    assert!(rt; hands_over(ran.image.lines()));
-    Ok(())
-}
-
-#[test]
-fn the_image_has_the_same_trace_on_a_bag(rt: HostRuntime) -> Result<(), Fail> {
-    let steps = [
-        Step::In(1, LockInput::Lock),
-        Step::Deliver(0),
-        Step::Deliver(1),
-    ];
-    let ran = run_bag(rt.alloc(), LockServer::new(2), &steps)?;
-    assert!(rt; is_locked(&ran.trace));
-    Ok(())
-}
+use vst_base::{Counter, LockInput, Net, Node, Step, StepRefusal};
+use xform_stack::{
+    Itself, Ran, RunFault, Running, RunningCluster, run_backed, run_backed_dup, run_bag, run_dup,
+    run_one,
+};
 
 #[test]
 fn a_refused_step_is_named_with_its_place(rt: HostRuntime) {
@@ -95,6 +14,46 @@ fn a_refused_step_is_named_with_its_place(rt: HostRuntime) {
     assert!(rt; on_dup == Some(RunFault::Step(StepRefusal::NotThisNet, 2)));
     let on_bag = run_bag(rt.alloc(), LockServer::new(2), &steps).err();
     assert!(rt; on_bag == Some(RunFault::Step(StepRefusal::NotThisNet, 1)));
+}
+
+// How many items clients saw, and how many lines the image has.
+fn sizes<I: Drop, O: Drop, G: Drop>(ran: &Ran<I, O, G>) -> (usize, usize) {
+    (ran.trace.items().len(), ran.image.lines().len())
+}
+
+#[test]
+fn a_whole_run_has_its_trace_and_its_image(rt: HostRuntime) -> Result<(), Fail> {
+    let alloc = rt.alloc();
+    let handed_over = [
+        Step::In(1, LockInput::Lock),
+        Step::Deliver(0),
+        Step::Deliver(1),
+    ];
+    assert!(rt; sizes(&run_bag(alloc, LockServer::new(2), &handed_over)?) == (2, 3));
+    let copied = [
+        Step::In(1, LockInput::Lock),
+        Step::Dup(0),
+        Step::Deliver(0),
+        Step::Deliver(0),
+    ];
+    assert!(rt; sizes(&run_dup(alloc, LockServer::new(2), &copied)?) == (1, 2));
+    Ok(())
+}
+
+#[test]
+fn a_whole_run_of_a_machine_has_its_trace_and_its_image(rt: HostRuntime) -> Result<(), Fail> {
+    let alloc = rt.alloc();
+    let alone = [Step::In(0, 5), Step::In(0, 7)];
+    assert!(rt; sizes(&run_one(alloc, Counter, &alone)?) == (4, 2));
+    let answered = [
+        Step::In(0, 5),
+        Step::Deliver(0),
+        Step::Deliver(1),
+        Step::In(1, 4),
+    ];
+    assert!(rt; sizes(&run_backed(alloc, Counter, &answered)?) == (4, 1));
+    assert!(rt; sizes(&run_backed_dup(alloc, Counter, &answered)?) == (4, 1));
+    Ok(())
 }
 
 // What is told while client 1 is up.
@@ -122,5 +81,30 @@ fn the_packets_in_flight_are_counted(rt: HostRuntime) -> Result<(), Fail> {
         (Step::Deliver(0), told(2, [1, 1, 0], [asks, answer])),
     ];
     assert!(rt; tells(running, client, &steps)?);
+    Ok(())
+}
+
+// What is told after node 0 of three stood for election.
+fn told_of_three(copies: [u32; 3], is_up: bool) -> Counts {
+    Counts {
+        sent: 2,
+        copies,
+        ends: [Some((0, 1)), Some((0, 2))],
+        is_up,
+    }
+}
+
+// Node 0's first packet is there twice, the second is lost, and then node 1 is down.
+#[test]
+fn what_a_failing_network_holds_is_counted(rt: HostRuntime) -> Result<(), Fail> {
+    let running = RunningCluster::new(rt.alloc(), Counter, 3)?;
+    let node = Node::new(1, 3).unwrap();
+    let steps = [
+        (Step::Tick(0), told_of_three([1, 1, 0], true)),
+        (Step::Dup(0), told_of_three([2, 1, 0], true)),
+        (Step::Lose(1), told_of_three([2, 0, 0], true)),
+        (Step::Crash(1), told_of_three([2, 0, 0], false)),
+    ];
+    assert!(rt; tells(running, node, &steps)?);
     Ok(())
 }

@@ -1,13 +1,11 @@
-//! Tests of a node's whole run through the top call over memory, to the byte: what it sends, what its areas hold after it, what it writes and
-//! its status. They stand apart, as a crate that has tests is proved a second time with them.
+//! Tests of a node's whole run through the top call over memory that can't be cases of `vst_transcripts`: what the images open as that a crash
+//! may leave after each act, and random datagrams. They stand apart, as a crate that has tests is proved a second time with them.
 #![tactic(auto)]
 
 #[cfg(test)]
-mod answers;
-#[cfg(test)]
 mod bytes;
 #[cfg(test)]
-mod cluster;
+mod noise;
 #[cfg(test)]
 mod run;
 #[cfg(test)]

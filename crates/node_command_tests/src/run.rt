@@ -1,7 +1,7 @@
 use crate::bytes::KV;
-use node_device_mem::{Areas, Arrival, MemoryDevice, MemoryDisk, Past, PastAct};
+use node_device_mem::{Areas, Arrival, MemoryDevice, MemoryDisk, PastAct};
 use outside::Address;
-use outside_mem::{MemorySink, MemorySource};
+use outside_mem::{SteadySink, SteadySource};
 use std::alloc::{AllocError, Global};
 use std::test::Fail;
 use top_call::run as run_program;
@@ -9,35 +9,17 @@ use top_call::run as run_program;
 /// A datagram, with the port of this machine that it comes from or goes to.
 pub type Ported<'a> = (u16, &'a [u8]);
 
-/// How a node is run: its configuration, its number and its turns as words, what its areas hold, the values of its clock, which calls of
-/// its device fail, after how many acts all do, and which reads, writes of the output and writes of the error stream fail. Beginning is
-/// the first call and the first act.
+/// How node 0 is run: its turns as a word, and after how many acts all calls of its device fail. Beginning is the first act.
 #[derive(Clone, Copy)]
 pub struct Start<'a> {
-    pub config: &'a [u8],
-    pub me: &'a str,
     pub turns: &'a str,
-    pub areas: [&'a [u8]; 3],
-    pub clock: &'a [u64],
-    pub failing: &'a [u64],
     pub stop: u64,
-    pub unread: &'a [u64],
-    pub unwritten: &'a [u64],
-    pub unsaid: &'a [u64],
 }
 
-/// Node 0 for three turns, with empty areas, a clock at 0, and no failing call.
+/// Three turns, and no failing call.
 pub const START: Start<'static> = Start {
-    config: KV,
-    me: "0",
     turns: "3",
-    areas: [b"", b"", b""],
-    clock: &[],
-    failing: &[],
     stop: u64::MAX,
-    unread: &[],
-    unwritten: &[],
-    unsaid: &[],
 };
 
 /// A status, a text on the output and a line on the error stream.
@@ -59,8 +41,8 @@ pub const THREE_TURNS: Answer<'static> = Answer {
 #[derive(Drop)]
 pub struct Ran {
     pub status: u8,
-    pub out: MemorySink,
-    pub err: MemorySink,
+    pub out: SteadySink,
+    pub err: SteadySink,
     pub device: MemoryDevice,
 }
 
@@ -89,58 +71,38 @@ pub fn arrivals(alloc: Global, datagrams: &[Ported<'_>]) -> Result<Vec<Arrival>,
     Ok(arrivals)
 }
 
-// The words of a node.
-fn words(alloc: Global, start: &Start<'_>) -> Result<Vec<String>, AllocError> {
+// The words of node 0 for so many turns.
+fn words(alloc: Global, turns: &str) -> Result<Vec<String>, AllocError> {
     let mut words = Vec::new(alloc);
     for word in [
-        "vst",
-        "node",
-        "--me",
-        start.me,
-        "--turns",
-        start.turns,
-        "--state",
-        "state",
+        "vst", "node", "--me", "0", "--turns", turns, "--state", "state",
     ] {
         words.push(String::from_str(alloc, word)?)?;
     }
     Ok(words)
 }
 
-// A device over the areas of a start, which has not begun.
-fn device(
-    alloc: Global,
-    start: &Start<'_>,
-    arrivals: Vec<Arrival>,
-) -> Result<MemoryDevice, AllocError> {
-    let [slot0, slot1, selector] = start.areas;
+// A device over empty areas, with a clock at 0, which has not begun.
+fn device(alloc: Global, stop: u64, arrivals: Vec<Arrival>) -> Result<MemoryDevice, AllocError> {
     let areas = Areas {
-        slot0: Vec::from_slice(alloc, slot0)?,
-        slot1: Vec::from_slice(alloc, slot1)?,
-        selector: Vec::from_slice(alloc, selector)?,
+        slot0: Vec::new(alloc),
+        slot1: Vec::new(alloc),
+        selector: Vec::new(alloc),
     };
     let disk = MemoryDisk::new(alloc, areas);
-    let clock = Vec::from_slice(alloc, start.clock)?;
-    let failing = Vec::from_slice(alloc, start.failing)?;
+    let (clock, failing) = (Vec::new(alloc), Vec::new(alloc));
     let mut device = MemoryDevice::new(alloc, disk, arrivals, clock, failing)?;
-    device.stop_after(start.stop);
+    device.stop_after(stop);
     Ok(device)
-}
-
-// An empty sink that fails at these writes.
-fn sink(alloc: Global, failing: &[u64]) -> Result<MemorySink, AllocError> {
-    let failing = Vec::from_slice(alloc, failing)?;
-    Ok(MemorySink::new(alloc, 4, failing, Vec::new(alloc)))
 }
 
 /// Runs a node. Want of memory is no answer of a run.
 pub fn run(alloc: Global, start: &Start<'_>, arrivals: Vec<Arrival>) -> Result<Ran, Fail> {
-    let words = words(alloc, start)?;
-    let config = Vec::from_slice(alloc, start.config)?;
-    let mut input = MemorySource::new(config, 100, Vec::from_slice(alloc, start.unread)?);
-    let mut out = sink(alloc, start.unwritten)?;
-    let mut err = sink(alloc, start.unsaid)?;
-    let mut device = device(alloc, start, arrivals)?;
+    let words = words(alloc, start.turns)?;
+    let mut input = SteadySource::new(Vec::from_slice(alloc, KV)?);
+    let mut out = SteadySink::new(alloc);
+    let mut err = SteadySink::new(alloc);
+    let mut device = device(alloc, start.stop, arrivals)?;
     let status = run_program(alloc, &words, &mut input, &mut out, &mut err, &mut device);
     if status == 8 {
         return Err(AllocError.into());
@@ -151,14 +113,6 @@ pub fn run(alloc: Global, start: &Start<'_>, arrivals: Vec<Arrival>) -> Result<R
         err,
         device,
     })
-}
-
-// The bytes of an act that sent a datagram to a port.
-fn sent_to(past: &Past, port: u16) -> Option<&[u8]> {
-    match &past.act {
-        PastAct::Sent(to, bytes) if *to == at(port) => Some(bytes.as_slice()),
-        _ => None,
-    }
 }
 
 impl Ran {
@@ -183,17 +137,6 @@ impl Ran {
             }
         }
         left.next().is_none()
-    }
-
-    /// What it sent to a port, as it comes from another.
-    pub fn brings(&self, alloc: Global, from: u16, to: u16) -> Result<Vec<Arrival>, AllocError> {
-        let mut brought = Vec::new(alloc);
-        for past in self.device.past() {
-            if let Some(bytes) = sent_to(past, to) {
-                brought.push(arrival(alloc, from, bytes)?)?;
-            }
-        }
-        Ok(brought)
     }
 
     /// Whether its areas hold this.

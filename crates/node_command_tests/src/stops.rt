@@ -1,7 +1,7 @@
 ghost use Rattle.std.specs.Prelude.{◌≡◌, true, IfOk};
 ghost use Rattle.node_device_mem.specs.MemoryDevices.{memory_begun};
 
-use crate::bytes::{ASKS, FRESH, NAME, VOTE, VOTED_IN_A_RECORD};
+use crate::bytes::{ASKS, NAME, VOTE};
 use crate::run::{Answer, Ran, START, Start, THREE_TURNS, arrivals, at, run};
 use kv_machine::KvCmd;
 use lock_table::TableCmd;
@@ -99,22 +99,7 @@ const RECEIVE: Answer<'static> = Answer {
     err: b"receive\n",
 };
 
-// Whether a run with one vote came to what it is to, where its call of this number fails. It has 21 calls: it begins, opens its areas,
-// receives in each turn, saves the vote in the last, and sends it.
-fn ended_by_call(ran: &Ran, call: u64) -> bool {
-    match call {
-        14..=16 => ran.came_to(&RECEIVE, &[], [FRESH, FRESH, b"\0"]),
-        21 => ran.came_to(&THREE_TURNS, &[], [VOTED_IN_A_RECORD, FRESH, b"\0"]),
-        22 => ran.came_to(
-            &THREE_TURNS,
-            &[(7001, VOTE)],
-            [VOTED_IN_A_RECORD, FRESH, b"\0"],
-        ),
-        _ => ran.answered(&STORE) && ran.sent(&[]),
-    }
-}
-
-// The same where it stops after so many of its acts, of which there are 24.
+// Whether a run with one vote came to what it is to, where it stops after so many of its acts, of which there are 24.
 fn ended_by_stop(ran: &Ran, stop: u64) -> bool {
     let answer = match stop {
         ..=11 | 19..=22 => &STORE,
@@ -127,21 +112,6 @@ fn ended_by_stop(ran: &Ran, stop: u64) -> bool {
         ran.sent(&[(7001, VOTE)])
     };
     ran.answered(answer) && sent
-}
-
-#[test]
-fn nothing_is_sent_where_a_call_fails(rt: HostRuntime) -> Result<(), Fail> {
-    let alloc = rt.alloc();
-    for call in 2..=22 {
-        let failing = [call];
-        let start = Start {
-            failing: &failing,
-            ..START
-        };
-        let ran = run(alloc, &start, arrivals(alloc, ASKS)?)?;
-        assert!(rt; ended_by_call(&ran, call), "{call}");
-    }
-    Ok(())
 }
 
 #[test]

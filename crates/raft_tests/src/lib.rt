@@ -3,8 +3,6 @@
 #![tactic(auto)]
 
 #[cfg(test)]
-mod applied_order_tests;
-#[cfg(test)]
 mod raft_clients_tests;
 #[cfg(test)]
 mod raft_commit_tests;
@@ -12,8 +10,6 @@ mod raft_commit_tests;
 mod raft_election_tests;
 #[cfg(test)]
 mod raft_log_tests;
-#[cfg(test)]
-mod raft_xform_run_tests;
 #[cfg(test)]
 mod raft_xform_tests;
 #[cfg(test)]

@@ -1,6 +1,5 @@
 ghost use Rattle.std.specs.Prelude.{◌≡◌, ◌<◌};
 
-use crate::keys::key;
 use handler_trait::{Effects, Handlers, MAX_SENDS, Rebootable};
 use kv_machine::{KvCmd, KvMachine};
 use lock_server::LockServer;
@@ -10,7 +9,7 @@ use raft_xform::Raft;
 use seqnum_xform::SeqNum;
 use std::alloc::{AllocError, Global};
 use std::test::Fail;
-use vst_base::{LockMsg, Node, PbMsg, SeqMsg, StackId};
+use vst_base::{Key, LockMsg, Node, PbMsg, SeqMsg, StackId};
 use wire_messages::Wire;
 use wired::{Cluster, Packet, Saved, SavedBytes, Wired, hear};
 
@@ -148,7 +147,8 @@ fn bytes_that_are_no_message_do_nothing_to_a_numbered_lock(rt: HostRuntime) -> R
 
 // The primary asks the backup to apply a get.
 fn get(alloc: Global) -> Result<PbMsg<KvCmd>, Fail> {
-    Ok(PbMsg::Apply(KvCmd::Get(key(alloc, b"a")?)))
+    let key = Key::new(alloc, b"a")?.ok_or("a key")?;
+    Ok(PbMsg::Apply(KvCmd::Get(key)))
 }
 
 // Whether that is heard, and bytes that differ from its own by one thing do nothing.
