@@ -55,3 +55,7 @@ pub record Headline (bytes text : List ℕ) : Type 0 where
 -- a sink gained a text of these bytes
 abbrev pub GainedHeadline : Option (List ℕ) → Option (List ℕ) → List ℕ → Type 0
 GainedHeadline out out' bytes = IfSome out (λ held. (text : List ℕ) × (out' ≡ Some (held ++ text)) × Headline bytes text)
+
+-- where its input and its output are told, a replay has shown the headline
+pub record ShowsHeadline (left out out' : Option (List ℕ)) : Type 0 where
+  pub shown : IfSome left (GainedHeadline out out')

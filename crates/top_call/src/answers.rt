@@ -1,4 +1,4 @@
-ghost use Rattle.std.specs.Prelude.{◌≡◌, ℕ, IfSome, None, Some, map, string_bytes};
+ghost use Rattle.std.specs.Prelude.{◌≡◌, ℕ, None, Some, map, string_bytes};
 ghost use Rattle.std.specs.Bool.{OnFalse};
 ghost use Rattle.command_line.specs.declared.asked.Asked.TheVariants.{Texts};
 ghost use Rattle.command_line.specs.declared.command.Command.TheVariants as command;
@@ -6,7 +6,7 @@ ghost use Rattle.node_command.specs.Seen.{KeepsAllCounts, node_ran};
 ghost use Rattle.run_streams.specs.Seen.{ran};
 ghost use Rattle.text_commands.specs.Answers.{reads};
 ghost use Rattle.text_commands.specs.Statuses.{AreWordsRefused};
-ghost use Rattle.top_call.specs.Headline.{GainedHeadline};
+ghost use Rattle.top_call.specs.Headline.{ShowsHeadline};
 ghost use Rattle.top_call.specs.Requests.{By, asked};
 ghost use Rattle.top_call.specs.Statuses.{AreAreasRefused, HasListeningFailed, HasReadFailed, HasRun, HasStoreFailed, HasWriteFailed};
 ghost use Rattle.top_call.specs.Statuses.{IsComplete, IsDenied, IsDone, IsInputRefused, IsOutOfMemory, IsStatus};
@@ -37,7 +37,7 @@ pub fn run<S: Source, O: Sink, E: Sink, D: Device>(
     ensures ran { HasRun (asked words.now) (node_ran (ran S.Source O.Sink E.Sink input.old input.new out.old out.new err.old err.new)
         D.Device device.old device.new) }
     ensures headline { asked words.now ≡ Some (Texts command.Replay) → result ≡ 0
-        → IfSome (S.left input.old) (GainedHeadline (O.written out.old) (O.written out.new)) }
+        → ShowsHeadline (S.left input.old) (O.written out.old) (O.written out.new) }
     ensures done { result ≡ 0 → IsDone (asked words.now) (node_ran
         (ran S.Source O.Sink E.Sink input.old input.new out.old out.new err.old err.new)
         D.Device device.old device.new) }

@@ -48,7 +48,7 @@ pub returns-in-Ok-Some-Texts-clause-headline : goal.returns-in-Ok-Some-Texts-cla
 returns-in-Ok-Some-Texts-clause-headline g c = λ replay is.
     let read = c.in-Ok-Some-Texts in
     let run = ran g.S.Source g.O.Sink g.E.Sink c.args.input.now c.run_command.new.input c.args.out.now c.run_command.new.out c.args.err.now c.run_command.new.err in
-    texts_headline _ _ run (sym read.ensures.asked ∙ read.field-0-is ∙ ap Some read.field-0-0-is) replay (c.run_command.ensures.done is)
+    record { shown = texts_headline _ _ run (sym read.ensures.asked ∙ read.field-0-is ∙ ap Some read.field-0-0-is) replay (c.run_command.ensures.done is) }
 
 pub returns-in-Ok-Some-Node-clause-headline : goal.returns-in-Ok-Some-Node-clause-headline
 returns-in-Ok-Some-Node-clause-headline g c = λ replay is.
