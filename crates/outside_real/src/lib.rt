@@ -2,8 +2,10 @@
 //! their counts of faults alone. What they do is trusted, and not proved.
 #![tactic(auto)]
 
+mod examples;
 mod sink;
 mod source;
 
+pub use examples::{worked_faults, worked_reads, worked_writes};
 pub use sink::{StandardError, StandardOutput, WriterSink};
 pub use source::{ReaderSource, StandardInput};
