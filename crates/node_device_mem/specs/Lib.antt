@@ -5,3 +5,4 @@ pub mod MemoryTrails
 pub mod Devices
 pub mod Scripts
 pub mod MemoryDevices
+pub mod Examples

@@ -1,7 +1,9 @@
-ghost use Rattle.std.specs.Prelude.{◌≡◌, true, false, [], ◌∷◌, None, Some};
+ghost use Rattle.std.specs.Prelude.{◌≡◌, ℕ, true, false, [], ◌∷◌, None, Some};
+ghost use Rattle.std.specs.Global.{Vec};
 ghost use Rattle.disk.specs.Acts.{WriteAt, Sync, Now, Wrote, Synced, StoreFailed};
 ghost use Rattle.disk.specs.Disk.{settled, written};
 ghost use Rattle.node_device.specs.Examples.{holds, node_at, shows, tells};
+ghost use Rattle.node_device_mem.specs.Examples.{quiet_then};
 ghost use Rattle.node_device_mem.specs.Histories.{clock_value, nows_from};
 ghost use Rattle.node_device_mem.specs.Scripts.{BeginsBy, Brings, ReadsBy, ReceivesBy, SendsBy, StoresBy, StoresExactly, cut_to, next_arrival, received_after};
 
@@ -68,4 +70,7 @@ pub fn worked_dues()
     ensures store_wants { StoresBy true Stored.Memory }
     ensures nothing_arrives { next_arrival [] 0 ≡ None }
     ensures a_quiet_arrival { next_arrival (Arrival.Quiet ∷ []) 0 ≡ None }
+    ensures a_datagram_after_it { (bytes : Vec ℕ) → next_arrival (quiet_then bytes) 1 ≡ Some (node_at 7001, bytes.items) }
+    ensures the_quiet_one_before { (bytes : Vec ℕ) → next_arrival (quiet_then bytes) 0 ≡ None }
+    ensures none_after_it { (bytes : Vec ℕ) → next_arrival (quiet_then bytes) 2 ≡ None }
 {}

@@ -9,6 +9,7 @@ mod laws;
 mod memory;
 mod memory_disk;
 mod past;
+mod record_examples;
 mod script;
 mod steady;
 mod trail;
@@ -18,4 +19,7 @@ pub use laws::areas_follow_the_acts;
 pub use memory::{Counts, MemoryDevice};
 pub use memory_disk::{Areas, MemoryDisk};
 pub use past::{Past, PastAct};
+pub use record_examples::{
+    worked_acts, worked_devices, worked_notes, worked_records, worked_scripts, worked_stays,
+};
 pub use steady::{Arrival, SteadyDevice};
