@@ -1,7 +1,7 @@
 ghost use Rattle.std.specs.Prelude.{◌≡◌, ◌≤◌, ◌-◌, ◌&&◌, nat_le, nat_lt, length, drop, OnOk, OnErr, IfOk};
 ghost use Rattle.std.specs.List.{list_any};
 ghost use Rattle.outside.specs.Streams.{Gives};
-ghost use Rattle.disk.specs.Disk.{overwritten, resized, written, cut, synced, settled, is_within, is_pending};
+ghost use Rattle.disk.specs.Disk.{overwritten, resized, written, cut, synced, settled, is_pending};
 ghost use Rattle.disk.specs.Images.{torn};
 ghost use Rattle.node_device_mem.specs.MemoryAreas.{area_of};
 

@@ -1,11 +1,11 @@
-ghost use Rattle.std.specs.Prelude.{◌≡◌, ℕ, ◌+◌, ◌<◌, ◌++◌, [], ◌∷◌, List, take, OnOk, OnErr, OnSome, IfOk, IfSome, IsOk, vec_len, vec_capacity, option_map, fold};
-ghost use Rattle.disk.specs.Acts.{Act, Now};
+ghost use Rattle.std.specs.Prelude.{◌≡◌, ◌+◌, ◌<◌, ◌++◌, [], ◌∷◌, take, OnOk, OnErr, OnSome, IfOk, IfSome, IsOk, vec_len, vec_capacity, option_map, fold};
+ghost use Rattle.disk.specs.Acts.{Now};
 ghost use Rattle.disk.specs.Disk.{Disk};
 ghost use Rattle.disk.specs.Images.{started, followed};
 ghost use Rattle.node_device.specs.Telling.{TellsOn};
 ghost use Rattle.node_device_mem.specs.Devices.{told_by};
 ghost use Rattle.node_device_mem.specs.MemoryDisks.{disk_of};
-ghost use Rattle.node_device_mem.specs.Histories.{SameClock, act_of, acts_told, acts_counted, counted_on, all_acts, clock_place, clock_value, next_value};
+ghost use Rattle.node_device_mem.specs.Histories.{SameClock, act_of, acts_told, acts_counted, counted_on, clock_place, clock_value, next_value};
 ghost use Rattle.outside.specs.Counting.{counted};
 ghost use Rattle.node_device_mem.specs.MemoryTrails.{trail_of};
 

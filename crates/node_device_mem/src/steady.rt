@@ -5,8 +5,8 @@ ghost use Rattle.disk.specs.Acts.{WriteAt, CutTo, Sync, Now, Wrote, Cut, Synced}
 ghost use Rattle.disk.specs.Areas.{area_at, changed};
 ghost use Rattle.disk.specs.Disk.{contents, may_leave, written, cut};
 ghost use Rattle.disk.specs.Images.{image_by_word};
-ghost use Rattle.node_device.specs.Faults.{Faults, NoFewer, BeginCounts, ReceiveCounts, SendCounts, ReadCounts, StoreCounts};
-ghost use Rattle.node_device.specs.Telling.{Told, Did, OthersStay, TellsOn};
+ghost use Rattle.node_device.specs.Faults.{NoFewer, BeginCounts, ReceiveCounts, SendCounts, ReadCounts, StoreCounts};
+ghost use Rattle.node_device.specs.Telling.{Did, OthersStay, TellsOn};
 ghost use Rattle.node_device.specs.Outcomes.{Begins, Receives, Sends, Reads, Stores};
 ghost use Rattle.node_device.specs.Wants.{Wants, begin_wants, receive_wants, send_wants, read_wants, store_wants};
 ghost use Rattle.node_device.specs.declared.limits.TheConstants.{RECEIVE_BUFFER};
