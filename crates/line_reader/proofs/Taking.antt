@@ -8,7 +8,7 @@ use Rattle.line_reader.specs.Cuts.{cut_at}
 use Rattle.line_reader.specs.Lines.{split_lines, lines_of, first_size, after_lines, decided}
 use Rattle.line_reader.specs.Limits.{line_refusals}
 use Rattle.line_reader.specs.Readers.{ReaderView, HasRest}
-use Rattle.line_reader.specs.Outcomes.{ReadsLine, EndsLine, TakesPiece}
+use Rattle.line_reader.specs.Outcomes.{ReadsLine, EndsLine, LineIsNear, TakesPiece}
 use Rattle.line_reader.specs.declared.why.Why.{Why}
 use Rattle.line_reader.specs.declared.why.Why.TheVariants as why
 use Rattle.line_reader.specs.declared.piece.Piece.TheVariants as piece
@@ -272,6 +272,22 @@ fills r r' left left' rest line told begun = record {
   left_is = told begun.later begun.left_is;
   whole = begun.whole ∙ ap (λ xs. xs ++ begun.later) (sym line);
 }
+
+-- where some bytes are ahead, no more than those stand past a line without a newline
+pub fills-near : (r r' : ReaderView) (left left' : Option (List ℕ)) (rest : List ℕ) → r'.line ≡ r.line → ((later : List ℕ) → HasRest r left later → HasRest r' left' later)
+    → length r'.ahead ≤ 4096 → cut_at 10 r.line ≡ None → Begun r left rest → LineIsNear left' rest
+fills-near r r' left left' rest line told few plain begun =
+    let there = fills r r' left left' rest line told begun in (
+      r'.line,
+      record {
+        late = r'.ahead;
+        others = there.left_is.unread;
+        left_is = there.left_is.left_is;
+        whole = there.whole ∙ ap (λ xs. r'.line ++ xs) there.left_is.rest_is;
+        few = few;
+      },
+      whole-plain r'.line (ap (cut_at 10) line ∙ plain),
+    )
 
 pub goes-on : (r r' : ReaderView) (left : Option (List ℕ)) (rest : List ℕ) → TakesPiece r r' piece.GoesOn → r'.ended ≡ r.ended → Begun r left rest → Begun r' left rest
 goes-on r r' left rest (none, plain, line) ended begun =

@@ -47,6 +47,18 @@ pub record BreaksOff (left' : Option (List ℕ)) (rest part : List ℕ) : Type 0
   pub whole : rest ≡ part ++ rest'
   pub short : length (split_lines part).1 ≤ 4096
 
+-- what was read of a rest is this part of it, and at most 4,096 bytes more
+pub record ReadsPast (left' : Option (List ℕ)) (rest early : List ℕ) : Type 0 where
+  pub late : List ℕ
+  pub others : List ℕ
+  pub left_is : left' ≡ Some others
+  pub whole : rest ≡ early ++ (late ++ others)
+  pub few : length late ≤ 4096
+
+-- at most 4,096 bytes were read past a part that has no whole line
+abbrev pub LineIsNear : Option (List ℕ) → List ℕ → Type 0
+LineIsNear left' rest = (early : List ℕ) × ReadsPast left' rest early × (whole_lines early ≡ [])
+
 -- what the next line of a rest is
 abbrev pub ReadsLine : {A : Type 0} → ReaderView → ReaderView → Option (List ℕ) → List ℕ → Result A LineFault → Type 0
 ReadsLine old new left' rest (Ok x) =

@@ -18,5 +18,5 @@ pub use examples::{worked, worked_ends};
 pub use fault::LineFault;
 pub use next::next_line;
 pub use reader::{MAX_LINE, Reader};
-pub use reading_examples::{worked_reading, worked_stopping};
+pub use reading_examples::{worked_nearness, worked_reading, worked_stopping};
 pub use why::Why;

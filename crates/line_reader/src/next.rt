@@ -1,6 +1,6 @@
 ghost use Rattle.std.specs.Prelude.{◌≡◌, ◌≢◌, ◌+◌, ◌≤◌, ℕ, List, true, length, Err, Some, IfErr, OnOk, OnErr};
-ghost use Rattle.line_reader.specs.Cuts.{cut_at};
-ghost use Rattle.line_reader.specs.Outcomes.{HasReadCause, ReadsLine, StopsAt};
+ghost use Rattle.line_reader.specs.Cuts.{cut_at, has_cut};
+ghost use Rattle.line_reader.specs.Outcomes.{HasReadCause, LineIsNear, ReadsLine, StopsAt};
 ghost use Rattle.line_reader.specs.Readers.{HasRest};
 
 use crate::piece::Piece;
@@ -10,12 +10,16 @@ use outside::Source;
 /// Reads the next line: up to its newline, or to the end of the source where that comes first. `End` comes exactly where
 /// no byte is left. A line of more than 4,096 bytes is refused at its 4,097th byte, and one whose number is over the
 /// greatest once it was read. A line that a failed read breaks off is given up. A read failed only where `Read` is
-/// answered, and never where the newline of the line was read ahead.
+/// answered, and never where the newline of the line was read ahead: then the source is left as it is. Whatever comes, at most
+/// 4,096 bytes were read past bytes of the line without its newline.
 pub fn next_line<S: Source>(reader: &mut Reader, source: &mut S) -> Result<(), LineFault>
     ensures told { (rest : List ℕ) → HasRest reader.old (S.left source.old) rest
         → ReadsLine reader.old reader.new (S.left source.new) rest result }
     ensures ahead { (cut : List ℕ × List ℕ) → cut_at 10 reader.old.ahead ≡ Some cut
         → (result ≢ Err LineFault.Read) × OnOk result (reader.new.line ≡ cut.0) }
+    ensures near { (rest : List ℕ) → HasRest reader.old (S.left source.old) rest → LineIsNear (S.left source.new) rest }
+    ensures unread { has_cut 10 reader.old.ahead ≡ true → source.new ≡ source.old }
+    ensures few { length reader.new.ahead ≤ 4096 }
     ensures number { OnOk result ((reader.new.number ≡ reader.old.number + 1) × (reader.new.number ≤ reader.new.most)) }
     ensures still { OnErr result (reader.new.number ≡ reader.old.number) }
     ensures length { OnOk result (length reader.new.line ≤ 4096) }

@@ -110,7 +110,8 @@ impl Reader {
 
     /// Whether the newline of the next line was read ahead.
     pub fn is_line_ahead(&self) -> bool
-        ensures { result ≡ has_cut 10 self.now.ahead }
+        ensures is { result ≡ has_cut 10 self.now.ahead }
+        ensures few { length self.now.ahead ≤ 4096 }
     {
         self.ahead.has_newline()
     }
@@ -143,6 +144,8 @@ impl Reader {
         ensures kept { self.new ≡ record self.old { ahead = self.new.ahead; ended = self.new.ended } }
         ensures stays { self.old.ended ≡ true → self.new.ended ≡ true }
         ensures still { self.old.ahead ≢ [] → (result ≡ Ok true) × (self.new ≡ self.old) }
+        ensures unread { self.old.ahead ≢ [] → source.new ≡ source.old }
+        ensures few { length self.new.ahead ≤ 4096 }
         ensures going { result ≡ Ok true → (0 < length self.new.ahead) × (self.new.ended ≡ self.old.ended) }
         ensures over { result ≡ Ok false → (self.new.ahead ≡ []) × (self.new.ended ≡ true) }
         ensures failed { IfErr result (CannotRead self.old self.new (S.faults source.old) (S.faults source.new)) }
@@ -171,6 +174,7 @@ impl Reader {
         ensures takes { IfOk result (λ piece. TakesPiece self.old self.new piece) }
         ensures kept { self.new ≡ record self.old { ahead = self.new.ahead; line = self.new.line } }
         ensures room { OnOk result (length self.new.line ≤ 4096) }
+        ensures few { length self.new.ahead ≤ 4096 }
     {
         match cut_at(self.ahead.bytes(), NEWLINE) {
             Some((part, _)) => {

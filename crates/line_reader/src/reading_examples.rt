@@ -1,6 +1,6 @@
-ghost use Rattle.std.specs.Prelude.{[], Err, None, Ok, Some, codes, false, true};
+ghost use Rattle.std.specs.Prelude.{[], ◌∷◌, Err, None, Ok, Some, codes, false, replicate, true};
 ghost use Rattle.line_reader.specs.Examples.{reader, reads};
-ghost use Rattle.line_reader.specs.Outcomes.{HasReadCause, StopsAt};
+ghost use Rattle.line_reader.specs.Outcomes.{HasReadCause, LineIsNear, StopsAt};
 ghost use Rattle.line_reader.specs.Readers.{fresh};
 
 use crate::{LineFault, Why};
@@ -36,4 +36,16 @@ pub fn worked_stopping()
     ensures failed_uncounted { HasReadCause (fresh 9) 2 2 LineFault.Read → ⊥ }
     ensures failed_past_the_end { HasReadCause (reader [] [] 3 true) 2 3 LineFault.Read → ⊥ }
     ensures written { HasReadCause (fresh 9) 2 3 LineFault.Write → ⊥ }
+{}
+
+/// How far past the bytes of a line was read: all of a short text, all but what is left, and no more than 4,096 bytes past the last
+/// whole line.
+pub fn worked_nearness()
+    ensures all { LineIsNear (Some []) (codes "ab\nc") }
+    ensures some { LineIsNear (Some (codes "c")) (codes "ab\nc") }
+    ensures another_left { LineIsNear (Some (codes "d")) (codes "ab\nc") → ⊥ }
+    ensures untold { LineIsNear None (codes "ab\nc") → ⊥ }
+    ensures a_buffer { LineIsNear (Some []) (10 ∷ replicate 4095 35) }
+    ensures more_than_a_buffer { LineIsNear (Some []) (10 ∷ replicate 4096 35) → ⊥ }
+    ensures a_long_line { LineIsNear (Some []) (replicate 4097 35) }
 {}

@@ -1,4 +1,4 @@
-use Rattle.std.proofs.Common.{◌≡◌, ◌≢◌, ◌==◌, ◌<◌, ◌∷◌, ◌++◌, ℕ, List, [], None, Some, Result, Ok, Err, OnOk, true, false, length, refl, ap, ◌∙◌, sym, arith}
+use Rattle.std.proofs.Common.{◌≡◌, ◌≢◌, ◌==◌, ◌<◌, ◌∷◌, ◌++◌, ℕ, List, [], Option, None, Some, is_some, Result, Ok, Err, OnOk, true, false, length, refl, ap, ◌∙◌, sym, arith}
 use Rattle.std.proofs.lemmas.Result.{err_from_is_err_and}
 use Rattle.std.proofs.lemmas.Bool.Decides.{nat_tests}
 use Rattle.line_reader.specs.Cuts.{cut_at}
@@ -7,7 +7,7 @@ use Rattle.line_reader.specs.Outcomes.{EndsLine}
 use Rattle.line_reader.specs.declared.fault.LineFault.{LineFault}
 use Rattle.line_reader.specs.declared.fault.LineFault.TheVariants as fault
 use Rattle.line_reader.proofs.Cutting.{cut-here, none-append}
-use Rattle.line_reader.proofs.Taking.{begins, fills, goes-on, by-newline, by-end, at-end, by-read, by-length}
+use Rattle.line_reader.proofs.Taking.{begins, fills, fills-near, goes-on, by-newline, by-end, at-end, by-read, by-length}
 use Rattle.line_reader.proofs.next.next_line.Goals as goal
 
 no-length : (xs : List ℕ) → (length xs == 0) ≡ true → xs ≡ []
@@ -29,6 +29,10 @@ some-ahead : (xs ys : List ℕ) (cut : List ℕ × List ℕ) → cut_at 10 ys �
 some-ahead xs ys cut is same none =
     let empty : None ≡ Some cut = ap (cut_at 10) (sym none ∙ same) ∙ is in
     cc
+
+some-cut : (o : Option (List ℕ × List ℕ)) → is_some o ≡ true → (cut : List ℕ × List ℕ) × (o ≡ Some cut)
+some-cut None e = cc
+some-cut (Some cut) e = (cut, refl)
 
 -- the line up to the newline that was read ahead
 same-cut : (xs ahead part ys : List ℕ) (cut : List ℕ × List ℕ) → cut_at 10 xs ≡ Some cut → ahead ≡ xs → ahead ≡ part ++ 10 ∷ ys → cut_at 10 part ≡ None → part ≡ cut.0
@@ -57,7 +61,7 @@ loop-reader-init g c =
       events = ap (λ (v : ReaderView). v.events) same;
       ended = ap (λ (v : ReaderView). v.ended) same;
       quiet = refl;
-      first = λ cut is. (ap ahead_of same, empty);
+      first = λ cut is. (ap ahead_of same, empty, refl);
     }
 
 pub returns-in_err-fill-clause-told : goal.returns-in_err-fill-clause-told
@@ -185,3 +189,45 @@ returns-clause-told g c = λ rest has.
     (ap (λ (v : ReaderView). v.number) kept ∙ inv.number)
     (ap (λ (v : ReaderView). v.most) kept ∙ inv.most)
     c.end_line-2.ensures.ends
+
+pub returns-in_err-fill-clause-near : goal.returns-in_err-fill-clause-near
+returns-in_err-fill-clause-near g c = λ rest has.
+    fills-near c.loop-reader.reader c.fill.new.self (g.S.Source.left c.loop-reader.source) (g.S.Source.left c.fill.new.source) rest
+    (ap line_of c.fill.ensures.kept) c.fill.ensures.told c.fill.ensures.few c.loop-reader.invariant.plain (c.loop-reader.invariant.told rest has)
+
+pub returns-in_err-take_piece-clause-near : goal.returns-in_err-take_piece-clause-near
+returns-in_err-take_piece-clause-near g c = λ rest has.
+    fills-near c.loop-reader.reader c.fill.new.self (g.S.Source.left c.loop-reader.source) (g.S.Source.left c.fill.new.source) rest
+    (ap line_of c.fill.ensures.kept) c.fill.ensures.told c.fill.ensures.few c.loop-reader.invariant.plain (c.loop-reader.invariant.told rest has)
+
+pub returns-in-Newline-clause-near : goal.returns-in-Newline-clause-near
+returns-in-Newline-clause-near g c = λ rest has.
+    fills-near c.loop-reader.reader c.fill.new.self (g.S.Source.left c.loop-reader.source) (g.S.Source.left c.fill.new.source) rest
+    (ap line_of c.fill.ensures.kept) c.fill.ensures.told c.fill.ensures.few c.loop-reader.invariant.plain (c.loop-reader.invariant.told rest has)
+
+pub returns-in-TooLong-clause-near : goal.returns-in-TooLong-clause-near
+returns-in-TooLong-clause-near g c = λ rest has.
+    fills-near c.loop-reader.reader c.fill.new.self (g.S.Source.left c.loop-reader.source) (g.S.Source.left c.fill.new.source) rest
+    (ap line_of c.fill.ensures.kept) c.fill.ensures.told c.fill.ensures.few c.loop-reader.invariant.plain (c.loop-reader.invariant.told rest has)
+
+pub returns-then-is_empty-clause-near : goal.returns-then-is_empty-clause-near
+returns-then-is_empty-clause-near g c = λ rest has.
+    fills-near c.loop-reader.reader c.fill.new.self (g.S.Source.left c.loop-reader.source) (g.S.Source.left c.fill.new.source) rest
+    (ap line_of c.fill.ensures.kept) c.fill.ensures.told c.fill.ensures.few c.loop-reader.invariant.plain (c.loop-reader.invariant.told rest has)
+
+pub returns-clause-near : goal.returns-clause-near
+returns-clause-near g c = λ rest has.
+    fills-near c.loop-reader.reader c.fill.new.self (g.S.Source.left c.loop-reader.source) (g.S.Source.left c.fill.new.source) rest
+    (ap line_of c.fill.ensures.kept) c.fill.ensures.told c.fill.ensures.few c.loop-reader.invariant.plain (c.loop-reader.invariant.told rest has)
+
+pub returns-in_err-take_piece-clause-unread : goal.returns-in_err-take_piece-clause-unread
+returns-in_err-take_piece-clause-unread g c = λ is.
+    let cut = some-cut (cut_at 10 c.args.reader.now.ahead) is in
+    let before = c.loop-reader.invariant.first cut.0 cut.1 in
+    c.fill.ensures.unread (some-ahead c.loop-reader.reader.ahead c.args.reader.now.ahead cut.0 cut.1 before.0) ∙ before.2
+
+pub returns-in-Newline-clause-unread : goal.returns-in-Newline-clause-unread
+returns-in-Newline-clause-unread g c = λ is.
+    let cut = some-cut (cut_at 10 c.args.reader.now.ahead) is in
+    let before = c.loop-reader.invariant.first cut.0 cut.1 in
+    c.fill.ensures.unread (some-ahead c.loop-reader.reader.ahead c.args.reader.now.ahead cut.0 cut.1 before.0) ∙ before.2

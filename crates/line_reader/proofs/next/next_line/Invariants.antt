@@ -17,7 +17,8 @@ invariant-loop-reader g l =
       events : l.reader.events ≡ l.fn.reader.events;
       ended : l.reader.ended ≡ l.fn.reader.ended;
       quiet : s.faults l.source ≡ s.faults l.fn.source;
-      first : (cut : List ℕ × List ℕ) → cut_at 10 l.fn.reader.ahead ≡ Some cut → (l.reader.ahead ≡ l.fn.reader.ahead) × (l.reader.line ≡ []);
+      first : (cut : List ℕ × List ℕ) → cut_at 10 l.fn.reader.ahead ≡ Some cut → (l.reader.ahead ≡ l.fn.reader.ahead) × (l.reader.line ≡ [])
+          × (l.source ≡ l.fn.source);
     }
 
 abbrev pub decreases-loop-reader : goal.decreases-loop-reader
