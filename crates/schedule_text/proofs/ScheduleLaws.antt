@@ -11,7 +11,7 @@ use Rattle.schedule_text.specs.declared.line.Line.TheVariants.{Skipped, IsStep, 
 use Rattle.schedule_text.specs.Lines.{is_skipped}
 use Rattle.schedule_text.specs.Headers.{header_of}
 use Rattle.schedule_text.specs.Reading.{read_line, line_says, line_unless}
-use Rattle.schedule_text.specs.Schedules.{Opening, Opened, RefusedAt, EndedAt, opened, opening_unless, opening, Script, script_line, with_step, script}
+use Rattle.schedule_text.specs.Schedules.{Opening, Opened, RefusedAt, EndedAt, opened, opening_unless, opening, Script, refused_script, script_line, no_steps, with_step, script}
 
 -- the first line by its refusal, and by whether it is skipped
 opening-by : (f : Option Why) (t : Bool) (n : ℕ) (a b : Opening) → f ≡ None → opening_unless f n (cond t a b) ≡ cond t a b
@@ -58,7 +58,38 @@ opening-append most n (l ∷ ls) ms =
     unless-append (first_of (line_refusals most n l)) (is_skipped l) n (opening most (n + 1) ls) (opening most (n + 1) (ls ++ ms))
     (opened (header_of l) n ls) (opened (header_of l) n (ls ++ ms)) ms most (opening-append most (n + 1) ls ms) (opened-append (header_of l) n ls ms most)
 
+-- lines before the header, of which a front has none either
+opening-ended : (o : Opening) (ms : List (List ℕ)) (most k : ℕ) → opening_with o ms most ≡ EndedAt k → (j : ℕ) × (o ≡ EndedAt j)
+opening-ended (Opened h j ls) ms most k e = cc
+opening-ended (RefusedAt j w) ms most k e = cc
+opening-ended (EndedAt j) ms most k e = (j, refl)
+
+pub opening-front : (most n : ℕ) (ls ms : List (List ℕ)) → (k : ℕ) × (opening most n (ls ++ ms) ≡ EndedAt k) → (j : ℕ) × (opening most n ls ≡ EndedAt j)
+opening-front most n ls ms (k, is) = opening-ended (opening most n ls) ms most k (sym (opening-append most n ls ms) ∙ is)
+
 module _ {I : Type 0} where
+  steps-some : (n : ℕ) (s : Step I) (sc : Script I) → with_step n s sc ≡ no_steps → ⊥
+  steps-some n s sc e =
+      let size : length ((n, s) ∷ sc.steps) ≡ 0 = ap (λ (x : Script I). length x.steps) e in
+      omega (arith, size)
+
+  refuses-some : (n : ℕ) (w : Why) → refused_script n w ≡ no_steps {I = I} → ⊥
+  refuses-some n w e =
+      let none : ◌≡◌ {A = Option (ℕ × Why)} (Some (n, w)) None = ap (λ (x : Script I). x.fault) e in
+      cc none
+
+  -- lines that say no step, of which a front says none either
+  front-by : (line : Line I) (most : ℕ) (f : List ℕ → Option I) (n e : ℕ) (ls ms : List (List ℕ))
+      → ((k : ℕ) → script most f (n + 1) k (ls ++ ms) ≡ no_steps → script most f (n + 1) k ls ≡ no_steps)
+      → script_line line n e (λ k. script most f (n + 1) k (ls ++ ms)) ≡ no_steps → script_line line n e (λ k. script most f (n + 1) k ls) ≡ no_steps
+  front-by Skipped most f n e ls ms later is = later e is
+  front-by (IsStep s) most f n e ls ms later is = absurd (steps-some n s (script most f (n + 1) (e + 1) (ls ++ ms)) is)
+  front-by (Refused w) most f n e ls ms later is = absurd (refuses-some n w is)
+
+  pub script-front : (most : ℕ) (f : List ℕ → Option I) (n e : ℕ) (ls ms : List (List ℕ)) → script most f n e (ls ++ ms) ≡ no_steps → script most f n e ls ≡ no_steps
+  script-front most f n e [] ms is = refl
+  script-front most f n e (l ∷ ls) ms is = front-by (read_line most f n e l) most f n e ls ms (λ k. script-front most f (n + 1) k ls ms) is
+
   -- the first line of a script
   pub line-refused : (most : ℕ) (f : List ℕ → Option I) (n e : ℕ) (l : List ℕ) (w : Why) → first_of (line_refusals most n l) ≡ Some w → read_line most f n e l ≡ Refused w
   line-refused most f n e l w refused = ap (λ o. line_unless o (line_says f e l)) refused

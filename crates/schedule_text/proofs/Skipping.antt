@@ -1,11 +1,27 @@
 -- Lines that are skipped before the header or before a step. What lines mean is F of the number of the first and of them.
-use Rattle.std.specs.Prelude.{◌≡◌, ℕ, false, ◌+◌, List, [], ◌∷◌, ◌++◌, Option, refl}
-use Rattle.std.proofs.Common.{ap, ◌∙◌, sym, append_assoc}
-use Rattle.line_reader.specs.Lines.{lines_of, whole_lines}
+use Rattle.std.specs.Prelude.{◌≡◌, ℕ, Bool, true, false, ◌+◌, List, [], ◌∷◌, ◌++◌, Option, refl}
+use Rattle.std.proofs.Common.{ap, ◌∙◌, sym, subst, append_assoc}
+use Rattle.std.proofs.lemmas.List.{append-nil}
+use Rattle.line_reader.specs.Lines.{last_line, lines_of, split_lines, whole_lines}
 use Rattle.line_reader.specs.Readers.{ReaderView, HasRest}
-use Rattle.line_reader.specs.Outcomes.{Uses}
+use Rattle.line_reader.specs.Outcomes.{LineIsNear, ReadsPast, Uses}
 use Rattle.line_reader.proofs.Lining.{whole-append}
 use Rattle.line_reader.proofs.Using.{uses-none, uses-more, lines-more}
+
+no-front : (xs ys : List ℕ) → xs ++ ys ≡ [] → xs ≡ []
+no-front [] ys e = refl
+no-front (x ∷ xs) ys e = cc
+
+-- what was read past a part, behind lines that were used
+pub past-after : (old mid : ReaderView) (left left' : Option (List ℕ)) (rest used early : List ℕ) (u : Uses old mid left rest used)
+    → ReadsPast left' u.rest' early → ReadsPast left' rest (used ++ early)
+past-after old mid left left' rest used early u past = record {
+  late = past.late;
+  others = past.others;
+  left_is = past.left_is;
+  whole = u.whole ∙ (ap (λ xs. used ++ xs) past.whole ∙ sym (append_assoc used early (past.late ++ past.others)));
+  few = past.few;
+}
 
 module _ {R : Type 0} (F : ℕ → List (List ℕ) → R) where
   -- some lines were used, and whatever follows means the same without them
@@ -43,3 +59,25 @@ module _ {R : Type 0} (F : ℕ → List (List ℕ) → R) where
       → F (old.number + 1) (whole_lines (s.used ++ part)) ≡ F (mid.number + 1) []
   of-part old mid left rest s part going none =
       ap (F (old.number + 1)) (whole-append s.used part (s.uses.closed going) ∙ ap (λ ls. lines_of s.used ++ ls) none) ∙ s.goes []
+
+  -- of what no lines mean, and of what a front of such lines means that mean as much
+  module _ (Q : R → Type 0) (none : (n : ℕ) → Q (F n [])) (front : (n : ℕ) (xs ys : List (List ℕ)) → Q (F n (xs ++ ys)) → Q (F n xs)) where
+    near-by : (t : Bool) (old mid : ReaderView) (left left' : Option (List ℕ)) (rest : List ℕ) (s : Skipped old mid left rest) (early : List ℕ)
+        → mid.ended ≡ t → ReadsPast left' s.uses.rest' early → whole_lines early ≡ [] → Q (F (old.number + 1) (whole_lines (s.used ++ early)))
+    near-by false old mid left left' rest s early going past no_lines =
+        subst Q (sym (of-part old mid left rest s early going no_lines)) (none (mid.number + 1))
+    near-by true old mid left left' rest s early over past no_lines =
+        let nothing : early ≡ [] = no-front early (past.late ++ past.others) (sym past.whole ∙ s.uses.left.at_end over) in
+        let same : whole_lines (s.used ++ early) ≡ whole_lines s.used = ap (λ xs. whole_lines (s.used ++ xs)) nothing ∙ ap whole_lines (append-nil s.used) in
+        let all : F (old.number + 1) (lines_of s.used) ≡ F (mid.number + 1) [] =
+        ap (F (old.number + 1)) (sym (append-nil (lines_of s.used))) ∙ s.goes [] in
+        subst (λ (ls : List (List ℕ)). Q (F (old.number + 1) ls)) (sym same)
+        (front (old.number + 1) (whole_lines s.used) (last_line (split_lines s.used).1) (subst Q (sym all) (none (mid.number + 1))))
+
+    pub near-after : (old mid : ReaderView) (left left' : Option (List ℕ)) (rest : List ℕ) (s : Skipped old mid left rest) → LineIsNear left' s.uses.rest'
+        → (early : List ℕ) × ReadsPast left' rest early × Q (F (old.number + 1) (whole_lines early))
+    near-after old mid left left' rest s (early, past, no_lines) = (
+      s.used ++ early,
+      past-after old mid left left' rest s.used early s.uses past,
+      near-by mid.ended old mid left left' rest s early refl past no_lines,
+    )

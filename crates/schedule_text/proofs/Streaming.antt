@@ -12,7 +12,7 @@ use Rattle.line_reader.specs.declared.fault.LineFault.TheVariants as fault
 use Rattle.line_reader.specs.Lines.{lines_of}
 use Rattle.line_reader.specs.Limits.{line_refusals}
 use Rattle.line_reader.specs.Readers.{ReaderView, HasRest}
-use Rattle.line_reader.specs.Outcomes.{Uses, StandsAt, ReadsLine, HasReadCause}
+use Rattle.line_reader.specs.Outcomes.{LineIsNear, Uses, StandsAt, ReadsLine, HasReadCause}
 use Rattle.line_reader.proofs.Using.{uses-more, stands-after, stands-at-end, breaks-after}
 use Rattle.schedule_text.specs.declared.header.Header.{Header}
 use Rattle.schedule_text.specs.declared.line.Line.{Line}
@@ -20,10 +20,10 @@ use Rattle.schedule_text.specs.declared.line.Line.TheVariants as line
 use Rattle.schedule_text.specs.Lines.{is_skipped, is_told}
 use Rattle.schedule_text.specs.Headers.{header_of}
 use Rattle.schedule_text.specs.Reading.{line_says, number_in, parts_of, step_or_refusal, step_of, step_refusals}
-use Rattle.schedule_text.specs.Schedules.{Opened, opened, opening, opening_refusal, script, script_line, no_steps, with_step, refused_script}
-use Rattle.schedule_text.specs.Streams.{ReadsHeader, ReadsStep, header_fault}
-use Rattle.schedule_text.proofs.ScheduleLaws.{opening-skips, opening-reads, opening-refuses, line-refused, line-said, script-by}
-use Rattle.schedule_text.proofs.Skipping.{Skipped, goes-on, skipped-more, of-rest, of-part}
+use Rattle.schedule_text.specs.Schedules.{EndedAt, Opened, opened, opening, opening_refusal, script, script_line, no_steps, with_step, refused_script}
+use Rattle.schedule_text.specs.Streams.{HeaderIsNear, ReadsHeader, ReadsStep, StepIsNear, header_fault}
+use Rattle.schedule_text.proofs.ScheduleLaws.{opening-front, opening-skips, opening-reads, opening-refuses, script-front, line-refused, line-said, script-by}
+use Rattle.schedule_text.proofs.Skipping.{Skipped, goes-on, near-after, skipped-more, of-rest, of-part}
 
 -- the cause of a header's fault is that of the line's
 pub header-cause : (old : ReaderView) (n f f' : ℕ) (found : LineFault) → HasReadCause old f f' found → HasReadCause old f f' (header_fault n found)
@@ -55,6 +55,19 @@ cause-before old mid f0 f f' fault.Write stays grew cause = cause
 cause-before old mid f0 f f' fault.End stays grew cause = tt
 cause-before old mid f0 f f' fault.Memory stays grew cause = tt
 cause-before old mid f0 f f' (fault.Refused n w) stays grew cause = tt
+
+-- what was read past lines that were skipped, before the header and before a step
+pub near-header : (old mid : ReaderView) (left left' : Option (List ℕ)) (rest : List ℕ) (s : Skipped (opening old.most) old mid left rest)
+    → LineIsNear left' s.uses.rest' → HeaderIsNear old left' rest
+near-header old mid left left' rest s near =
+    let there = near-after (opening old.most) (λ o. (k : ℕ) × (o ≡ EndedAt k)) (λ n. (n, refl)) (opening-front old.most) old mid left left' rest s near in
+    (there.0, there.1, there.2.0, there.2.1)
+
+pub near-step : {I : Type 0} (f : List ℕ → Option I) (old mid : ReaderView) (left left' : Option (List ℕ)) (rest : List ℕ)
+    (s : Skipped (λ n ls. script old.most f n old.events ls) old mid left rest) → LineIsNear left' s.uses.rest' → StepIsNear f old left' rest
+near-step f old mid left left' rest s near =
+    near-after (λ n ls. script old.most f n old.events ls) (λ sc. sc ≡ no_steps) (λ n. refl) (λ n ls ms is. script-front old.most f n old.events ls ms is)
+    old mid left left' rest s near
 
 module _ (old mid new : ReaderView) (left left' : Option (List ℕ)) (rest : List ℕ) (most : mid.most ≡ old.most) where
   -- what is known of a line that was read: its number, and that it is allowed

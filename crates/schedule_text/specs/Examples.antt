@@ -7,7 +7,7 @@ use Rattle.vst_base.specs.declared.lock.LockInput.{LockInput}
 use Rattle.vst_base.specs.declared.net.Net.TheVariants as net
 use Rattle.vst_base.specs.declared.stack.StackId.TheVariants as stack
 use Rattle.vst_base.specs.declared.step.Step.{Step}
-use Rattle.schedule_text.specs.Streams.{ReadsHeader, ReadsStep}
+use Rattle.schedule_text.specs.Streams.{HeaderIsNear, ReadsHeader, ReadsStep, StepIsNear}
 use Rattle.schedule_text.specs.declared.header.Header.{Header}
 
 -- so many lines were read, the last of them this, with so many events, and nothing is ahead
@@ -23,3 +23,10 @@ opens text new left r = ReadsHeader (fresh 2000000) new left text r
 
 abbrev pub steps : List ℕ → ReaderView → Option (List ℕ) → Result (Step LockInput) LineFault → Type 0
 steps text new left r = ReadsStep input_of (reader 1 (codes "schedule 1 bag lock 2") 0) new left text r
+
+-- how far was read past skipped lines of a text, before its header and after it
+abbrev pub header_near : List ℕ → Option (List ℕ) → Type 0
+header_near text left = HeaderIsNear (fresh 2000000) left text
+
+abbrev pub step_near : List ℕ → Option (List ℕ) → Type 0
+step_near text left = StepIsNear input_of (reader 1 (codes "schedule 1 bag lock 2") 0) left text

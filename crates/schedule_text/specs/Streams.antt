@@ -3,7 +3,7 @@ use Rattle.std.specs.Prelude.{◌≡◌, ℕ, ◌+◌, List, [], Option, Some, R
 use Rattle.vst_base.specs.declared.step.Step.{Step}
 use Rattle.line_reader.specs.Lines.{lines_of, whole_lines}
 use Rattle.line_reader.specs.Readers.{ReaderView}
-use Rattle.line_reader.specs.Outcomes.{Uses, EndsAll, StandsAt, BreaksOff}
+use Rattle.line_reader.specs.Outcomes.{Uses, EndsAll, StandsAt, BreaksOff, ReadsPast}
 use Rattle.line_reader.specs.declared.fault.LineFault.{LineFault}
 use Rattle.line_reader.specs.declared.fault.LineFault.TheVariants as fault
 use Rattle.line_reader.specs.declared.why.Why.TheVariants as why
@@ -43,3 +43,12 @@ ReadsStep f old new left' rest (Err fault.Read) =
     (part : List ℕ) × BreaksOff left' rest part × (script old.most f (old.number + 1) old.events (whole_lines part) ≡ no_steps)
 ReadsStep f old new left' rest (Err fault.Write) = ⊥
 ReadsStep f old new left' rest (Err fault.Memory) = Unit {0}
+
+-- at most 4,096 bytes were read past a part whose whole lines are all skipped: before the header, or before the next step
+abbrev pub HeaderIsNear : ReaderView → Option (List ℕ) → List ℕ → Type 0
+HeaderIsNear old left' rest =
+    (early : List ℕ) × ReadsPast left' rest early × (number : ℕ) × (opening old.most (old.number + 1) (whole_lines early) ≡ EndedAt number)
+
+abbrev pub StepIsNear : {I : Type 0} → (List ℕ → Option I) → ReaderView → Option (List ℕ) → List ℕ → Type 0
+StepIsNear f old left' rest =
+    (early : List ℕ) × ReadsPast left' rest early × (script old.most f (old.number + 1) old.events (whole_lines early) ≡ no_steps)

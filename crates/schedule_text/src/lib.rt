@@ -31,7 +31,7 @@ pub use line_reader::{LineFault, MAX_LINE, NEWLINE, Reader, Why, next_line};
 pub use parts::SPACE;
 pub use printing::{Printed, push_refusal};
 pub use reading::{MAX_LINES, line_says};
-pub use reading_examples::{worked_nexts, worked_openings};
+pub use reading_examples::{worked_nearness, worked_nexts, worked_openings};
 pub use sinks::{print_lines, print_step, print_text, print_trace};
 pub use skips::is_skipped;
 pub use streams::{read_header, read_step};

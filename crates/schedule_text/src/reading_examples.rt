@@ -1,5 +1,5 @@
-ghost use Rattle.std.specs.Prelude.{[], Err, Ok, Some, codes};
-ghost use Rattle.schedule_text.specs.Examples.{header, opens, reader, steps};
+ghost use Rattle.std.specs.Prelude.{[], ◌++◌, Err, None, Ok, Some, codes, replicate};
+ghost use Rattle.schedule_text.specs.Examples.{header, header_near, opens, reader, step_near, steps};
 
 use line_reader::LineFault;
 use vst_base::{LockInput, Step};
@@ -22,4 +22,14 @@ pub fn worked_nexts()
     ensures broke_off { steps (codes "tick 0\n") (reader 1 (codes "tick") 0) (Some (codes " 0\n")) (Err LineFault.Read) }
     ensures the_end_before_it { steps (codes "tick 0\n") (reader 1 [] 0) (Some []) (Err LineFault.End) → ⊥ }
     ensures nothing_is_written { steps (codes "tick 0\n") (reader 1 [] 0) (Some []) (Err LineFault.Write) → ⊥ }
+{}
+
+/// How far past skipped lines was read: no more than 4,096 bytes, and not past the header or a step too.
+pub fn worked_nearness()
+    ensures before_the_header { header_near (codes "#\n" ++ replicate 4096 35) (Some []) }
+    ensures past_the_header { header_near (codes "schedule 1 bag lock 2\n" ++ replicate 4096 35) (Some []) → ⊥ }
+    ensures header_untold { header_near (codes "#\n") None → ⊥ }
+    ensures before_a_step { step_near (codes "#\n" ++ replicate 4096 35) (Some []) }
+    ensures past_a_step { step_near (codes "tick 0\n" ++ replicate 4096 35) (Some []) → ⊥ }
+    ensures step_untold { step_near (codes "#\n") None → ⊥ }
 {}

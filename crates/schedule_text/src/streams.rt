@@ -1,10 +1,10 @@
-ghost use Rattle.std.specs.Prelude.{◌≡◌, ◌≢◌, ◌+◌, ◌<◌, ◌≤◌, ℕ, true, List, Some, Err, IfErr, IfOk, OnErr, OnOk};
+ghost use Rattle.std.specs.Prelude.{◌≡◌, ◌≢◌, ◌+◌, ◌<◌, ◌≤◌, ℕ, true, List, length, Some, Err, IfErr, IfOk, OnErr, OnOk};
 ghost use Rattle.line_reader.specs.Outcomes.{HasReadCause};
 ghost use Rattle.line_reader.specs.Readers.{HasRest};
 ghost use Rattle.schedule_text.specs.Headers.{header_of};
 ghost use Rattle.schedule_text.specs.Lines.{tells_next};
 ghost use Rattle.schedule_text.specs.Reading.{step_of};
-ghost use Rattle.schedule_text.specs.Streams.{ReadsHeader, ReadsStep, header_fault};
+ghost use Rattle.schedule_text.specs.Streams.{HeaderIsNear, ReadsHeader, ReadsStep, StepIsNear, header_fault};
 ghost use Rattle.vst_base.specs.declared.step.TheConstants.{MAX_STEPS};
 
 use crate::headers::header_of;
@@ -28,10 +28,13 @@ fn header_fault(reader: &Reader, fault: LineFault) -> LineFault
 }
 
 /// Reads the header: the first line that is not skipped. A text without one is refused at the line after its last, so
-/// `End` never comes.
+/// `End` never comes. Whatever comes, at most 4,096 bytes were read past lines that are skipped.
 pub fn read_header<S: Source>(reader: &mut Reader, source: &mut S) -> Result<Header, LineFault>
     ensures told { (rest : List ℕ) → HasRest reader.old (S.left source.old) rest
         → ReadsHeader reader.old reader.new (S.left source.new) rest result }
+    ensures near { (rest : List ℕ) → HasRest reader.old (S.left source.old) rest
+        → HeaderIsNear reader.old (S.left source.new) rest }
+    ensures few { length reader.new.ahead ≤ 4096 }
     ensures header { IfOk result (λ h. header_of reader.new.line ≡ Some h) }
     ensures number { OnOk result ((reader.old.number < reader.new.number) × (reader.new.number ≤ reader.new.most)) }
     ensures headed { result ≢ Err LineFault.End }
@@ -56,7 +59,7 @@ pub fn read_header<S: Source>(reader: &mut Reader, source: &mut S) -> Result<Hea
 }
 
 /// Reads the next step after the header, and counts it as an event. Lines that are skipped before it are used. `End`
-/// comes exactly where only such lines are left.
+/// comes exactly where only such lines are left. Whatever comes, at most 4,096 bytes were read past those lines.
 pub fn read_step<A: AppText, S: Source>(
     alloc: Global,
     reader: &mut Reader,
@@ -64,7 +67,10 @@ pub fn read_step<A: AppText, S: Source>(
 ) -> Result<Step<A::Input>, LineFault>
     ensures told { (rest : List ℕ) → HasRest reader.old (S.left source.old) rest
         → ReadsStep A.input_of reader.old reader.new (S.left source.new) rest result }
+    ensures near { (rest : List ℕ) → HasRest reader.old (S.left source.old) rest
+        → StepIsNear A.input_of reader.old (S.left source.new) rest }
     ensures ahead { tells_next reader.old.ahead ≡ true → result ≢ Err LineFault.Read }
+    ensures unread { tells_next reader.old.ahead ≡ true → source.new ≡ source.old }
     ensures step { IfOk result (λ s. step_of A.input_of reader.new.line ≡ Some s) }
     ensures number { OnOk result ((reader.old.number < reader.new.number) × (reader.new.number ≤ reader.new.most)) }
     ensures events { OnOk result ((reader.new.events ≡ reader.old.events + 1) × (reader.new.events ≤ MAX_STEPS))

@@ -1,7 +1,7 @@
 use Rattle.std.proofs.Common.{◌+◌, Err, ap, ◌∙◌, sym, arith}
 use Rattle.schedule_text.specs.Lines.{is_skipped}
 use Rattle.schedule_text.specs.Headers.{header_of}
-use Rattle.schedule_text.proofs.Streaming.{cause-before, header-cause, header-no-end, header-other, header-failed, header-read, header-missing, header-skips}
+use Rattle.schedule_text.proofs.Streaming.{cause-before, header-cause, header-no-end, header-other, header-failed, header-read, header-missing, header-skips, near-header}
 use Rattle.schedule_text.proofs.streams.read_header.Goals as goal
 
 pub returns-in-Err : goal.returns-in-Err
@@ -13,6 +13,11 @@ returns-in-Err g c =
           let s = inv.told rest has in
           header-failed c.args.reader.now c.loop-fault.reader new (g.S.Source.left c.loop-fault.source) (g.S.Source.left c.next_line.new.source) rest inv.most s
           (Unit {0}) c.in-Err.fault _ _ c.in-Err.ensures.still c.in-Err.ensures.fault (c.in-Err.ensures.told s.uses.rest' s.uses.left);
+      near = λ rest has.
+          let s = inv.told rest has in
+          near-header c.args.reader.now c.loop-fault.reader (g.S.Source.left c.loop-fault.source) (g.S.Source.left c.next_line.new.source) rest s
+          (c.next_line.ensures.near s.uses.rest' s.uses.left);
+      few = c.next_line.ensures.few;
       header = tt;
       number = tt;
       headed = λ e. header-no-end (new.number + 1) c.in-Err.fault cc;
@@ -60,3 +65,15 @@ loop-fault-preserved g c =
       stays = λ is. c.next_line.ensures.stays (inv.stays is);
       quiet = c.in-Ok.ensures.quiet (λ e. cc) ∙ inv.quiet;
     }
+
+pub returns-in-Some-clause-near : goal.returns-in-Some-clause-near
+returns-in-Some-clause-near g c = λ rest has.
+    let s = c.loop-fault.invariant.told rest has in
+    near-header c.args.reader.now c.loop-fault.reader (g.S.Source.left c.loop-fault.source) (g.S.Source.left c.next_line.new.source) rest s
+    (c.next_line.ensures.near s.uses.rest' s.uses.left)
+
+pub returns-in-None-clause-near : goal.returns-in-None-clause-near
+returns-in-None-clause-near g c = λ rest has.
+    let s = c.loop-fault.invariant.told rest has in
+    near-header c.args.reader.now c.loop-fault.reader (g.S.Source.left c.loop-fault.source) (g.S.Source.left c.next_line.new.source) rest s
+    (c.next_line.ensures.near s.uses.rest' s.uses.left)

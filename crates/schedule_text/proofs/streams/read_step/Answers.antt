@@ -1,5 +1,5 @@
-use Rattle.std.proofs.Common.{◌≡◌, ◌+◌, Err, refl, ap, ◌∙◌, arith}
-use Rattle.line_reader.specs.Cuts.{cut_at}
+use Rattle.std.proofs.Common.{◌≡◌, ◌+◌, Err, is_some, refl, ap, ◌∙◌, arith}
+use Rattle.line_reader.specs.Cuts.{cut_at, has_cut}
 use Rattle.line_reader.specs.declared.fault.LineFault.TheVariants as fault
 use Rattle.schedule_text.specs.Lines.{is_skipped}
 use Rattle.std.proofs.lemmas.Result.{err_from_is_err_and}
@@ -7,7 +7,7 @@ use Rattle.line_reader.specs.Readers.{ReaderView}
 use Rattle.schedule_text.specs.Schedules.{script}
 use Rattle.schedule_text.specs.Reading.{step_of}
 use Rattle.schedule_text.proofs.Skipping.{skipped-none}
-use Rattle.schedule_text.proofs.Streaming.{not-skips, told-cut, says-step, step-failed, step-skips, step-refused, step-read, read-counted}
+use Rattle.schedule_text.proofs.Streaming.{near-step, not-skips, told-cut, says-step, step-failed, step-skips, step-refused, step-read, read-counted}
 use Rattle.schedule_text.proofs.streams.read_step.Goals as goal
 
 pub loop-reader-init : goal.loop-reader-init
@@ -21,6 +21,7 @@ loop-reader-init g c =
       stays = λ is. is;
       quiet = refl;
       first = λ is. refl;
+      unread = λ is. refl;
     }
 
 pub returns-in_err-next_line-clause-told : goal.returns-in_err-next_line-clause-told
@@ -58,6 +59,11 @@ loop-reader-preserved g c =
       stays = λ is. c.next_line.ensures.stays (inv.stays is);
       quiet = c.in_ok-next_line.ensures.quiet (λ e. cc) ∙ inv.quiet;
       first = λ is.
+          let told = told-cut (cut_at 10 c.args.reader.now.ahead) is in
+          let read = c.next_line.ensures.ahead told.0 (ap (λ (v : ReaderView). cut_at 10 v.ahead) (inv.first is) ∙ told.1) in
+          let line = rw c.in_ok-next_line.was at read.1 in
+          absurd (not-skips f c.args.reader.now.events new.line (ap is_skipped line ∙ told.2) said);
+      unread = λ is.
           let told = told-cut (cut_at 10 c.args.reader.now.ahead) is in
           let read = c.next_line.ensures.ahead told.0 (ap (λ (v : ReaderView). cut_at 10 v.ahead) (inv.first is) ∙ told.1) in
           let line = rw c.in_ok-next_line.was at read.1 in
@@ -106,3 +112,55 @@ returns-in-Refused-clause-told g c = λ rest has.
     let reads = c.in_ok-next_line.ensures.told s.uses.rest' s.uses.left in
     rw c.refuse.ensures (step-refused f c.args.reader.now c.loop-reader.reader new (g.S.Source.left c.loop-reader.source) (g.S.Source.left c.next_line.new.source) rest inv.most s
     reads.0 reads.1 reads.3 reads.2 reads.4 (c.next_line.ensures.kept.0 ∙ inv.most) c.in-Refused.why said)
+
+pub returns-in_err-next_line-clause-near : goal.returns-in_err-next_line-clause-near
+returns-in_err-next_line-clause-near g c = λ rest has.
+    let inv = c.loop-reader.invariant in
+    let s = inv.told rest has in
+    near-step g.A.AppText.input_of c.args.reader.now c.loop-reader.reader (g.S.Source.left c.loop-reader.source) (g.S.Source.left c.next_line.new.source) rest s
+    (c.next_line.ensures.near s.uses.rest' s.uses.left)
+
+pub returns-in_err-next_line-clause-unread : goal.returns-in_err-next_line-clause-unread
+returns-in_err-next_line-clause-unread g c = λ is.
+    let inv = c.loop-reader.invariant in
+    let told = told-cut (cut_at 10 c.args.reader.now.ahead) is in
+    c.next_line.ensures.unread (ap (λ (v : ReaderView). has_cut 10 v.ahead) (inv.first is) ∙ ap is_some told.1) ∙ inv.unread is
+
+pub returns-in_err-line_says-clause-near : goal.returns-in_err-line_says-clause-near
+returns-in_err-line_says-clause-near g c = λ rest has.
+    let inv = c.loop-reader.invariant in
+    let s = inv.told rest has in
+    near-step g.A.AppText.input_of c.args.reader.now c.loop-reader.reader (g.S.Source.left c.loop-reader.source) (g.S.Source.left c.next_line.new.source) rest s
+    (c.next_line.ensures.near s.uses.rest' s.uses.left)
+
+pub returns-in_err-line_says-clause-unread : goal.returns-in_err-line_says-clause-unread
+returns-in_err-line_says-clause-unread g c = λ is.
+    let inv = c.loop-reader.invariant in
+    let told = told-cut (cut_at 10 c.args.reader.now.ahead) is in
+    c.next_line.ensures.unread (ap (λ (v : ReaderView). has_cut 10 v.ahead) (inv.first is) ∙ ap is_some told.1) ∙ inv.unread is
+
+pub returns-in-IsStep-clause-near : goal.returns-in-IsStep-clause-near
+returns-in-IsStep-clause-near g c = λ rest has.
+    let inv = c.loop-reader.invariant in
+    let s = inv.told rest has in
+    near-step g.A.AppText.input_of c.args.reader.now c.loop-reader.reader (g.S.Source.left c.loop-reader.source) (g.S.Source.left c.next_line.new.source) rest s
+    (c.next_line.ensures.near s.uses.rest' s.uses.left)
+
+pub returns-in-IsStep-clause-unread : goal.returns-in-IsStep-clause-unread
+returns-in-IsStep-clause-unread g c = λ is.
+    let inv = c.loop-reader.invariant in
+    let told = told-cut (cut_at 10 c.args.reader.now.ahead) is in
+    c.next_line.ensures.unread (ap (λ (v : ReaderView). has_cut 10 v.ahead) (inv.first is) ∙ ap is_some told.1) ∙ inv.unread is
+
+pub returns-in-Refused-clause-near : goal.returns-in-Refused-clause-near
+returns-in-Refused-clause-near g c = λ rest has.
+    let inv = c.loop-reader.invariant in
+    let s = inv.told rest has in
+    near-step g.A.AppText.input_of c.args.reader.now c.loop-reader.reader (g.S.Source.left c.loop-reader.source) (g.S.Source.left c.next_line.new.source) rest s
+    (c.next_line.ensures.near s.uses.rest' s.uses.left)
+
+pub returns-in-Refused-clause-unread : goal.returns-in-Refused-clause-unread
+returns-in-Refused-clause-unread g c = λ is.
+    let inv = c.loop-reader.invariant in
+    let told = told-cut (cut_at 10 c.args.reader.now.ahead) is in
+    c.next_line.ensures.unread (ap (λ (v : ReaderView). has_cut 10 v.ahead) (inv.first is) ∙ ap is_some told.1) ∙ inv.unread is

@@ -19,6 +19,7 @@ invariant-loop-reader g l =
       stays : l.fn.reader.ended ≡ true → l.reader.ended ≡ true;
       quiet : s.faults l.source ≡ s.faults l.fn.source;
       first : tells_next l.fn.reader.ahead ≡ true → l.reader ≡ l.fn.reader;
+      unread : tells_next l.fn.reader.ahead ≡ true → l.source ≡ l.fn.source;
     }
 
 abbrev pub decreases-loop-reader : goal.decreases-loop-reader
