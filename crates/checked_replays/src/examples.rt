@@ -6,6 +6,7 @@ ghost use Rattle.schedule_replay.specs.Replays.{replayed};
 ghost use Rattle.stacks.specs.Checks.{checked};
 ghost use Rattle.claim_verdicts.specs.declared.verdict.Verdict.TheVariants.{Yes};
 ghost use Rattle.vst_base.specs.declared.stack.StackId.TheVariants as stack;
+ghost use Rattle.schedule_text.specs.ExampleTexts.{handover, idle};
 
 /// Worked schedules, each of which is replayed, and checked again; and what is within the limits of a check.
 pub fn worked()
@@ -18,10 +19,10 @@ pub fn worked()
     ensures any_lines { (out : List ℕ) → IsWithinLimits stack.Lock out }
     ensures most_lines { (out : List ℕ) → length (lines_of out) ≡ 8000000 → IsWithinLimits stack.KvRaft out }
     ensures too_many_lines { (out : List ℕ) → length (lines_of out) ≡ 8000001 → IsWithinLimits stack.KvRaft out → ⊥ }
-    ensures lock { checked stack.Lock (replayed (codes "schedule 1 bag lock 2\nin 1 lock\ndeliver 0\ndeliver 1\n")).out ≡ Ok Yes }
+    ensures lock { checked stack.Lock (replayed handover).out ≡ Ok Yes }
     ensures copied { checked stack.LockSeq (replayed (codes "schedule 1 dup lock/seq 2\nin 1 lock\ndup 0\n")).out ≡ Ok Yes }
     ensures held { checked stack.Table (replayed (codes "schedule 1 one table 1\nin 0 acquire l bob\nin 0 release l al\n")).out ≡ Ok Yes }
     ensures nothing_happens { checked stack.KvRaft (replayed (codes "schedule 1 fail kv/raft 3\n")).out ≡ Ok Yes }
     ensures refused_step { checked stack.Lock (replayed (codes "schedule 1 bag lock 2\nin 1 lock\ndeliver 7\n")).out ≡ Err (2, Header) }
-    ensures another_stack { checked stack.Kv (replayed (codes "schedule 1 bag lock 2\n")).out ≡ Err (2, Header) }
+    ensures another_stack { checked stack.Kv (replayed idle).out ≡ Err (2, Header) }
 {}

@@ -6,6 +6,7 @@ ghost use Rattle.text_commands.specs.Examples.{err_failed, err_wanted, out_faile
 ghost use Rattle.drawn_schedules.specs.Drawing.{DrawsTo, IsItsRefusal, Writes};
 ghost use Rattle.drawn_schedules.specs.Endings.{EndsAs};
 ghost use Rattle.drawn_schedules.specs.Examples.{refused_text, sink, taken_text, untold};
+ghost use Rattle.schedule_text.specs.ExampleTexts.{idle, unsent};
 
 use line_reader::Why;
 use schedule_replay::ReplayFault;
@@ -13,7 +14,7 @@ use schedule_replay::ReplayFault;
 /// What drawing a text comes to: it is drawn, or the first line that a replay refuses is named, with the cause.
 pub fn worked_drawing()
     ensures drawn { DrawsTo taken_text (Ok tt) }
-    ensures drawn_without_a_step { DrawsTo (codes "schedule 1 bag lock 2\n") (Ok tt) }
+    ensures drawn_without_a_step { DrawsTo idle (Ok tt) }
     ensures a_refused_step_drawn { ¬ DrawsTo refused_text (Ok tt) }
     ensures a_refused_input_drawn { ¬ DrawsTo (codes "schedule 1 bag lock 2\nin 1 grab\n") (Ok tt) }
     ensures nothing_drawn { ¬ DrawsTo [] (Ok tt) }
@@ -26,7 +27,7 @@ pub fn worked_drawing()
     ensures memory { DrawsTo taken_text (Err ReplayFault.Memory) }
 
     ensures its_refusal { IsItsRefusal (replayed refused_text) (ReplayFault.Refused 3 Why.NoCopy) }
-    ensures another_text { ¬ IsItsRefusal (replayed (codes "schedule 1 bag lock 2\ndeliver 7\n")) (ReplayFault.Refused 3 Why.NoCopy) }
+    ensures another_text { ¬ IsItsRefusal (replayed unsent) (ReplayFault.Refused 3 Why.NoCopy) }
     ensures no_refusal { ¬ IsItsRefusal (replayed taken_text) (ReplayFault.Refused 1 Why.Header) }
     ensures a_read_of_a_refused_text { IsItsRefusal (replayed refused_text) ReplayFault.Read }
     ensures a_write_of_a_refused_text { IsItsRefusal (replayed refused_text) ReplayFault.Write }

@@ -5,6 +5,7 @@ ghost use Rattle.permitted_claims.specs.Spelled.{HasInputText, HasOutputText};
 ghost use Rattle.stacks.specs.Checks.{IsNotPermitted, IsPermitted};
 ghost use Rattle.stacks.specs.Table.{kv_texts};
 ghost use Rattle.vst_base.specs.declared.stack.StackId.TheVariants as stack;
+ghost use Rattle.schedule_text.specs.ExampleTexts.{handover_claim, mistaken_put_claim};
 
 use crate::permitted_claims_are_explained;
 
@@ -18,11 +19,11 @@ pub fn worked()
     ensures in_order { IsPermitted stack.KvRaft (codes "in 0 7 1 put a x\nout 0 reply 7 1 a =x -\nbelow\norder 7 1 put a x\n") }
     ensures not_in_the_order { IsPermitted stack.KvRaft (codes "in 0 7 1 put a x\nout 0 reply 7 1 a =x -\nbelow\n") → ⊥ }
     ensures no_image { IsPermitted stack.KvRaft (codes "in 0 7 1 put a x\n") → ⊥ }
-    ensures locked { IsPermitted stack.Lock (codes "in 1 lock\nout 1 locked\nbelow\nschedule 1 bag lock 2\nin 1 lock\ndeliver 0\ndeliver 1\n") }
+    ensures locked { IsPermitted stack.Lock handover_claim }
     ensures locked_too_early { IsPermitted stack.Lock (codes "in 1 lock\nout 1 locked\nbelow\nschedule 1 bag lock 2\nin 1 lock\ndeliver 0\n") → ⊥ }
     ensures refused_step { IsNotPermitted stack.LockSeq (codes "in 1 lock\nbelow\nschedule 1 bag lock 2\nin 1 lock\ndeliver 1\n") }
     ensures replied { IsPermitted stack.KvPb (codes "in 0 put a x\nout 0 a =x -\nin 1 get a\nout 1 redirect\nbelow\nschedule 1 one kv 1\nin 0 put a x\n") }
-    ensures another_reply { IsPermitted stack.KvPb (codes "in 0 put a x\nout 0 a =y -\nbelow\nschedule 1 one kv 1\nin 0 put a x\n") → ⊥ }
+    ensures another_reply { IsPermitted stack.KvPb mistaken_put_claim → ⊥ }
     ensures read_misses_the_write { IsNotPermitted stack.Kv (codes "in 0 put a x\nout 0 a =x -\nin 0 get a\nout 0 a - -\nbelow\nschedule 1 one kv 1\nin 0 put a x\nin 0 get a\n") }
 {
     permitted_claims_are_explained();

@@ -10,3 +10,4 @@ pub mod PartViews
 pub mod Streams
 pub mod Sending
 pub mod Examples
+pub mod ExampleTexts

@@ -1,6 +1,7 @@
 ghost use Rattle.std.specs.Prelude.{◌≡◌, Err, None, Ok, Some, codes};
 ghost use Rattle.line_reader.specs.Lines.{whole_lines};
 ghost use Rattle.stacks.specs.Checks.{checked, refused_so_far};
+ghost use Rattle.schedule_text.specs.ExampleTexts.{idle_claim};
 
 use crate::Verdict;
 use line_reader::Why;
@@ -13,7 +14,7 @@ pub fn worked_refusals()
     ensures no_header { checked StackId.Lock (codes "in 1 lock\nbelow\n") ≡ Err (3, Why.Header) }
     ensures no_order_at_all { checked StackId.KvRaft (codes "in 0 7 1 get a\n") ≡ Err (2, Why.Header) }
     ensures header_of_the_stack_itself { checked StackId.LockSeq (codes "below\nschedule 1 dup lock/seq 2\n") ≡ Err (2, Why.Header) }
-    ensures header_of_another_stack { checked StackId.KvPb (codes "below\nschedule 1 bag lock 2\n") ≡ Err (2, Why.Header) }
+    ensures header_of_another_stack { checked StackId.KvPb idle_claim ≡ Err (2, Why.Header) }
     ensures too_many_nodes { checked StackId.Lock (codes "below\nschedule 1 bag lock 10\n") ≡ Err (2, Why.Header) }
     ensures step_before_the_header { checked StackId.Lock (codes "below\nin 1 lock\n") ≡ Err (2, Why.Header) }
     ensures empty_line { checked StackId.Lock (codes "\nbelow\n") ≡ Err (1, Why.UnknownWord) }
