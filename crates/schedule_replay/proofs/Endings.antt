@@ -33,7 +33,7 @@ use Rattle.schedule_replay.specs.Playing.{TraceWritten, Halted}
 use Rattle.schedule_replay.proofs.Plays.{written-front}
 
 -- a script by what is taken of it and where it stops
-ended-at : {I O G : Type 0} (st : Play I O G) (whole : Bool) (sc : Script I) (ss : List (Step I)) (o : Option (ℕ × Why)) → taken st sc ≡ ss → stop st sc ≡ o → replayed_script st whole sc ≡ ended st whole ss o
+pub ended-at : {I O G : Type 0} (st : Play I O G) (whole : Bool) (sc : Script I) (ss : List (Step I)) (o : Option (ℕ × Why)) → taken st sc ≡ ss → stop st sc ≡ o → replayed_script st whole sc ≡ ended st whole ss o
 ended-at st whole sc ss o e f = rw (e, f) refl
 
 -- what was given of a rest, where a reader stands at the byte that decided a line

@@ -2,6 +2,8 @@ pub mod Counting
 pub mod Endings
 pub mod Explained
 pub mod Finishing
+pub mod Keeping
+pub mod KeptRows
 pub mod Openings
 pub mod Plays
 pub mod Scripts

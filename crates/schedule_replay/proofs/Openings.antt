@@ -1,6 +1,6 @@
 -- What a replay comes to, by how its text opens.
-use Rattle.std.specs.Prelude.{◌≡◌, ◌≢◌, ℕ, Bool, true, false, ◌+◌, ◌-◌, ◌≤◌, List, [], ◌++◌, length, Option, Some, None, IfSome, IfErr, Result, Ok, Err, refl}
-use Rattle.std.proofs.Common.{ap, ◌∙◌, sym, subst, append_assoc, arith, length-append}
+use Rattle.std.specs.Prelude.{◌≡◌, ◌≢◌, ◌⊎◌, ℕ, Bool, true, false, ◌+◌, ◌-◌, ◌≤◌, List, [], ◌++◌, length, Option, Some, None, IfSome, IfErr, Result, Ok, Err, refl}
+use Rattle.std.proofs.Common.{inl, inr, ap, ◌∙◌, sym, subst, append_assoc, arith, length-append}
 use Rattle.outside.specs.Wholes.{Gained, GainedFront}
 use Rattle.outside.proofs.Wholes.{gained-nothing}
 use Rattle.line_reader.specs.declared.why.Why.{Why}
@@ -8,13 +8,14 @@ use Rattle.line_reader.specs.declared.fault.LineFault.{LineFault}
 use Rattle.line_reader.specs.declared.fault.LineFault.TheVariants as line
 use Rattle.line_reader.specs.Lines.{lines_of, whole_lines, decided}
 use Rattle.line_reader.specs.Readers.{ReaderView, HasRest, fresh}
-use Rattle.line_reader.specs.Outcomes.{Uses, HasReadCause}
+use Rattle.line_reader.specs.Outcomes.{Uses, HasReadCause, ReadsPast}
 use Rattle.line_reader.proofs.Lining.{whole-append, last-append}
 use Rattle.line_reader.proofs.Using.{decided-after}
 use Rattle.schedule_text.specs.declared.header.Header.{Header}
 use Rattle.schedule_text.specs.Schedules.{Opening, Opened, RefusedAt, EndedAt, opening, opening_refusal}
-use Rattle.schedule_text.specs.Streams.{ReadsHeader}
+use Rattle.schedule_text.specs.Streams.{HeaderIsNear, ReadsHeader}
 use Rattle.schedule_text.proofs.ScheduleLaws.{opening_with, opening-append}
+use Rattle.schedule_text.proofs.Skipping.{past-after}
 use Rattle.schedule_replay.specs.declared.done.Done.{Done}
 use Rattle.schedule_replay.specs.declared.fault.ReplayFault.{ReplayFault}
 use Rattle.schedule_replay.specs.declared.fault.ReplayFault.TheVariants as fault
@@ -24,9 +25,11 @@ use Rattle.schedule_replay.specs.Replays.{most_lines, replayed_by, replayed_head
 use Rattle.stacks.specs.Stack.{Entry, Found, Here, IfFound, ImageTexts, Nowhere, Play, Texts, found_or, play_of}
 use Rattle.xform_stack.specs.Running.{System}
 use Rattle.line_reader.specs.declared.why.Why.TheVariants as why
-use Rattle.schedule_replay.specs.Outcomes.{HasGiven, ComesTo, HasFault, HasCause, KeepsSink, ReplaysRest}
+use Rattle.schedule_replay.specs.Outcomes.{HasGiven, ComesTo, HasFault, HasCause, KeepsSink, KeptUp, ReplaysRest}
 use Rattle.schedule_replay.proofs.Endings.{given-of}
 use Rattle.schedule_replay.proofs.Finishing.{front-none}
+use Rattle.schedule_replay.proofs.Keeping.{past-end}
+use Rattle.schedule_replay.proofs.Plays.{nothing-left}
 
 -- a text that is refused for its opening has no trace
 refused-opening : (o : Opening) (r : ℕ × Why) → opening_refusal o ≡ Some r → ((replayed_opening true o).refused ≡ Some r) × ((replayed_opening true o).out ≡ [])
@@ -70,6 +73,20 @@ header-fault old f f' w w' line.End cause = tt
 header-fault old f f' w w' line.Memory cause = tt
 header-fault old f f' w w' (line.Refused n x) cause = tt
 
+-- nothing was written of a text that was read up to its header
+pub kept-header : (left out : Option (List ℕ)) (bytes : List ℕ) → HeaderIsNear (fresh most_lines) left bytes → KeptUp replayed_so_far bytes left out out
+kept-header left out bytes (early, past, n, none) = record {
+  early = early;
+  past = past;
+  more = [];
+  written = subst (λ (o : Opening). Gained out out ((replayed_opening false o).out ++ [])) (sym none) (gained-nothing out);
+}
+
+-- before a byte of it was read
+pub kept-unread : (left out : Option (List ℕ)) (bytes : List ℕ) → left ≡ Some bytes → KeptUp replayed_so_far bytes left out out
+kept-unread left out bytes told =
+    kept-header left out bytes ([], record { late = []; others = bytes; left_is = told; whole = refl; few = omega arith }, 1, refl)
+
 -- what a text is by its header
 module _ (h : Header) (r : ReaderView) (most : r.most ≡ most_lines) (events : r.events ≡ 0) (used : List ℕ) (opens : opening most_lines 1 (lines_of used) ≡ Opened h (r.number + 1) []) where
   stack-same : (whole : Bool) (ls : List (List ℕ)) → replayed_header whole h most_lines (r.number + 1) 0 ls ≡ replayed_header whole h r.most (r.number + 1) r.events ls
@@ -95,6 +112,34 @@ module _ (h : Header) (r : ReaderView) (most : r.most ≡ most_lines) (events : 
 
     front-same : GainedFront out out' (rest_whole h r u.rest').out → GainedFront out out' (replayed bytes).out
     front-same front = subst (λ (x : Replayed). GainedFront out out' x.out) (sym whole-same) front
+
+    kept-then : (over : Bool) → r.ended ≡ over → HeaderIsNear (fresh most_lines) left bytes
+        → KeptUp (rest_so_far h r) u.rest' left' out out' → KeptUp replayed_so_far bytes left' out out'
+    kept-then false going near k = record {
+      early = used ++ k.early;
+      past = past-after (fresh most_lines) r left left' bytes used k.early u k.past;
+      more = k.more;
+      written = subst (λ (x : Replayed). Gained out out' (x.out ++ k.more)) (sym (so_far-same k.early going)) k.written;
+    }
+    kept-then true over (early, past, n, none) k =
+        let empty = u.left.at_end over in
+        let same : left' ≡ left = past-end left' u.rest' k.early k.past empty ∙ sym (nothing-left r left (subst (λ (xs : List ℕ). HasRest r left xs) empty u.left)) in
+        let more = (rest_so_far h r k.early).out ++ k.more in
+        record {
+          early = early;
+          past = subst (λ (l : Option (List ℕ)). ReadsPast l bytes early) (sym same) past;
+          more = more;
+          written = subst (λ (o : Opening). Gained out out' ((replayed_opening false o).out ++ more)) (sym none) k.written;
+        }
+
+    -- it was kept up with, by its header or by what stands after it
+    pub kept-all : HeaderIsNear (fresh most_lines) left bytes
+        → ((left' ≡ left) × (out' ≡ out)) ⊎ ((rest : List ℕ) → HasRest r left rest → KeptUp (rest_so_far h r) rest left' out out')
+        → KeptUp replayed_so_far bytes left' out out'
+    kept-all near (inl same) =
+        subst (λ (l : Option (List ℕ)). KeptUp replayed_so_far bytes l out out') (sym same.0)
+        (subst (λ (o : Option (List ℕ)). KeptUp replayed_so_far bytes left out o) (sym same.1) (kept-header left out bytes near))
+    kept-all near (inr kept) = kept-then r.ended refl near (kept u.rest' u.left)
 
     pub header-then : (result : Result Done ReplayFault) → (result ≡ Err fault.Read → r.ended ≡ false)
         → ComesTo (rest_whole h r) (rest_so_far h r) r.number u.rest' left' out out' result → ComesTo replayed replayed_so_far 0 bytes left' out out' result
@@ -155,6 +200,7 @@ going-of ended f f' w w' result cause is =
 pub record FoundRest (makes : Bool → List (List ℕ) → Replayed) (r : ReaderView) (left left' : Option (List ℕ)) (read read' : ℕ) (out out' : Option (List ℕ)) (write write' wants wants' : ℕ)
     (result : Result Done ReplayFault) : Type 0 where
   pub told : (rest : List ℕ) → HasRest r left rest → ComesTo (λ bs. makes true (lines_of bs)) (λ bs. makes false (whole_lines bs)) r.number rest left' out out' result
+  pub kept_up : ((left' ≡ left) × (out' ≡ out)) ⊎ ((rest : List ℕ) → HasRest r left rest → KeptUp (λ bs. makes false (whole_lines bs)) rest left' out out')
   pub reads_quiet : result ≢ Err fault.Read → read' ≡ read
   pub fault : IfErr result (HasCause r.ended read read' write write')
   pub quiet : KeepsSink write write' wants wants' result
@@ -167,7 +213,7 @@ pub found-comes : (found : Found Entry) (nodes : ℕ) (r : ReaderView) (left lef
     → FoundRest (λ whole ls. found_or (refused_at ((r.number + 1) - 1) why.Header) (λ e. replayed_by (e.of nodes).stack.play whole r.most (r.number + 1) r.events ls) found)
     r left left' read read' out out' write write' wants wants' result
 found-comes Nowhere nodes r left left' out out' read read' write write' wants wants' result none = absurd none
-found-comes (Here e) nodes r left left' out out' read read' write write' wants wants' result a = record { told = a.told; reads_quiet = a.reads_quiet; fault = a.fault; quiet = a.quiet; reads = a.reads; writes = a.writes }
+found-comes (Here e) nodes r left left' out out' read read' write write' wants wants' result a = record { told = a.told; kept_up = a.kept_up; reads_quiet = a.reads_quiet; fault = a.fault; quiet = a.quiet; reads = a.reads; writes = a.writes }
 
 -- how schedules of a stack play is known from what is run, the texts and the image
 pub same-play : {S K I O M G : Type 0} (p : Play I O G) (sys : System S K I O M G) (t : Texts I O) (i : ImageTexts G) → p ≡ play_of sys p.texts p.below → p.texts ≡ t → p.below ≡ i → play_of sys t i ≡ p

@@ -51,7 +51,7 @@ script_from f r ls = script r.most f (r.number + 1) r.events ls
 abbrev pub unnumbered : {I : Type 0} → List (ℕ × Step I) → List (Step I)
 unnumbered steps = map (λ p. p.1) steps
 
-abbrev text_of : {I O : Type 0} → Texts I O → List (Item I O) → List ℕ
+abbrev pub text_of : {I O : Type 0} → Texts I O → List (Item I O) → List ℕ
 text_of t items = trace_text t.input_text t.output_text items
 
 -- the lines that were used of a rest say these steps
@@ -195,7 +195,7 @@ module _ {I : Type 0} {f : List ℕ → Option I} {old now : ReaderView} {left' 
   rest-stops fault is = ap (script_from f old) r.uses.lines ∙ script-stops fault (lines_of r.uses.rest') is
 
   -- the whole lines of a part that a failed read broke off
-  part-stops : (part : List ℕ) → now.ended ≡ false → script_from f now (whole_lines part) ≡ no_steps
+  pub part-stops : (part : List ℕ) → now.ended ≡ false → script_from f now (whole_lines part) ≡ no_steps
       → script_from f old (whole_lines (r.used ++ part)) ≡ record { steps = steps; fault = None }
   part-stops part going is =
       ap (script_from f old) (whole-append r.used part (r.uses.closed going)) ∙ script-stops None (whole_lines part) is
@@ -226,7 +226,7 @@ module _ {I : Type 0} {f : List ℕ → Option I} {old now : ReaderView} {left' 
               ∙ ap (λ (done : List (ℕ × Step I)). prefixed done tail) (ap (λ (sc : Script I). sc.steps) read.3))),
         )
 
-nothing-left : (new : ReaderView) (left : Option (List ℕ)) → HasRest new left [] → left ≡ Some []
+pub nothing-left : (new : ReaderView) (left : Option (List ℕ)) → HasRest new left [] → left ≡ Some []
 nothing-left new left has = has.left_is ∙ ap Some (nothing-after new.ahead has.unread (sym has.rest_is)) where
   nothing-after : (xs ys : List ℕ) → xs ++ ys ≡ [] → ys ≡ []
   nothing-after [] ys e = e

@@ -9,9 +9,10 @@ use Rattle.xform_stack.specs.Running.{Progress}
 use Rattle.stacks.specs.Table.{lock_texts}
 use Rattle.schedule_replay.specs.declared.tally.Tally.{Tally}
 use Rattle.line_reader.specs.declared.why.Why.TheVariants as why
-use Rattle.schedule_replay.specs.Outcomes.{ComesTo}
+use Rattle.schedule_replay.specs.Outcomes.{ComesTo, KeptUp}
 use Rattle.schedule_replay.specs.Playing.{Writes}
 use Rattle.schedule_replay.specs.Replaying.{Replayed, no_counts}
+use Rattle.schedule_replay.specs.Replays.{replayed_so_far}
 use Rattle.schedule_replay.specs.declared.done.Done.{Done}
 use Rattle.schedule_replay.specs.declared.fault.ReplayFault.{ReplayFault}
 
@@ -49,3 +50,11 @@ stopped = record { out = codes "in 1 lock\n"; refused = Some (3, why.NoCopy); co
 abbrev pub comes_to : Replayed → List ℕ → List ℕ → Result Done ReplayFault → Type 0
 comes_to replayed left out r =
     ComesTo (λ _. replayed) (λ _. replayed) 1 (codes "in 1 lock\ntick 1\n") (Some left) (Some (codes "held\n")) (Some out) r
+
+-- a schedule of one input
+abbrev pub one_input : List ℕ
+one_input = codes "schedule 1 bag lock 2\nin 1 lock\n"
+
+-- that a replay of a text keeps up, with so much left of the source, by a sink that held nothing and has this now
+abbrev pub keeps_up : (text left out : List ℕ) → Type 0
+keeps_up text left out = KeptUp replayed_so_far text (Some left) (Some []) (Some out)

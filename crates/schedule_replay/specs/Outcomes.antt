@@ -1,6 +1,6 @@
 -- What a replay from a source to a sink comes to. It is said of the rest of a text, before which some lines stand, by what
 -- replay makes of a whole rest, and of the whole lines of one that broke off.
-use Rattle.std.specs.Prelude.{◌≡◌, ◌≢◌, ℕ, Bool, false, ◌+◌, ◌-◌, ◌<◌, ◌≤◌, List, [], ◌++◌, length, Option, Some, None, Result, Ok, Err, IfErr}
+use Rattle.std.specs.Prelude.{◌≡◌, ◌≢◌, ◌⊎◌, ℕ, Bool, false, ◌+◌, ◌-◌, ◌<◌, ◌≤◌, List, [], ◌++◌, length, Option, Some, None, Result, Ok, Err, IfErr}
 use Rattle.outside.specs.Counting.{Rose}
 use Rattle.outside.specs.Wholes.{Gained, GainedFront}
 use Rattle.line_reader.specs.declared.why.Why.{Why}
@@ -8,6 +8,7 @@ use Rattle.line_reader.specs.Lines.{decided, split_lines}
 use Rattle.schedule_replay.specs.declared.done.Done.{Done}
 use Rattle.schedule_replay.specs.declared.fault.ReplayFault.{ReplayFault}
 use Rattle.schedule_replay.specs.declared.fault.ReplayFault.TheVariants as fault
+use Rattle.line_reader.specs.Outcomes.{ReadsPast}
 use Rattle.line_reader.specs.Readers.{ReaderView, HasRest}
 use Rattle.stacks.specs.Stack.{Play}
 use Rattle.schedule_replay.specs.Replaying.{Replayed}
@@ -53,6 +54,14 @@ ComesTo whole so_far before rest left' out out' (Err (fault.Refused line why)) =
 ComesTo whole so_far before rest left' out out' (Err fault.Write) = GainedFront out out' (whole rest).out
 ComesTo whole so_far before rest left' out out' (Err fault.Memory) = GainedFront out out' (whole rest).out
 
+-- what was read is a part of the rest and at most 4,096 bytes more, and the sink gained what the whole lines of that part come to.
+-- It may have gained more
+pub record KeptUp (so_far : List ℕ → Replayed) (rest : List ℕ) (left' out out' : Option (List ℕ)) : Type 0 where
+  pub early : List ℕ
+  pub past : ReadsPast left' rest early
+  pub more : List ℕ
+  pub written : Gained out out' ((so_far early).out ++ more)
+
 -- a failed read or write has its fault
 abbrev pub HasFault : ℕ → ℕ → ℕ → ℕ → ReplayFault → Type 0
 HasFault read read' write write' fault.Read = Rose read read'
@@ -73,10 +82,12 @@ KeepsSink faults faults' wants wants' (Err (fault.Refused line why)) = (faults' 
 KeepsSink faults faults' wants wants' (Err fault.Write) = wants' ≡ wants
 KeepsSink faults faults' wants wants' (Err fault.Memory) = faults' ≡ faults
 
--- what replaying the rest of a text comes to, as schedules of a stack play
+-- what replaying the rest of a text comes to, as schedules of a stack play. Where the replay could not start, nothing was read or
+-- written
 pub record ReplaysRest {I O G : Type 0} (p : Play I O G) (r : ReaderView) (left left' : Option (List ℕ)) (read read' : ℕ)
     (out out' : Option (List ℕ)) (write write' wants wants' : ℕ) (result : Result Done ReplayFault) : Type 0 where
   pub told : (rest : List ℕ) → HasRest r left rest → ComesTo (stack_whole p r) (stack_so_far p r) r.number rest left' out out' result
+  pub kept_up : ((left' ≡ left) × (out' ≡ out)) ⊎ ((rest : List ℕ) → HasRest r left rest → KeptUp (stack_so_far p r) rest left' out out')
   pub reads_quiet : result ≢ Err fault.Read → read' ≡ read
   pub fault : IfErr result (HasCause r.ended read read' write write')
   pub quiet : KeepsSink write write' wants wants' result

@@ -6,17 +6,18 @@ ghost use Rattle.schedule_replay.specs.Playing.{Waits, is_failed_read};
 ghost use Rattle.schedule_replay.specs.Replays.{replayed, replayed_so_far};
 ghost use Rattle.schedule_replay.specs.declared.halt.Halt.TheVariants.{Read, Refused};
 ghost use Rattle.schedule_replay.specs.declared.tally.Tally.{Tally};
+ghost use Rattle.schedule_text.specs.ExampleTexts.{handover, handover_claim, idle, idle_claim, mistaken_put_claim, put, put_claim, unsent};
 
 use crate::replays_are_explained;
 
 /// Worked schedules of each stack: what is written, and which line is refused.
 pub fn worked()
     ensures handed_over { (replayed (codes "schedule 1 bag lock 2\nin 1 lock\ndeliver 0\ndeliver 1")).out
-        ≡ codes "in 1 lock\nout 1 locked\nbelow\nschedule 1 bag lock 2\nin 1 lock\ndeliver 0\ndeliver 1\n" }
-    ensures taken_whole { (replayed (codes "schedule 1 bag lock 2\nin 1 lock\ndeliver 0\ndeliver 1")).refused ≡ None }
-    ensures nothing_happens { (replayed (codes "schedule 1 bag lock 2\n")).out ≡ codes "below\nschedule 1 bag lock 2\n" }
-    ensures no_packet { (replayed (codes "schedule 1 bag lock 2\ndeliver 7\n")).refused ≡ Some (2, NoCopy) }
-    ensures no_packet_no_trace { (replayed (codes "schedule 1 bag lock 2\ndeliver 7\n")).out ≡ [] }
+        ≡ handover_claim }
+    ensures taken_whole { (replayed handover).refused ≡ None }
+    ensures nothing_happens { (replayed idle).out ≡ idle_claim }
+    ensures no_packet { (replayed unsent).refused ≡ Some (2, NoCopy) }
+    ensures no_packet_no_trace { (replayed unsent).out ≡ [] }
     ensures delivered_twice { (replayed (codes "schedule 1 bag lock 2\nin 1 lock\ndeliver 0\ndeliver 0\n")).refused ≡ Some (4, NoCopy) }
     ensures trace_before_it { (replayed (codes "schedule 1 bag lock 2\nin 1 lock\ndeliver 0\ndeliver 0\n")).out ≡ codes "in 1 lock\n" }
     ensures server_takes_no_input { (replayed (codes "schedule 1 bag lock 2\nin 0 lock\n")).refused ≡ Some (2, NoInputHere) }
@@ -31,7 +32,7 @@ pub fn worked()
     ensures one_node { (replayed (codes "schedule 1 bag lock 1\n")).refused ≡ Some (1, Header) }
     ensures ten_nodes { (replayed (codes "#\nschedule 1 bag lock 10\n")).refused ≡ Some (2, Header) }
     ensures only_comments { (replayed (codes "#\n#\n")).refused ≡ Some (3, Header) }
-    ensures counted { (replayed (codes "schedule 1 bag lock 2\nin 1 lock\ndeliver 0\ndeliver 1")).counts
+    ensures counted { (replayed handover).counts
         ≡ record { events = 3; inputs = 1; outputs = 1; replies = 1; image = 3 } }
     ensures comments_are_no_events { (replayed (codes "# two nodes\n\nschedule 1 bag lock 2\n# nothing\ndeliver 7\n")).refused ≡ Some (5, NoCopy) }
 
@@ -45,7 +46,7 @@ pub fn worked()
 
     // A copy does nothing; packets overtake one another; two senders have equal numbers.
     ensures copied { (replayed (codes "schedule 1 dup lock/seq 2\nin 1 lock\ndup 0\ndeliver 0\ndeliver 1\ndeliver 0\n")).out
-        ≡ codes "in 1 lock\nout 1 locked\nbelow\nschedule 1 bag lock 2\nin 1 lock\ndeliver 0\ndeliver 1\n" }
+        ≡ handover_claim }
     ensures copies_counted { (replayed (codes "schedule 1 dup lock/seq 2\nin 1 lock\ndup 0\ndeliver 0\ndeliver 1\ndeliver 0\n")).counts
         ≡ record { events = 5; inputs = 1; outputs = 1; replies = 1; image = 3 } }
     ensures late_first_delivery { (replayed (codes "schedule 1 dup lock/seq 2\nin 1 lock\nin 1 lock\ndeliver 1\ndeliver 0\ndeliver 2\nin 1 unlock\ndeliver 3\ndeliver 4\n")).out
@@ -101,13 +102,13 @@ pub fn worked()
 
 /// What a replay is: the text of a trace and an image that explains it, and no other text; none of a text that is refused.
 pub fn worked_replays()
-    ensures handed_over { IsReplay (codes "schedule 1 bag lock 2\nin 1 lock\ndeliver 0\ndeliver 1\n") (codes "in 1 lock\nout 1 locked\nbelow\nschedule 1 bag lock 2\nin 1 lock\ndeliver 0\ndeliver 1\n") }
-    ensures not_silent { ¬ IsReplay (codes "schedule 1 bag lock 2\nin 1 lock\ndeliver 0\ndeliver 1\n") (codes "below\nschedule 1 bag lock 2\nin 1 lock\ndeliver 0\ndeliver 1\n") }
-    ensures not_another_image { ¬ IsReplay (codes "schedule 1 bag lock 2\n") (codes "below\nschedule 1 bag lock 3\n") }
-    ensures not_without_an_image { ¬ IsReplay (codes "schedule 1 bag lock 2\n") [] }
-    ensures at_once { IsReplay (codes "schedule 1 one kv 1\nin 0 put a x\n") (codes "in 0 put a x\nout 0 a =x -\nbelow\nschedule 1 one kv 1\nin 0 put a x\n") }
-    ensures not_another_answer { ¬ IsReplay (codes "schedule 1 one kv 1\nin 0 put a x\n") (codes "in 0 put a x\nout 0 a =y -\nbelow\nschedule 1 one kv 1\nin 0 put a x\n") }
-    ensures acknowledged { IsReplay (codes "schedule 1 dup kv/pb/seq 2\nin 0 put a x\ndup 0\ndeliver 0\ndeliver 1\n") (codes "in 0 put a x\nout 0 a =x -\nbelow\nschedule 1 one kv 1\nin 0 put a x\n") }
+    ensures handed_over { IsReplay handover handover_claim }
+    ensures not_silent { ¬ IsReplay handover (codes "below\nschedule 1 bag lock 2\nin 1 lock\ndeliver 0\ndeliver 1\n") }
+    ensures not_another_image { ¬ IsReplay idle (codes "below\nschedule 1 bag lock 3\n") }
+    ensures not_without_an_image { ¬ IsReplay idle [] }
+    ensures at_once { IsReplay put put_claim }
+    ensures not_another_answer { ¬ IsReplay put mistaken_put_claim }
+    ensures acknowledged { IsReplay (codes "schedule 1 dup kv/pb/seq 2\nin 0 put a x\ndup 0\ndeliver 0\ndeliver 1\n") put_claim }
     ensures not_without_its_command { ¬ IsReplay (codes "schedule 1 dup kv/pb/seq 2\nin 0 put a x\ndup 0\ndeliver 0\ndeliver 1\n") (codes "in 0 put a x\nout 0 a =x -\nbelow\nschedule 1 one kv 1\n") }
     ensures not_of_a_refused_step { (text : List ℕ) → ¬ IsReplay (codes "schedule 1 bag lock 2\nin 1 lock\ndeliver 7\n") text }
     ensures not_of_a_refused_line { (text : List ℕ) → ¬ IsReplay (codes "schedule 1 bag lock 2\nin 1 grab\n") text }

@@ -22,5 +22,5 @@ pub use done::Done;
 pub use examples::{worked, worked_playing, worked_replays};
 pub use fault::ReplayFault;
 pub use laws::replays_are_explained;
-pub use outcome_examples::{worked_causes, worked_outcomes};
+pub use outcome_examples::{worked_causes, worked_keeping, worked_outcomes};
 pub use stream::replay;

@@ -1,5 +1,5 @@
-ghost use Rattle.std.specs.Prelude.{[], Err, Ok, codes, false, true};
-ghost use Rattle.schedule_replay.specs.Examples.{comes_to, stopped, taken, two_steps};
+ghost use Rattle.std.specs.Prelude.{[], ◌++◌, Err, Ok, codes, false, replicate, true};
+ghost use Rattle.schedule_replay.specs.Examples.{comes_to, keeps_up, one_input, stopped, taken, two_steps};
 ghost use Rattle.schedule_replay.specs.Outcomes.{HasCause, KeepsSink};
 ghost use Rattle.schedule_replay.specs.Replaying.{no_counts};
 
@@ -38,4 +38,15 @@ pub fn worked_causes()
     ensures read_with_a_fault { KeepsSink 5 6 7 7 (Err ReplayFault.Read) → ⊥ }
     ensures refused_with_a_fault { KeepsSink 5 6 7 7 (Err (ReplayFault.Refused 3 Why.NoCopy)) → ⊥ }
     ensures refused_with_a_want { KeepsSink 5 5 7 8 (Err (ReplayFault.Refused 3 Why.NoCopy)) → ⊥ }
+{}
+
+/// How far a replay keeps up with what it was given: of the last 4,096 bytes nothing need be written, and of all before them the trace.
+pub fn worked_keeping()
+    ensures a_buffer { keeps_up one_input [] [] }
+    ensures ahead_of_a_buffer { keeps_up one_input [] (codes "in 1 lock\n") }
+    ensures more_than_a_buffer { keeps_up (one_input ++ replicate 4096 35) [] (codes "in 1 lock\n") }
+    ensures nothing_of_it { keeps_up (one_input ++ replicate 4096 35) [] [] → ⊥ }
+    ensures a_front_of_it { keeps_up (one_input ++ replicate 4096 35) [] (codes "in 1") → ⊥ }
+    ensures nothing_of_it_while_some_is_left { keeps_up (one_input ++ replicate 4096 35 ++ codes "\n") (codes "\n") [] → ⊥ }
+    ensures another_left { keeps_up one_input (codes "#") [] → ⊥ }
 {}

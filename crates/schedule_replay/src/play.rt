@@ -6,8 +6,10 @@ ghost use Rattle.outside.specs.Wholes.{GainedFront};
 ghost use Rattle.schedule_text.specs.Schedules.{script};
 ghost use Rattle.schedule_text.specs.Sending.{HasWriteCause};
 ghost use Rattle.xform_stack.specs.Running.{HasRun};
+ghost use Rattle.schedule_replay.specs.Outcomes.{KeptUp};
 ghost use Rattle.schedule_replay.specs.Playing.{Halted};
 ghost use Rattle.schedule_replay.specs.Replaying.{replayed_script};
+ghost use Rattle.schedule_replay.specs.Replays.{stack_so_far};
 ghost use Rattle.stacks.specs.Stack.{ImageTexts, play_of, texts_of};
 
 use crate::halt::Halt;
@@ -41,6 +43,9 @@ pub(crate) fn play<R: Runs, A: AppText<Input = R::Input, Output = R::Output>, S:
         → GainedFront (K.written sink.old) (K.written sink.new)
         (replayed_script (play_of (R.system running.old) (texts_of A.input_of A.input_text A.output_of A.output_text A.replies) i) true
         (script reader.old.most A.input_of (reader.old.number + 1) reader.old.events (lines_of rest))).out) }
+    ensures kept_up { (i : ImageTexts R.Line) (rest : List ℕ) → HasRest reader.old (S.left source.old) rest → KeptUp
+        (stack_so_far (play_of (R.system running.old) (texts_of A.input_of A.input_text A.output_of A.output_text A.replies) i) reader.old)
+        rest (S.left source.new) (K.written sink.old) (K.written sink.new) }
     ensures fault { IfErr result (HasWriteCause (K.faults sink.old) (K.faults sink.new)) }
     ensures read { result ≡ Ok Halt.Read → Rose (S.faults source.old) (S.faults source.new) }
     ensures going { result ≡ Ok Halt.Read → reader.old.ended ≡ false }

@@ -1,7 +1,7 @@
 ghost use Rattle.std.specs.Prelude.{◌≡◌, ◌≢◌, ◌≤◌, ℕ, List, [], Err, IfErr};
 ghost use Rattle.line_reader.specs.Readers.{HasRest};
 ghost use Rattle.xform_stack.specs.Running.{HasRun};
-ghost use Rattle.schedule_replay.specs.Outcomes.{ComesTo, HasCause, KeepsSink};
+ghost use Rattle.schedule_replay.specs.Outcomes.{ComesTo, HasCause, KeepsSink, KeptUp};
 ghost use Rattle.schedule_replay.specs.Replays.{stack_so_far, stack_whole};
 ghost use Rattle.check_text.specs.declared.image_line.ImageLine.{ImageLine};
 ghost use Rattle.stacks.specs.Stack.{image_of, play_of, texts_of};
@@ -42,6 +42,9 @@ pub(crate) fn replay_rest<
         (stack_so_far (play_of (R.system running) (texts_of A.input_of A.input_text A.output_of A.output_text A.replies)
         (image_of below L.text says)) reader.old)
         reader.old.number rest (S.left source.new) (K.written sink.old) (K.written sink.new) result }
+    ensures kept_up { (says : List ℕ → ImageLine L) (rest : List ℕ) → HasRest reader.old (S.left source.old) rest
+        → KeptUp (stack_so_far (play_of (R.system running) (texts_of A.input_of A.input_text A.output_of A.output_text A.replies)
+        (image_of below L.text says)) reader.old) rest (S.left source.new) (K.written sink.old) (K.written sink.new) }
     ensures fault { IfErr result (HasCause reader.old.ended (S.faults source.old) (S.faults source.new) (K.faults sink.old)
         (K.faults sink.new)) }
     ensures reads_quiet { result ≢ Err ReplayFault.Read → S.faults source.new ≡ S.faults source.old }

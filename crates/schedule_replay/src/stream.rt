@@ -1,5 +1,5 @@
 ghost use Rattle.std.specs.Prelude.{◌≡◌, ◌≢◌, ◌≤◌, Err, IfErr, IfSome};
-ghost use Rattle.schedule_replay.specs.Outcomes.{ComesTo, HasFault, KeepsSink, ReplaysRest};
+ghost use Rattle.schedule_replay.specs.Outcomes.{ComesTo, HasFault, KeepsSink, KeptUp, ReplaysRest};
 ghost use Rattle.schedule_replay.specs.Replays.{replayed, replayed_so_far};
 
 use crate::faults::replay_fault;
@@ -41,8 +41,9 @@ impl<S: Source, K: Sink> OnStack<Reader, S, K> for Replaying {
 
 /// Replays the schedule that a source gives, in a stream: each step is taken as its line comes, and what clients saw
 /// is written before the source is read again. Where no line is refused, the image is written below the trace. Where a line
-/// is, at most 4,096 bytes were read past the byte that decided it. No fault is hidden: a read that fails is answered as
-/// `Read`, a write that fails as `Write`, and a write's want of memory as `Memory`.
+/// is, at most 4,096 bytes were read past the byte that decided it. Whatever comes, the sink has the trace of all that was read
+/// but its last 4,096 bytes. No fault is hidden: a read that fails is answered as `Read`, a write that fails as `Write`, and a
+/// write's want of memory as `Memory`.
 pub fn replay<S: Source, K: Sink>(
     alloc: Global,
     source: &mut S,
@@ -50,6 +51,8 @@ pub fn replay<S: Source, K: Sink>(
 ) -> Result<Done, ReplayFault>
     ensures told { IfSome (S.left source.old) (λ bytes. ComesTo replayed replayed_so_far 0 bytes (S.left source.new) (K.written sink.old)
         (K.written sink.new) result) }
+    ensures kept_up { IfSome (S.left source.old) (λ bytes. KeptUp replayed_so_far bytes (S.left source.new) (K.written sink.old)
+        (K.written sink.new)) }
     ensures fault { IfErr result (HasFault (S.faults source.old) (S.faults source.new) (K.faults sink.old) (K.faults sink.new)) }
     ensures reads_quiet { result ≢ Err ReplayFault.Read → S.faults source.new ≡ S.faults source.old }
     ensures quiet { KeepsSink (K.faults sink.old) (K.faults sink.new) (K.wants sink.old) (K.wants sink.new) result }

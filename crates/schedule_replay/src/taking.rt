@@ -1,7 +1,9 @@
-ghost use Rattle.std.specs.Prelude.{◌≡◌, ◌≢◌, ◌+◌, ◌<◌, ◌≤◌, List, length, true, false, None, Some, Ok, IfOk, OnOk};
+ghost use Rattle.std.specs.Prelude.{◌≡◌, ◌≢◌, ◌+◌, ◌<◌, ◌≤◌, ℕ, List, length, true, false, None, Some, Ok, IfOk, OnOk};
 ghost use Rattle.net_semantics.specs.Taking.{GrowsBy};
 ghost use Rattle.outside.specs.Counting.{Rose};
+ghost use Rattle.line_reader.specs.Readers.{HasRest};
 ghost use Rattle.schedule_text.specs.Lines.{tells_next};
+ghost use Rattle.schedule_text.specs.Streams.{StepIsNear};
 ghost use Rattle.vst_base.specs.declared.step.TheConstants.{MAX_STEPS};
 ghost use Rattle.vst_base.specs.declared.step.Step.{Step};
 ghost use Rattle.vst_base.specs.declared.step.Item.{Item};
@@ -34,7 +36,8 @@ fn why_of(refusal: StepRefusal) -> Why
     }
 }
 
-// Reads the next step and takes it, or says where the steps come to their end, which changes nothing.
+// Reads the next step and takes it, or says where the steps come to their end, which changes nothing. Whatever comes, at most 4,096
+// bytes were read past lines that say no step.
 pub(crate) fn take_step<R: Runs, A: AppText<Input = R::Input, Output = R::Output>, S: Source>(
     alloc: Global,
     running: &mut R,
@@ -47,6 +50,9 @@ pub(crate) fn take_step<R: Runs, A: AppText<Input = R::Input, Output = R::Output
         → HasRun (R.system running.old) R.follows R.progress ss gone running.old
         → TookStep (R.system running.old) R.follows R.progress A.input_of running.new ss gone reader.old reader.new (S.left source.old)
         (S.left source.new) answer) }
+    ensures near { (rest : List ℕ) → HasRest reader.old (S.left source.old) rest
+        → StepIsNear A.input_of reader.old (S.left source.new) rest }
+    ensures unread { tells_next reader.old.ahead ≡ true → source.new ≡ source.old }
     ensures system { R.system running.new ≡ R.system running.old }
     ensures taken { result ≡ Ok None → (R.progress running.new).taken ≡ (R.progress running.old).taken + 1 }
     ensures few { result ≡ Ok None → (R.progress running.new).taken ≤ MAX_STEPS }

@@ -56,6 +56,7 @@ pub(crate) fn write_before_reading<
     ensures ok { OnOk result (Waits reader.now running.old running.new tally.old tally.new (K.written sink.old) (K.written sink.new)
         ⊎ Writes R.follows R.progress (texts_of A.input_of A.input_text A.output_of A.output_text A.replies)
         running.old running.new tally.old tally.new (K.written sink.old) (K.written sink.new)) }
+    ensures few { length reader.now.ahead ≤ 4096 }
     ensures system { OnOk result (R.system running.new ≡ R.system running.old) }
     ensures sound { OnOk result (R.sound running.old → R.sound running.new) }
     ensures err { OnErr result (GainedFront (K.written sink.old) (K.written sink.new)

@@ -1,15 +1,20 @@
-use Rattle.std.proofs.Common.{◌≡◌, true, List, [], Ok, Some, arith, ap, ◌∙◌, sym, refl}
+use Rattle.std.proofs.Common.{◌≡◌, true, ℕ, List, [], Ok, Some, inl, inr, arith, ap, ◌∙◌, sym, refl}
 use Rattle.std.proofs.lemmas.Result.{err_from_is_err_and}
 use Rattle.vst_base.specs.declared.step.Step.{Step}
 use Rattle.vst_base.specs.declared.step.Item.{Item}
-use Rattle.line_reader.specs.Readers.{ReaderView}
-use Rattle.xform_stack.specs.Running.{HasRun}
-use Rattle.stacks.specs.Stack.{Texts, texts_of}
+use Rattle.line_reader.specs.Readers.{ReaderView, HasRest}
+use Rattle.schedule_text.specs.Lines.{tells_next}
+use Rattle.schedule_text.specs.Streams.{StepIsNear}
+use Rattle.xform_stack.specs.Running.{HasRun, Progress}
+use Rattle.stacks.specs.Stack.{ImageTexts, Texts, play_of, texts_of}
+use Rattle.schedule_replay.specs.Outcomes.{KeptUp}
+use Rattle.schedule_replay.specs.Replays.{stack_so_far}
 use Rattle.schedule_replay.specs.Playing.{TookStep, is_failed_read}
 use Rattle.schedule_replay.specs.declared.halt.Halt.{Halt}
 use Rattle.schedule_replay.specs.declared.halt.Halt.TheVariants as halt
 use Rattle.schedule_replay.specs.declared.tally.Tally.{Tally}
 use Rattle.schedule_replay.proofs.Counting.{all-written, as-many, has-room, of-before-reading, of-step}
+use Rattle.schedule_replay.proofs.Keeping.{kept-before-reading, kept-front, kept-more, kept-start, kept-step}
 use Rattle.schedule_replay.proofs.Plays.{Played, Standing, played-start, played-before-reading, played-more, played-halts}
 use Rattle.schedule_replay.proofs.Plays.{played-front, playing-front, writes-nothing}
 use Rattle.schedule_replay.proofs.play.play.Given as given
@@ -42,6 +47,8 @@ loop-running-init g c =
       counted = omega (arith, taken);
       within = omega (arith, taken);
       played = played-start c.requires.started c.requires.tally;
+      kept = λ few i rest has. kept-start (g.R.Runs.system c.args.running.now) (texts g) i c.args.reader.now (g.S.Source.left c.args.source.now)
+          (g.K.Sink.written c.args.sink.now) rest has few;
       few = rw (none, c.requires.tally) (record { inputs = omega arith; outputs = omega arith; replies = omega arith });
       stays = λ is. is;
       reads = refl;
@@ -65,6 +72,57 @@ begun : (g : given.Over) (c : In_ok-write_before_reading g)
     (standing g c.write_before_reading.new.running c.write_before_reading.new.tally c.loop-running.reader c.loop-running.source
     c.write_before_reading.new.sink)
 begun g c = played-before-reading c.loop-running.invariant.played c.in_ok-write_before_reading.ensures.ok
+
+-- what was kept up with, once all was written that has to be, and once a step was read
+abbrev KeepsUp : (g : given.Over) (reader : ReaderView) (source source' : g.row.S.Denot) (sink sink' : g.row.K.Denot) (running : g.row.R.Denot) → Type 0
+KeepsUp g reader source source' sink sink' running =
+    (i : ImageTexts g.row.R-Line.Denot) (rest : List ℕ) → HasRest reader (g.S.Source.left source) rest
+    → KeptUp (stack_so_far (play_of (g.R.Runs.system running) (texts g) i) reader) rest (g.S.Source.left source') (g.K.Sink.written sink) (g.K.Sink.written sink')
+
+kept-before : (g : given.Over) (c : In_ok-write_before_reading g)
+    → KeepsUp g c.args.reader.now c.args.source.now c.loop-running.source c.args.sink.now c.write_before_reading.new.sink c.args.running.now
+kept-before g c = λ i rest has.
+    kept-before-reading (c.loop-running.invariant.kept c.write_before_reading.ensures.few i rest has) c.in_ok-write_before_reading.ensures.ok
+
+kept-after : (g : given.Over) (c : In_ok-write_before_reading g) (source' : g.row.S.Denot)
+    → ((later : List ℕ) → HasRest c.loop-running.reader (g.S.Source.left c.loop-running.source) later
+    → StepIsNear g.A.AppText.input_of c.loop-running.reader (g.S.Source.left source') later)
+    → (tells_next c.loop-running.reader.ahead ≡ true → source' ≡ c.loop-running.source)
+    → KeepsUp g c.args.reader.now c.args.source.now source' c.args.sink.now c.write_before_reading.new.sink c.args.running.now
+kept-after g c source' near unread = λ i rest has.
+    kept-step (begun g c) i rest has (g.S.Source.left source') near
+    (elim c.in_ok-write_before_reading.ensures.ok [
+      | inl w ↦ inl (ap g.S.Source.left (unread w.told))
+      | inr w ↦ inr (ap (λ (x : Progress g.row.R-Input.Denot g.row.R-Output.Denot). x.trace) w.forgets)
+    ])
+    (kept-before g c i rest has)
+
+pub returns-in_err-write_before_reading-clause-kept_up : goal.returns-in_err-write_before_reading-clause-kept_up
+returns-in_err-write_before_reading-clause-kept_up g c = λ i rest has.
+    kept-front (c.loop-running.invariant.kept c.write_before_reading.ensures.few i rest has) (g.K.Sink.written c.write_before_reading.new.sink) _
+    c.in_err-write_before_reading.ensures.err
+
+pub returns-in_err-halt-clause-kept_up : goal.returns-in_err-halt-clause-kept_up
+returns-in_err-halt-clause-kept_up g c =
+    let here = goal.at.returns-in_err-halt-clause-kept_up g c in
+    kept-after g here.In_ok-write_before_reading c.take_step.new.source c.take_step.ensures.near c.take_step.ensures.unread
+
+pub returns-in_err-write_trace-clause-kept_up : goal.returns-in_err-write_trace-clause-kept_up
+returns-in_err-write_trace-clause-kept_up g c = λ i rest has.
+    let here = goal.at.returns-in_err-write_trace-clause-kept_up g c in
+    kept-front (kept-after g here.In_ok-write_before_reading c.take_step.new.source c.take_step.ensures.near c.take_step.ensures.unread i rest has)
+    (g.K.Sink.written c.write_trace.new.sink) _ c.in_err-write_trace.ensures.err
+
+pub returns-in_ok-write_trace-clause-kept_up : goal.returns-in_ok-write_trace-clause-kept_up
+returns-in_ok-write_trace-clause-kept_up g c = λ i rest has.
+    let here = goal.at.returns-in_ok-write_trace-clause-kept_up g c in
+    kept-more (kept-after g here.In_ok-write_before_reading c.take_step.new.source c.take_step.ensures.near c.take_step.ensures.unread i rest has)
+    (g.K.Sink.written c.write_trace.new.sink) _ c.in_ok-write_trace.ensures.ok.written
+
+pub returns-else-not-is_failed_read-clause-kept_up : goal.returns-else-not-is_failed_read-clause-kept_up
+returns-else-not-is_failed_read-clause-kept_up g c =
+    let here = goal.at.returns-else-not-is_failed_read-clause-kept_up g c in
+    kept-after g here.In_ok-write_before_reading c.take_step.new.source c.take_step.ensures.near c.take_step.ensures.unread
 
 pub take_step-requires-clause-counted : goal.take_step-requires-clause-counted
 take_step-requires-clause-counted g c =
@@ -140,6 +198,7 @@ loop-running-preserved g c =
       counted = omega (arith, events, taken, many, inv.counted);
       within = c.take_step.ensures.few none;
       played = played-more p (rw c.in_default.is at (took g here.In_ok-halt p.ran)) events c.take_step.ensures.most;
+      kept = λ short i rest has. kept-after g here.In_ok-write_before_reading c.take_step.new.source c.take_step.ensures.near c.take_step.ensures.unread i rest has;
       few = of-step (of-before-reading before.ok inv.few) taken (c.take_step.ensures.grows none);
       stays = λ is. c.take_step.ensures.stays (inv.stays is);
       reads = c.take_step.ensures.quiet (λ e. let both = sym none ∙ e in cc) ∙ inv.reads;

@@ -1,6 +1,9 @@
-use Rattle.std.proofs.Common.{◌≡◌, ◌-◌, ◌≤◌, length, true}
+use Rattle.std.proofs.Common.{◌≡◌, ◌-◌, ◌≤◌, ℕ, List, length, true}
 use Rattle.vst_base.specs.declared.step.TheConstants.{MAX_STEPS}
-use Rattle.stacks.specs.Stack.{texts_of}
+use Rattle.stacks.specs.Stack.{ImageTexts, play_of, texts_of}
+use Rattle.line_reader.specs.Readers.{HasRest}
+use Rattle.schedule_replay.specs.Outcomes.{KeptUp}
+use Rattle.schedule_replay.specs.Replays.{stack_so_far}
 use Rattle.schedule_replay.specs.Tallying.{IsOfSteps}
 use Rattle.schedule_replay.proofs.Plays.{Played}
 use Rattle.schedule_replay.proofs.play.play.Given as goal
@@ -22,6 +25,9 @@ invariant-loop-running g l =
       played : Played (r.system l.fn.running) r.follows r.progress (texts_of a.input_of a.input_text a.output_of a.output_text a.replies)
           (record { running = fn.running; tally = fn.tally; reader = fn.reader; left = left fn.source; written = written fn.sink })
           (record { running = l.running; tally = l.tally; reader = l.reader; left = left l.source; written = written l.sink });
+      kept : length l.reader.ahead ≤ 4096 → (i : ImageTexts g.row.R-Line.Denot) (rest : List ℕ) → HasRest fn.reader (left fn.source) rest
+          → KeptUp (stack_so_far (play_of (r.system fn.running) (texts_of a.input_of a.input_text a.output_of a.output_text a.replies) i) fn.reader) rest
+          (left l.source) (written fn.sink) (written l.sink);
       few : IsOfSteps (r.progress l.running).taken (length (r.progress l.running).trace) l.tally;
       stays : l.fn.reader.ended ≡ true → l.reader.ended ≡ true;
       reads : g.S.Source.faults l.source ≡ g.S.Source.faults l.fn.source;

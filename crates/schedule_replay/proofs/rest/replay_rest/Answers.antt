@@ -6,6 +6,7 @@ use Rattle.schedule_replay.specs.Replays.{stack_so_far, stack_whole}
 use Rattle.stacks.specs.Stack.{ImageTexts, image_of, play_of, texts_of}
 use Rattle.check_text.specs.declared.image_line.ImageLine.{ImageLine}
 use Rattle.schedule_replay.proofs.Endings.{rest-read, rest-refused, rest-finishing, rest-done, rest-fails}
+use Rattle.schedule_replay.proofs.Keeping.{kept-front, kept-more}
 use Rattle.schedule_replay.proofs.rest.replay_rest.Given as given
 use Rattle.schedule_replay.proofs.rest.replay_rest.Goals as goal
 
@@ -82,3 +83,11 @@ returns-in-Ok-clause-told g c = λ says rest has.
     let halted = c.in-Ok-End.ensures.halted i in
     let shows = subst (λ (x : SystemOf g). (ss : List (Step g.row.R-Input.Denot)) → r.follows c.play.new.running ss → c.image.result.now ≡ x.image ss) c.in-Ok-End.ensures.system c.image.ensures in
     rest-done sys r.follows r.progress t i c.play.new.running c.play.new.tally old c.play.new.reader left left' out mid rest has c.image.result.now shows (g.K.Sink.written c.finish.new.sink) c.in-Ok.done c.taken-events.result (rw c.in-Ok-End.field-0-is at halted) c.in-Ok.ensures.ok c.in-Ok.ensures.done c.taken-events.ensures
+
+pub returns-in-Ok-clause-kept_up : goal.returns-in-Ok-clause-kept_up
+returns-in-Ok-clause-kept_up g c = λ says rest has.
+    kept-more (c.play.ensures.kept_up (image g c.args.below says) rest has) (g.K.Sink.written c.finish.new.sink) _ c.in-Ok.ensures.ok
+
+pub returns-clause-kept_up : goal.returns-clause-kept_up
+returns-clause-kept_up g c = λ says rest has.
+    kept-front (c.play.ensures.kept_up (image g c.args.below says) rest has) (g.K.Sink.written c.finish.new.sink) _ c.in-Err-finish.ensures.err

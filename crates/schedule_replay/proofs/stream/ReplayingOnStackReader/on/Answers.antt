@@ -1,6 +1,6 @@
-use Rattle.std.proofs.Common.{subst}
+use Rattle.std.proofs.Common.{inr, subst}
 use Rattle.stacks.specs.Stack.{Play, image_of, texts_of}
-use Rattle.schedule_replay.specs.Outcomes.{ComesTo}
+use Rattle.schedule_replay.specs.Outcomes.{ComesTo, KeptUp}
 use Rattle.schedule_replay.specs.Replays.{stack_so_far, stack_whole}
 use Rattle.schedule_replay.proofs.Openings.{same-play}
 use Rattle.schedule_replay.proofs.stream.ReplayingOnStackReader.on.Goals as goal
@@ -18,6 +18,9 @@ returns g c =
       told = λ rest has.
           subst (λ (q : Play g.row.C-Input.Denot g.row.C-Output.Denot g.row.C-Line.Denot). ComesTo (stack_whole q r) (stack_so_far q r) r.number rest (g.S.Source.left c.replay_rest.new.source)
           (g.K.Sink.written c.args.sink.now) (g.K.Sink.written c.replay_rest.new.sink) c.replay_rest.result) same (c.replay_rest.ensures.told says rest has);
+      kept_up = inr (λ rest has.
+          subst (λ (q : Play g.row.C-Input.Denot g.row.C-Output.Denot g.row.C-Line.Denot). KeptUp (stack_so_far q r) rest (g.S.Source.left c.replay_rest.new.source)
+          (g.K.Sink.written c.args.sink.now) (g.K.Sink.written c.replay_rest.new.sink)) same (c.replay_rest.ensures.kept_up says rest has));
       reads_quiet = c.replay_rest.ensures.reads_quiet;
       fault = c.replay_rest.ensures.fault;
       quiet = c.replay_rest.ensures.quiet;
