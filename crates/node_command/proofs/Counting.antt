@@ -5,7 +5,7 @@ use Rattle.command_line.specs.AskedNodes.{NodeWordsView}
 use Rattle.node_datagrams.specs.Saying.{SendsOnly}
 use Rattle.node_device.specs.Faults.{Faults}
 use Rattle.outside.specs.Counting.{Rose}
-use Rattle.run_streams.specs.Seen.{KeepsCounts, SourceSeen}
+use Rattle.run_streams.specs.Seen.{SourceSeen}
 use Rattle.udp_node.specs.Causes.{RanFault}
 use Rattle.udp_node.specs.declared.fault.NodeFault.{NodeFault}
 use Rattle.udp_node.specs.declared.fault.NodeFault.TheVariants as fault
@@ -79,7 +79,7 @@ module _ (w : NodeWordsView) (input input' : SourceSeen) (device device' : Devic
   comes_keeping (Err (trouble.Ended e)) comes = by_a_fault device.faults device'.faults e comes.counts
   comes_keeping (Err trouble.Memory) comes = same_device device device' comes.device_stays
 
-pub keeps_all : (w : NodeWordsView) (r : NodeRun) (result : ℕ) → Ends w r result → KeepsCounts r.streams → KeepsAllCounts r
-keeps_all w r result e streams =
+pub keeps_all : (w : NodeWordsView) (r : NodeRun) (result : ℕ) → Ends w r result → KeepsAllCounts r
+keeps_all w r result e =
     let device = comes_keeping w r.streams.before.input r.streams.after.input r.before r.after e.came e.comes in
-    record { streams = streams; begin = device.begin; receive = device.receive; store = device.store; send = device.send }
+    record { streams = e.counts; begin = device.begin; receive = device.receive; store = device.store; send = device.send }

@@ -6,7 +6,7 @@ use Rattle.outside.specs.Counting.{Rose}
 use Rattle.outside.specs.Wholes.{Gained, GainedFront}
 use Rattle.run_streams.specs.Lines.{memory_line}
 use Rattle.run_streams.specs.Saying.{Said, Tells}
-use Rattle.run_streams.specs.Seen.{SinkSeen}
+use Rattle.run_streams.specs.Seen.{KeepsCounts, SinkSeen}
 use Rattle.udp_node.specs.declared.fault.NodeFault.TheVariants as fault
 use Rattle.node_command.specs.Lines.{line_of, status_of}
 use Rattle.node_command.specs.Seen.{NodeRun}
@@ -316,6 +316,10 @@ module _ (w : NodeWordsView) (r : NodeRun) (result : ℕ) where
 
 -- memory was wanted before anything was done, and that is said
 pub wanted_first : (w : NodeWordsView) (r : NodeRun) (result : ℕ) → r.after ≡ r.before → r.streams.after.input.faults ≡ r.streams.before.input.faults
-    → r.streams.after.out ≡ r.streams.before.out → Said 8 memory_line r.streams.before.err r.streams.after.err result → Ends w r result
-wanted_first w r result device input out said =
-    record { came = Err trouble.Memory; comes = record { quiet = input; device_stays = device }; tells = record { out_is = out; told = said } }
+    → r.streams.after.out ≡ r.streams.before.out → Said 8 memory_line r.streams.before.err r.streams.after.err result → KeepsCounts r.streams → Ends w r result
+wanted_first w r result device input out said counts = record {
+  came = Err trouble.Memory;
+  comes = record { quiet = input; device_stays = device };
+  tells = record { out_is = out; told = said };
+  counts = counts;
+}

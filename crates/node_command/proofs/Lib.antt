@@ -6,3 +6,4 @@ pub mod Counting
 pub mod Silent
 pub mod Refuted
 pub mod Told
+pub mod Answering

@@ -4,4 +4,5 @@ pub mod Coming
 pub mod Telling
 pub mod Statuses
 pub mod Complete
+pub mod Outcomes
 pub mod Examples

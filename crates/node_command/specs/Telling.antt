@@ -5,7 +5,7 @@ use Rattle.outside.specs.Counting.{Rose}
 use Rattle.outside.specs.Wholes.{Gained, GainedFront}
 use Rattle.run_streams.specs.Lines.{memory_line}
 use Rattle.run_streams.specs.Saying.{Said, Tells}
-use Rattle.run_streams.specs.Seen.{CountsNothing, SinkSeen}
+use Rattle.run_streams.specs.Seen.{CountsNothing, KeepsCounts, SinkSeen}
 use Rattle.udp_node.specs.declared.fault.NodeFault.TheVariants as fault
 use Rattle.node_command.specs.Coming.{Comes}
 use Rattle.node_command.specs.Lines.{line_of, status_of, turns_line}
@@ -66,8 +66,9 @@ abbrev pub TellsWhat : ℕ → Result (Unit {0}) Trouble → (out out' err err' 
 TellsWhat turns (Ok x) = TellsTurns turns
 TellsWhat turns (Err t) = TellsTrouble t
 
--- A node's run came to this, and said so.
+-- A node's run came to this, and said so. No count of its streams fell.
 pub record Ends (w : NodeWordsView) (r : NodeRun) (result : ℕ) : Type 0 where
   pub came : Result (Unit {0}) Trouble
   pub comes : Comes w r.streams.before.input r.streams.after.input r.before r.after came
   pub tells : TellsWhat w.turns came r.streams.before.out r.streams.after.out r.streams.before.err r.streams.after.err result
+  pub counts : KeepsCounts r.streams

@@ -1,13 +1,8 @@
-ghost use Rattle.std.specs.Prelude.{◌≡◌, ◌≤◌};
 ghost use Rattle.command_line.specs.CommandSet.{CanBeRun};
-ghost use Rattle.node_command.specs.Complete.{IsComplete};
-ghost use Rattle.node_command.specs.Seen.{KeepsAllCounts, node_ran};
-ghost use Rattle.node_command.specs.Statuses.{AreAreasRefused, EndsBy, HasCome, HasListeningFailed, HasWriteFailed};
-ghost use Rattle.node_command.specs.Statuses.{IsConfigRefused, IsDone, IsNodeStatus, IsOutOfMemory};
+ghost use Rattle.node_command.specs.Outcomes.{AnswersNode};
+ghost use Rattle.node_command.specs.Seen.{node_ran};
 ghost use Rattle.node_command.specs.Telling.{Ends};
-ghost use Rattle.node_command.specs.declared.trouble.Trouble.TheVariants as trouble;
-ghost use Rattle.run_streams.specs.Seen.{KeepsCounts, ran};
-ghost use Rattle.udp_node.specs.declared.fault.NodeFault.TheVariants as fault;
+ghost use Rattle.run_streams.specs.Seen.{ran};
 
 use crate::running::take_turns;
 use crate::telling::{tell_trouble, tell_turns};
@@ -26,9 +21,8 @@ fn run_and_tell<S: Source, O: Sink, E: Sink, D: Device>(
     device: &mut D,
 ) -> u8
     requires { CanBeRun words.now }
-    ensures ends { Ends words.now (node_ran (ran S.Source O.Sink E.Sink input.old input.new out.old out.new err.old err.new)
-        D.Device device.old device.new) result }
-    ensures counts { KeepsCounts (ran S.Source O.Sink E.Sink input.old input.new out.old out.new err.old err.new) }
+    ensures { let streams = ran S.Source O.Sink E.Sink input.old input.new out.old out.new err.old err.new in
+        Ends words.now (node_ran streams D.Device device.old device.new) result }
 {
     match take_turns(alloc, words.me, words.turns, &words.state, input, device) {
         Ok(()) => tell_turns(alloc, words.turns, out, err),
@@ -48,34 +42,8 @@ pub fn run_node<S: Source, O: Sink, E: Sink, D: Device>(
     device: &mut D,
 ) -> u8
     requires { CanBeRun words.now }
-    ensures status { IsNodeStatus result }
-    ensures complete { IsComplete words.now (node_ran (ran S.Source O.Sink E.Sink input.old input.new out.old out.new err.old err.new)
-        D.Device device.old device.new) result }
-    ensures came { HasCome words.now (node_ran (ran S.Source O.Sink E.Sink input.old input.new out.old out.new err.old err.new)
-        D.Device device.old device.new) }
-    ensures done { result ≡ 0 → IsDone words.now (node_ran (ran S.Source O.Sink E.Sink input.old input.new out.old out.new err.old err.new)
-        D.Device device.old device.new) }
-    ensures refused { result ≡ 3 → IsConfigRefused words.now (node_ran
-        (ran S.Source O.Sink E.Sink input.old input.new out.old out.new err.old err.new)
-        D.Device device.old device.new) }
-    ensures read { result ≡ 4 → EndsBy words.now (node_ran (ran S.Source O.Sink E.Sink input.old input.new out.old out.new err.old err.new)
-        D.Device device.old device.new) trouble.Read }
-    ensures write { result ≡ 5 → HasWriteFailed words.now (node_ran
-        (ran S.Source O.Sink E.Sink input.old input.new out.old out.new err.old err.new)
-        D.Device device.old device.new) }
-    ensures listening { result ≡ 6 → HasListeningFailed words.now
-        (node_ran (ran S.Source O.Sink E.Sink input.old input.new out.old out.new err.old err.new)
-        D.Device device.old device.new) }
-    ensures store { result ≡ 7 → EndsBy words.now (node_ran (ran S.Source O.Sink E.Sink input.old input.new out.old out.new err.old err.new)
-        D.Device device.old device.new) (trouble.Ended fault.Store) }
-    ensures memory { result ≡ 8 → IsOutOfMemory words.now (node_ran
-        (ran S.Source O.Sink E.Sink input.old input.new out.old out.new err.old err.new)
-        D.Device device.old device.new) }
-    ensures areas { result ≡ 9 → AreAreasRefused words.now (node_ran
-        (ran S.Source O.Sink E.Sink input.old input.new out.old out.new err.old err.new)
-        D.Device device.old device.new) }
-    ensures counts { KeepsAllCounts (node_ran (ran S.Source O.Sink E.Sink input.old input.new out.old out.new err.old err.new)
-        D.Device device.old device.new) }
+    ensures answers { let streams = ran S.Source O.Sink E.Sink input.old input.new out.old out.new err.old err.new in
+        AnswersNode words.now (node_ran streams D.Device device.old device.new) result }
 {
     run_and_tell(alloc, words, input, out, err, device)
 }

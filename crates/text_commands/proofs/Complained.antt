@@ -4,7 +4,12 @@ use Rattle.std.specs.Bool.{OnTrue}
 use Rattle.std.proofs.Common.{inl, inr, ap, ◌∙◌, subst, sym, append-nil, arith, refl}
 use Rattle.outside.specs.Wholes.{Gained, GainedFront}
 use Rattle.line_reader.specs.declared.why.Why.{Why}
+use Rattle.schedule_replay.specs.Outcomes.{KeptUp}
+use Rattle.schedule_replay.specs.Replays.{replayed_so_far}
+use Rattle.schedule_replay.proofs.Openings.{kept-unread}
 use Rattle.command_line.specs.declared.command.Command.{Command}
+use Rattle.command_line.specs.declared.command.Command.TheVariants as command
+use Rattle.text_commands.specs.Runs.{KeepsUp}
 use Rattle.run_streams.specs.Lines.{memory_line}
 use Rattle.text_commands.specs.Answers.{answer_by, input_of, is_check, permitted_line}
 use Rattle.run_streams.specs.Saying.{Said}
@@ -131,10 +136,25 @@ front-none None o' text same = tt
 front-none (Some held) o' text same = (0, same ∙ ap Some (sym (append-nil held)))
 
 -- an output that is as it was has a front of any answer
-pub unwritten : (command : Option Command) (run : Run) → run.after.out ≡ run.before.out → WroteFront command run
-unwritten command run same =
+pub unwritten : (command : Option Command) (run : Run) → KeepsUp command run → run.after.out ≡ run.before.out → WroteFront command run
+unwritten command run kept same =
     let left = ap (λ sink. sink.written) same in
     record {
       out = if-any (input_of command run.before.input.left) (λ bytes. front-none run.before.out.written run.after.out.written (answer_by command bytes).out left);
       verdict = on-true (is_check command) (front-none run.before.out.written run.after.out.written permitted_line left);
+      kept_up = kept;
     }
+
+-- and so has a run that was given nothing
+unread-told : (left left' out out' : Option (List ℕ)) → left' ≡ left → out' ≡ out → IfSome left (λ bytes. KeptUp replayed_so_far bytes left' out out')
+unread-told None left' out out' same unwritten = tt
+unread-told (Some bytes) left' out out' same unwritten =
+    subst (λ (o : Option (List ℕ)). KeptUp replayed_so_far bytes left' out o) (sym unwritten) (kept-unread left' out bytes same)
+
+pub unread-kept : (command : Option Command) (run : Run) → run.after.input ≡ run.before.input → run.after.out ≡ run.before.out → KeepsUp command run
+unread-kept None run same unwritten = tt
+unread-kept (Some command.Replay) run same unwritten =
+    unread-told run.before.input.left run.after.input.left run.before.out.written run.after.out.written (ap (λ source. source.left) same) (ap (λ sink. sink.written) unwritten)
+unread-kept (Some (command.Check stack)) run same unwritten = tt
+unread-kept (Some (command.Make s)) run same unwritten = tt
+unread-kept (Some (command.Summarize s)) run same unwritten = tt

@@ -1,10 +1,11 @@
 -- How a run ends where a line is refused.
-use Rattle.std.specs.Prelude.{◌≡◌, ℕ, ◌+◌, ◌≤◌, List, [], ◌++◌, length, Option, Some, None, Result, Ok, Err, IfSome}
+use Rattle.std.specs.Prelude.{◌≡◌, ℕ, ◌+◌, ◌-◌, ◌≤◌, List, [], ◌++◌, length, Option, Some, None, Result, Ok, Err, IfSome}
 use Rattle.std.proofs.Common.{ap, ◌∙◌, append-nil, arith, refl, subst, sym}
 use Rattle.std.proofs.Math.Seq.{take-length}
 use Rattle.outside.specs.Wholes.{Gained, GainedFront, Gave}
 use Rattle.line_reader.specs.Lines.{decided}
 use Rattle.line_reader.specs.declared.why.Why.{Why}
+use Rattle.schedule_text.specs.Printing.{refusal_line}
 use Rattle.schedule_replay.specs.declared.fault.ReplayFault.TheVariants as fault
 use Rattle.schedule_replay.specs.Outcomes.{ComesTo}
 use Rattle.schedule_replay.specs.Replays.{replayed, replayed_so_far}
@@ -17,12 +18,11 @@ use Rattle.trace_check.specs.Outcomes.{LooksAhead}
 use Rattle.trace_check.specs.declared.fault.CheckFault.TheVariants as claim
 use Rattle.command_line.specs.declared.command.Command.TheVariants as command
 use Rattle.text_commands.specs.Answers.{answer_to_claim, permitted_line, refusal_status, refusal_text}
-use Rattle.text_commands.specs.Complaints.{HasCause, Told}
-use Rattle.run_streams.specs.Seen.{Run}
-use Rattle.text_commands.specs.Runs.{BrokeOff}
+use Rattle.text_commands.specs.Complaints.{HasCause}
+use Rattle.run_streams.specs.Seen.{CountsNothing, IsQuiet, Run}
+use Rattle.text_commands.specs.Runs.{BrokeOff, KeepsUp}
 use Rattle.text_commands.specs.Statuses.{IsLineRefused, WroteFront}
 use Rattle.text_commands.specs.declared.complaint.Complaint.TheVariants as complaint
-use Rattle.text_commands.proofs.Complained.{told-whole}
 
 -- what is said where the input tells
 if-told : {A : Type 0} {P Q : A → Type 0} (told : Option A) → ((a : A) → P a → Q a) → IfSome told P → IfSome told Q
@@ -61,23 +61,21 @@ claim-ahead (Some bytes) left' line why ahead = ahead
 pub claim-cause : (stack : StackId) (r : Run) (line : ℕ) (why : Why) → IfSome r.before.input.left (RefusesClaim stack line why) → HasCause (Some (command.Check stack)) r (complaint.Line line why)
 claim-cause stack r line why told = (refl, if-told r.before.input.left (λ bytes e. record { status = ap (λ v. (answer_to_claim v).status) e; line = ap (λ v. (answer_to_claim v).err) e }) told)
 
-pub claim-refused : (stack : StackId) (r : Run) (result line : ℕ) (why : Why) → IfSome r.before.input.left (RefusesClaim stack line why)
+pub claim-refused : (stack : StackId) (r : Run) (line : ℕ) (why : Why) → IfSome r.before.input.left (RefusesClaim stack line why)
     → IfSome r.before.input.left (λ bytes. LooksAhead r.after.input.left bytes (claim.Refused line why)) → r.after.input.faults ≡ r.before.input.faults → r.after.out ≡ r.before.out
-    → Told (complaint.Line line why) r.before.err r.after.err result → result ≡ 3 → IsLineRefused (Some (command.Check stack)) r
-claim-refused stack r result line why told ahead unfailed same said is =
-    let whole = told-whole (complaint.Line line why) r.before.err r.after.err result said (λ e. omega (arith, e, is)) (λ e. omega (arith, e, is)) in
-    record {
-      line = line;
-      why = why;
-      reading = refl;
-      status = claim-as stack line why r.before.input.left (λ v. (answer_to_claim v).status) told;
-      named = claim-as stack line why r.before.input.left (λ v. (answer_to_claim v).err) told;
-      ahead = claim-ahead r.before.input.left r.after.input.left line why ahead;
-      out = if-told r.before.input.left (λ bytes e. subst (λ v. Gained r.before.out.written r.after.out.written (answer_to_claim v).out) (sym e) (gained-none r.before.out.written r.after.out.written (ap (λ sink. sink.written) same))) told;
-      verdict = same;
-      err = whole.1;
-      quiet = record { reads = unfailed; writes = record { out = record { faults = ap (λ sink. sink.faults) same; wants = ap (λ sink. sink.wants) same }; err = whole.2 } };
-    }
+    → Gained r.before.err.written r.after.err.written (refusal_line line why) → CountsNothing r.before.err r.after.err → IsLineRefused (Some (command.Check stack)) r
+claim-refused stack r line why told ahead unfailed same said kept = record {
+  line = line;
+  why = why;
+  reading = refl;
+  status = claim-as stack line why r.before.input.left (λ v. (answer_to_claim v).status) told;
+  named = claim-as stack line why r.before.input.left (λ v. (answer_to_claim v).err) told;
+  ahead = claim-ahead r.before.input.left r.after.input.left line why ahead;
+  out = if-told r.before.input.left (λ bytes e. subst (λ v. Gained r.before.out.written r.after.out.written (answer_to_claim v).out) (sym e) (gained-none r.before.out.written r.after.out.written (ap (λ sink. sink.written) same))) told;
+  verdict = same;
+  err = said;
+  quiet = record { reads = unfailed; writes = record { out = record { faults = ap (λ sink. sink.faults) same; wants = ap (λ sink. sink.wants) same }; err = kept } };
+}
 
 -- ---- a line of a schedule
 
@@ -89,10 +87,39 @@ pub line-cause : (r : Run) (line : ℕ) (why : Why) → IfSome r.before.input.le
 line-cause r line why told = (refl, if-told r.before.input.left (λ bytes t. record { status = ap refusal_status t.refused; line = ap refusal_text t.refused }) told)
 
 -- the trace before it was written
-pub line-front : (r : Run) (line : ℕ) (why : Why) → IfSome r.before.input.left (RefusesLine r line why) → WroteFront (Some command.Replay) r
-line-front r line why told = record {
+pub line-front : (r : Run) (line : ℕ) (why : Why) → KeepsUp (Some command.Replay) r → IfSome r.before.input.left (RefusesLine r line why) → WroteFront (Some command.Replay) r
+line-front r line why kept told = record {
   out = if-told r.before.input.left (λ bytes t. front-whole r.before.out.written r.after.out.written (replayed bytes).out t.written) told;
   verdict = tt;
+  kept_up = kept;
+}
+
+minus-none : (n : ℕ) → n - 0 ≡ n
+minus-none n = omega arith
+
+line-ahead : (left left' out out' : Option (List ℕ)) (line : ℕ) (why : Why)
+    → IfSome left (λ bytes. ComesTo replayed replayed_so_far 0 bytes left' out out' (Err (fault.Refused line why))) → IsGivenUpTo left left' line
+line-ahead None left' out out' line why told = tt
+line-ahead (Some bytes) left' out out' line why told = (
+  told.given,
+  (told.gave.others, told.gave.whole, told.gave.left_is),
+  subst (λ n. length told.given ≤ decided n bytes + 4096) (minus-none line) told.ahead,
+)
+
+-- and its line was said
+pub line-refused : (r : Run) (line : ℕ) (why : Why) → IfSome r.before.input.left (RefusesLine r line why)
+    → Gained r.before.err.written r.after.err.written (refusal_line line why) → IsQuiet r → IsLineRefused (Some command.Replay) r
+line-refused r line why told said quiet = record {
+  line = line;
+  why = why;
+  reading = refl;
+  status = if-told r.before.input.left (λ bytes t. ap refusal_status t.refused) told;
+  named = if-told r.before.input.left (λ bytes t. ap refusal_text t.refused) told;
+  ahead = line-ahead r.before.input.left r.after.input.left r.before.out.written r.after.out.written line why told;
+  out = if-told r.before.input.left (λ bytes t. t.written) told;
+  verdict = tt;
+  err = said;
+  quiet = quiet;
 }
 
 broke-told : (r : Run) (left : Option (List ℕ)) → r.before.input.left ≡ left
@@ -108,9 +135,9 @@ broke-told r (Some bytes) same told = record {
 }
 
 -- the whole lines before a read that failed left their trace
-pub broke-front : (r : Run) → IfSome r.before.input.left (λ bytes. ComesTo replayed replayed_so_far 0 bytes r.after.input.left r.before.out.written r.after.out.written (Err fault.Read))
+pub broke-front : (r : Run) → KeepsUp (Some command.Replay) r → IfSome r.before.input.left (λ bytes. ComesTo replayed replayed_so_far 0 bytes r.after.input.left r.before.out.written r.after.out.written (Err fault.Read))
     → WroteFront (Some command.Replay) r
-broke-front r told = record { out = if-told r.before.input.left (λ bytes t. t.front) told; verdict = tt }
+broke-front r kept told = record { out = if-told r.before.input.left (λ bytes t. t.front) told; verdict = tt; kept_up = kept }
 
 -- and the bytes that they came from
 pub broke-line : (r : Run) → IfSome r.before.input.left (λ bytes. ComesTo replayed replayed_so_far 0 bytes r.after.input.left r.before.out.written r.after.out.written (Err fault.Read))
@@ -118,9 +145,9 @@ pub broke-line : (r : Run) → IfSome r.before.input.left (λ bytes. ComesTo rep
 broke-line r told = broke-told r r.before.input.left refl told
 
 -- and where memory is wanted a front of the answer was written
-pub wanting-front : (r : Run) → IfSome r.before.input.left (λ bytes. ComesTo replayed replayed_so_far 0 bytes r.after.input.left r.before.out.written r.after.out.written (Err fault.Memory))
+pub wanting-front : (r : Run) → KeepsUp (Some command.Replay) r → IfSome r.before.input.left (λ bytes. ComesTo replayed replayed_so_far 0 bytes r.after.input.left r.before.out.written r.after.out.written (Err fault.Memory))
     → WroteFront (Some command.Replay) r
-wanting-front r told = record { out = told; verdict = tt }
+wanting-front r kept told = record { out = told; verdict = tt; kept_up = kept }
 
 -- ---- the line of a check that says yes
 
@@ -129,6 +156,7 @@ pub permitted-front : (stack : StackId) (r : Run) → IfSome r.before.input.left
 permitted-front stack r told front = record {
   out = if-told r.before.input.left (λ bytes t. subst (λ v. GainedFront r.before.out.written r.after.out.written (answer_to_claim v).out) (sym t.1) front) told;
   verdict = front;
+  kept_up = tt;
 }
 
 -- a claim of which a condition is false has the answer that names it

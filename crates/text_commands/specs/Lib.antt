@@ -3,3 +3,4 @@ pub mod Complaints
 pub mod Examples
 pub mod Runs
 pub mod Statuses
+pub mod Outcomes

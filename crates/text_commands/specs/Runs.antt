@@ -9,7 +9,8 @@ use Rattle.command_line.specs.declared.command.Command.TheVariants as command
 use Rattle.command_line.specs.declared.command.MadeSchedule.{MadeSchedule}
 use Rattle.made_schedules.specs.MadeTexts.{made_counts, made_text}
 use Rattle.schedule_replay.specs.Explained.{IsReplay}
-use Rattle.schedule_replay.specs.Replays.{replayed}
+use Rattle.schedule_replay.specs.Outcomes.{KeptUp}
+use Rattle.schedule_replay.specs.Replays.{replayed, replayed_so_far}
 use Rattle.stacks.specs.Checks.{IsNotPermitted, IsPermitted}
 use Rattle.text_commands.specs.Answers.{Answer, answer_by, input_of, reads, so_far_by}
 use Rattle.run_streams.specs.Seen.{Run}
@@ -35,6 +36,15 @@ pub record BrokeOff (command : Option Command) (r : Run) : Type 0 where
   pub short : length (split_lines given).1 ≤ 4096
   pub taken : (so_far_by command given).refused ≡ None
   pub out : Gained r.before.out.written r.after.out.written (so_far_by command given).out
+
+-- of a replay whose input tells: out gained the trace of all that was given but its last 4,096 bytes, or more
+abbrev pub KeepsUp : Option Command → Run → Type 0
+KeepsUp None r = Unit {0}
+KeepsUp (Some command.Replay) r =
+    IfSome r.before.input.left (λ bytes. KeptUp replayed_so_far bytes r.after.input.left r.before.out.written r.after.out.written)
+KeepsUp (Some (command.Check stack)) r = Unit {0}
+KeepsUp (Some (command.Make s)) r = Unit {0}
+KeepsUp (Some (command.Summarize s)) r = Unit {0}
 
 -- out gained a replay of these bytes: they read as a header and steps that the network allows, and the text is that of their trace
 -- and of an image that explains it

@@ -12,7 +12,7 @@ use Rattle.command_line.specs.declared.command.Command.{Command}
 use Rattle.run_streams.specs.Lines.{memory_line, read_failed_line}
 use Rattle.text_commands.specs.Answers.{condition_line, is_check, permitted_line, reads, usage_line}
 use Rattle.text_commands.specs.Complaints.{WasSaying}
-use Rattle.text_commands.specs.Runs.{BrokeOff, IfAnswered, IsExplained, IsReadToEnd, IsRefuted}
+use Rattle.text_commands.specs.Runs.{BrokeOff, IfAnswered, IsExplained, IsReadToEnd, IsRefuted, KeepsUp}
 use Rattle.run_streams.specs.Seen.{IsQuiet, Run, WritesQuietly}
 
 -- a status of a command over texts
@@ -73,10 +73,11 @@ pub record HasReadFailed (command : Option Command) (r : Run) : Type 0 where
   pub err : Gained r.before.err.written r.after.err.written read_failed_line
   pub quiet : WritesQuietly r
 
--- a front of the answer was written on the output
+-- a front of the answer was written on the output, and of a replay no less than the trace of what was given, but for its last bytes
 pub record WroteFront (command : Option Command) (r : Run) : Type 0 where
   pub out : IfAnswered command r (λ answer. GainedFront r.before.out.written r.after.out.written answer.out)
   pub verdict : OnTrue (is_check command) (GainedFront r.before.out.written r.after.out.written permitted_line)
+  pub kept_up : KeepsUp command r
 
 -- a write of the output failed, and no other call: the error stream is as it was
 pub record HasOutFailed (r : Run) : Type 0 where

@@ -1,8 +1,6 @@
-ghost use Rattle.std.specs.Prelude.{◌≡◌, ◌≢◌, ℕ, Some};
 ghost use Rattle.command_line.specs.declared.command.Command.TheVariants as command;
-ghost use Rattle.text_commands.specs.Runs.{IsComplete};
-ghost use Rattle.run_streams.specs.Seen.{KeepsCounts, ran};
-ghost use Rattle.text_commands.specs.Statuses.{HasReadFailed, HasWriteFailed, IsDenied, IsDone, IsLineRefused, IsOutOfMemory, IsTextStatus};
+ghost use Rattle.run_streams.specs.Seen.{ran};
+ghost use Rattle.text_commands.specs.Outcomes.{AnswersCommand};
 
 use crate::Complaint;
 use crate::telling::tell;
@@ -21,22 +19,7 @@ pub(crate) fn run_check<S: Source, O: Sink, E: Sink>(
     out: &mut O,
     err: &mut E,
 ) -> u8
-    ensures status { IsTextStatus result }
-    ensures complete { IsComplete (Some (command.Check stack))
-        (ran S.Source O.Sink E.Sink input.old input.new out.old out.new err.old err.new) result }
-    ensures done { result ≡ 0 → IsDone (Some (command.Check stack))
-        (ran S.Source O.Sink E.Sink input.old input.new out.old out.new err.old err.new) }
-    ensures denied { result ≡ 1 → IsDenied (Some (command.Check stack))
-        (ran S.Source O.Sink E.Sink input.old input.new out.old out.new err.old err.new) }
-    ensures refused { result ≡ 3 → IsLineRefused (Some (command.Check stack))
-        (ran S.Source O.Sink E.Sink input.old input.new out.old out.new err.old err.new) }
-    ensures read { result ≡ 4 → HasReadFailed (Some (command.Check stack))
-        (ran S.Source O.Sink E.Sink input.old input.new out.old out.new err.old err.new) }
-    ensures write { result ≡ 5 → HasWriteFailed (Some (command.Check stack))
-        (ran S.Source O.Sink E.Sink input.old input.new out.old out.new err.old err.new) }
-    ensures memory { result ≡ 8 → IsOutOfMemory (Some (command.Check stack))
-        (ran S.Source O.Sink E.Sink input.old input.new out.old out.new err.old err.new) }
-    ensures counts { KeepsCounts (ran S.Source O.Sink E.Sink input.old input.new out.old out.new err.old err.new) }
+    ensures { AnswersCommand (command.Check stack) (ran S.Source O.Sink E.Sink input.old input.new out.old out.new err.old err.new) result }
 {
     permitted_claims_are_explained();
     match check(alloc, stack, input) {

@@ -1,10 +1,9 @@
-ghost use Rattle.std.specs.Prelude.{◌≡◌, ◌≢◌, ◌≤◌, ℕ, Some};
+ghost use Rattle.std.specs.Prelude.{◌≡◌, Some};
 ghost use Rattle.std.specs.Bool.{OnFalse};
 ghost use Rattle.command_line.specs.CommandSet.{CanBeMade, IfMakes};
-ghost use Rattle.run_streams.specs.Seen.{KeepsCounts, ran};
+ghost use Rattle.run_streams.specs.Seen.{ran};
 ghost use Rattle.text_commands.specs.Answers.{reads};
-ghost use Rattle.text_commands.specs.Runs.{IsComplete};
-ghost use Rattle.text_commands.specs.Statuses.{HasReadFailed, HasWriteFailed, IsDenied, IsDone, IsLineRefused, IsOutOfMemory, IsTextStatus};
+ghost use Rattle.text_commands.specs.Outcomes.{AnswersCommand};
 
 use crate::checking::run_check;
 use crate::making::{run_make, run_summary};
@@ -23,20 +22,9 @@ pub fn run_command<S: Source, O: Sink, E: Sink>(
     err: &mut E,
 ) -> u8
     requires { IfMakes command CanBeMade }
-    ensures status { IsTextStatus result }
-    ensures complete { IsComplete (Some command) (ran S.Source O.Sink E.Sink input.old input.new out.old out.new err.old err.new) result }
-    ensures done { result ≡ 0 → IsDone (Some command) (ran S.Source O.Sink E.Sink input.old input.new out.old out.new err.old err.new) }
-    ensures denied { result ≡ 1 → IsDenied (Some command) (ran S.Source O.Sink E.Sink input.old input.new out.old out.new err.old err.new) }
-    ensures refused { result ≡ 3 → IsLineRefused (Some command)
-        (ran S.Source O.Sink E.Sink input.old input.new out.old out.new err.old err.new) }
-    ensures read { result ≡ 4 → HasReadFailed (Some command) (ran S.Source O.Sink E.Sink input.old input.new out.old out.new err.old
-        err.new) }
-    ensures write { result ≡ 5 → HasWriteFailed (Some command)
-        (ran S.Source O.Sink E.Sink input.old input.new out.old out.new err.old err.new) }
-    ensures memory { result ≡ 8 → IsOutOfMemory (Some command)
-        (ran S.Source O.Sink E.Sink input.old input.new out.old out.new err.old err.new) }
+    ensures answers { let streams = ran S.Source O.Sink E.Sink input.old input.new out.old out.new err.old err.new in
+        AnswersCommand command streams result }
     ensures unread { OnFalse (reads (Some command)) (input.new ≡ input.old) }
-    ensures counts { KeepsCounts (ran S.Source O.Sink E.Sink input.old input.new out.old out.new err.old err.new) }
 {
     match command {
         Command::Replay => run_replay(alloc, input, out, err),

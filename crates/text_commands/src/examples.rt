@@ -1,6 +1,7 @@
 ghost use Rattle.std.specs.Prelude.{◌≡◌, [], ◌∷◌, None, Some, codes};
 ghost use Rattle.command_line.specs.declared.command.Command.TheVariants as command;
 ghost use Rattle.text_commands.specs.Answers.{answer_by, so_far_by};
+ghost use Rattle.schedule_text.specs.ExampleTexts.{groundless_claim, handover, handover_claim};
 
 use line_reader::Why;
 use vst_base::StackId;
@@ -8,13 +9,13 @@ use vst_base::StackId;
 /// Worked runs: the status, the text on the output and the line on the error stream.
 pub fn worked()
     ensures no_command { answer_by None [] ≡ record { status = 2; out = []; err = codes "usage\n" } }
-    ensures handed_over { answer_by (Some command.Replay) (codes "schedule 1 bag lock 2\nin 1 lock\ndeliver 0\ndeliver 1\n")
-        ≡ record { status = 0; out = codes "in 1 lock\nout 1 locked\nbelow\nschedule 1 bag lock 2\nin 1 lock\ndeliver 0\ndeliver 1\n"; err = [] } }
+    ensures handed_over { answer_by (Some command.Replay) handover
+        ≡ record { status = 0; out = handover_claim; err = [] } }
     ensures delivered_twice { answer_by (Some command.Replay) (codes "schedule 1 bag lock 2\nin 1 lock\ndeliver 0\ndeliver 0\n")
         ≡ record { status = 3; out = codes "in 1 lock\n"; err = codes "line 4: no copy\n" } }
     ensures permitted { answer_by (Some (command.Check StackId.Lock)) (codes "in 1 lock\nbelow\nschedule 1 bag lock 2\nin 1 lock\n")
         ≡ record { status = 0; out = codes "permitted\n"; err = [] } }
-    ensures denied { answer_by (Some (command.Check StackId.Lock)) (codes "out 1 locked\nbelow\nschedule 1 bag lock 2\n")
+    ensures denied { answer_by (Some (command.Check StackId.Lock)) groundless_claim
         ≡ record { status = 1; out = []; err = codes "condition 5 line 1\n" } }
     ensures no_claim { answer_by (Some (command.Check StackId.Lock)) []
         ≡ record { status = 3; out = []; err = codes "line 1: header\n" } }

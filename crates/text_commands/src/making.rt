@@ -1,12 +1,11 @@
-ghost use Rattle.std.specs.Prelude.{◌≡◌, ◌⊎◌, ◌≤◌, ◌≢◌, ◌++◌, ℕ, Some, IfOk, OnOk};
+ghost use Rattle.std.specs.Prelude.{◌≡◌, ◌++◌, IfOk, OnOk};
 ghost use Rattle.command_line.specs.CommandSet.{CanBeMade};
 ghost use Rattle.command_line.specs.declared.command.Command.TheVariants as command;
 ghost use Rattle.made_schedules.specs.MadeTexts.{made_counts};
 ghost use Rattle.schedule_text.specs.Printing.{as_line, numbered};
 ghost use Rattle.text_commands.specs.Answers.{counts_text};
-ghost use Rattle.text_commands.specs.Runs.{IsComplete, IsTaken};
-ghost use Rattle.run_streams.specs.Seen.{KeepsCounts, SourceSeen, ran_beside};
-ghost use Rattle.text_commands.specs.Statuses.{HasWriteFailed, IsDone, IsOutOfMemory};
+ghost use Rattle.run_streams.specs.Seen.{SourceSeen, ran_beside};
+ghost use Rattle.text_commands.specs.Outcomes.{AnswersCommand};
 
 use crate::Complaint;
 use crate::telling::tell;
@@ -26,16 +25,8 @@ pub(crate) fn run_make<O: Sink, E: Sink>(
     err: &mut E,
 ) -> u8
     requires { CanBeMade schedule }
-    ensures status { (result ≡ 0) ⊎ (result ≡ 5) ⊎ (result ≡ 8) }
-    ensures complete { (input : SourceSeen) → IsComplete (Some (command.Make schedule))
+    ensures { (input : SourceSeen) → AnswersCommand (command.Make schedule)
         (ran_beside O.Sink E.Sink input out.old out.new err.old err.new) result }
-    ensures done { (input : SourceSeen) → result ≡ 0 → IsDone (Some (command.Make schedule))
-        (ran_beside O.Sink E.Sink input out.old out.new err.old err.new) }
-    ensures write { (input : SourceSeen) → result ≡ 5 → HasWriteFailed (Some (command.Make schedule))
-        (ran_beside O.Sink E.Sink input out.old out.new err.old err.new) }
-    ensures memory { (input : SourceSeen) → result ≡ 8 → IsOutOfMemory (Some (command.Make schedule))
-        (ran_beside O.Sink E.Sink input out.old out.new err.old err.new) }
-    ensures counts { (input : SourceSeen) → KeepsCounts (ran_beside O.Sink E.Sink input out.old out.new err.old err.new) }
 {
     made_schedules_are_replayed();
     match make(alloc, schedule.stack, schedule.seed, schedule.steps, out) {
@@ -84,16 +75,8 @@ pub(crate) fn run_summary<O: Sink, E: Sink>(
     err: &mut E,
 ) -> u8
     requires { CanBeMade schedule }
-    ensures status { (result ≡ 0) ⊎ (result ≡ 5) ⊎ (result ≡ 8) }
-    ensures complete { (input : SourceSeen) → IsComplete (Some (command.Summarize schedule))
+    ensures { (input : SourceSeen) → AnswersCommand (command.Summarize schedule)
         (ran_beside O.Sink E.Sink input out.old out.new err.old err.new) result }
-    ensures done { (input : SourceSeen) → result ≡ 0 → IsDone (Some (command.Summarize schedule))
-        (ran_beside O.Sink E.Sink input out.old out.new err.old err.new) }
-    ensures write { (input : SourceSeen) → result ≡ 5 → HasWriteFailed (Some (command.Summarize schedule))
-        (ran_beside O.Sink E.Sink input out.old out.new err.old err.new) }
-    ensures memory { (input : SourceSeen) → result ≡ 8 → IsOutOfMemory (Some (command.Summarize schedule))
-        (ran_beside O.Sink E.Sink input out.old out.new err.old err.new) }
-    ensures counts { (input : SourceSeen) → KeepsCounts (ran_beside O.Sink E.Sink input out.old out.new err.old err.new) }
 {
     made_schedules_are_replayed();
     let text = match summary_text(alloc, schedule) {

@@ -1,8 +1,6 @@
-ghost use Rattle.std.specs.Prelude.{◌≡◌, ◌≢◌, ℕ, Some};
 ghost use Rattle.command_line.specs.declared.command.Command.TheVariants as command;
-ghost use Rattle.text_commands.specs.Runs.{IsComplete};
-ghost use Rattle.run_streams.specs.Seen.{KeepsCounts, ran};
-ghost use Rattle.text_commands.specs.Statuses.{HasReadFailed, HasWriteFailed, IsDone, IsLineRefused, IsOutOfMemory, IsTextStatus};
+ghost use Rattle.run_streams.specs.Seen.{ran};
+ghost use Rattle.text_commands.specs.Outcomes.{AnswersCommand};
 
 use crate::Complaint;
 use crate::telling::tell;
@@ -18,21 +16,7 @@ pub(crate) fn run_replay<S: Source, O: Sink, E: Sink>(
     out: &mut O,
     err: &mut E,
 ) -> u8
-    ensures status { IsTextStatus result }
-    ensures complete { IsComplete (Some command.Replay)
-        (ran S.Source O.Sink E.Sink input.old input.new out.old out.new err.old err.new) result }
-    ensures done { result ≡ 0 → IsDone (Some command.Replay)
-        (ran S.Source O.Sink E.Sink input.old input.new out.old out.new err.old err.new) }
-    ensures denied { result ≢ 1 }
-    ensures refused { result ≡ 3 → IsLineRefused (Some command.Replay)
-        (ran S.Source O.Sink E.Sink input.old input.new out.old out.new err.old err.new) }
-    ensures read { result ≡ 4 → HasReadFailed (Some command.Replay)
-        (ran S.Source O.Sink E.Sink input.old input.new out.old out.new err.old err.new) }
-    ensures write { result ≡ 5 → HasWriteFailed (Some command.Replay)
-        (ran S.Source O.Sink E.Sink input.old input.new out.old out.new err.old err.new) }
-    ensures memory { result ≡ 8 → IsOutOfMemory (Some command.Replay)
-        (ran S.Source O.Sink E.Sink input.old input.new out.old out.new err.old err.new) }
-    ensures counts { KeepsCounts (ran S.Source O.Sink E.Sink input.old input.new out.old out.new err.old err.new) }
+    ensures { AnswersCommand command.Replay (ran S.Source O.Sink E.Sink input.old input.new out.old out.new err.old err.new) result }
 {
     replays_are_explained();
     match replay(alloc, input, out) {

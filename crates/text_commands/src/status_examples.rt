@@ -1,5 +1,6 @@
-ghost use Rattle.std.specs.Prelude.{◌≡◌, ◌++◌, [], ◌∷◌, None, Some, codes};
+ghost use Rattle.std.specs.Prelude.{◌≡◌, ◌++◌, [], ◌∷◌, None, Some, codes, replicate};
 ghost use Rattle.command_line.specs.declared.command.Command.TheVariants as command;
+ghost use Rattle.schedule_replay.specs.Examples.{one_input};
 ghost use Rattle.run_streams.specs.Lines.{memory_line, read_failed_line};
 ghost use Rattle.text_commands.specs.Answers.{permitted_line, usage_line};
 ghost use Rattle.text_commands.specs.Complaints.{HasCause, HidesNothing, MaySay, Told, WasSaying};
@@ -7,6 +8,7 @@ ghost use Rattle.text_commands.specs.Examples.{backwards, err_failed, err_wanted
 ghost use Rattle.text_commands.specs.Runs.{IsComplete};
 ghost use Rattle.run_streams.specs.Seen.{KeepsCounts};
 ghost use Rattle.text_commands.specs.Statuses.{AreWordsRefused, HasReadFailed, HasWriteFailed, IsDenied, IsDone, IsLineRefused, IsOutOfMemory};
+ghost use Rattle.schedule_text.specs.ExampleTexts.{groundless_claim, idle, idle_claim, unsent};
 
 use crate::Complaint;
 use line_reader::Why;
@@ -18,13 +20,13 @@ use vst_base::StackId;
 pub fn worked_complaints()
     ensures usage { MaySay None (quiet_run [] [] [] []) usage_line }
     ensures usage_of_no_command { HasCause (Some command.Replay) (quiet_run [] [] [] []) Complaint.Words → ⊥ }
-    ensures refused_line { MaySay (Some command.Replay) (quiet_run (codes "schedule 1 bag lock 2\ndeliver 7\n") [] [] []) (codes "line 2: no copy\n") }
-    ensures another_line { MaySay (Some command.Replay) (quiet_run (codes "schedule 1 bag lock 2\ndeliver 7\n") [] [] []) (codes "line 1: no copy\n") → ⊥ }
-    ensures condition { MaySay (Some (command.Check StackId.Lock)) (quiet_run (codes "out 1 locked\nbelow\nschedule 1 bag lock 2\n") [] [] []) (codes "condition 5 line 1\n") }
+    ensures refused_line { MaySay (Some command.Replay) (quiet_run unsent [] [] []) (codes "line 2: no copy\n") }
+    ensures another_line { MaySay (Some command.Replay) (quiet_run unsent [] [] []) (codes "line 1: no copy\n") → ⊥ }
+    ensures condition { MaySay (Some (command.Check StackId.Lock)) (quiet_run groundless_claim [] [] []) (codes "condition 5 line 1\n") }
     ensures condition_of_a_replay { HasCause (Some command.Replay) (quiet_run [] [] [] []) (Complaint.Condition 5 1) → ⊥ }
     ensures read { MaySay (Some command.Replay) (read_failed (quiet_run (codes "\n") (codes "\n") [] [])) read_failed_line }
     ensures read_that_did_not_fail { HasCause (Some command.Replay) (quiet_run (codes "\n") (codes "\n") [] []) Complaint.Read → ⊥ }
-    ensures read_past_a_refused_line { HasCause (Some command.Replay) (read_failed (quiet_run (codes "schedule 1 bag lock 2\ndeliver 7\n") [] [] [])) Complaint.Read → ⊥ }
+    ensures read_past_a_refused_line { HasCause (Some command.Replay) (read_failed (quiet_run unsent [] [] [])) Complaint.Read → ⊥ }
     ensures memory { MaySay (Some command.Replay) (quiet_run [] [] [] []) memory_line }
     ensures memory_wanted_by_out { HidesNothing Complaint.Memory (out_wanted (quiet_run [] [] [] [])) }
     ensures memory_after_a_failed_read { HidesNothing Complaint.Memory (read_failed (quiet_run [] [] [] [])) → ⊥ }
@@ -50,11 +52,11 @@ pub fn worked_tellings()
 
 /// Which status comes where no call failed, and that no count falls.
 pub fn worked_counts()
-    ensures complete { IsComplete (Some command.Replay) (quiet_run (codes "schedule 1 bag lock 2\n") [] [] []) 0 }
-    ensures wanting { IsComplete (Some command.Replay) (quiet_run (codes "schedule 1 bag lock 2\n") [] [] []) 8 }
-    ensures another_status { IsComplete (Some command.Replay) (quiet_run (codes "schedule 1 bag lock 2\n") [] [] []) 5 → ⊥ }
+    ensures complete { IsComplete (Some command.Replay) (quiet_run idle [] [] []) 0 }
+    ensures wanting { IsComplete (Some command.Replay) (quiet_run idle [] [] []) 8 }
+    ensures another_status { IsComplete (Some command.Replay) (quiet_run idle [] [] []) 5 → ⊥ }
     ensures refused_as_done { IsComplete (Some command.Replay) (quiet_run (codes "deliver 7\n") [] [] []) 0 → ⊥ }
-    ensures any_status_at_a_fault { IsComplete (Some command.Replay) (out_failed (quiet_run (codes "schedule 1 bag lock 2\n") [] [] [])) 5 }
+    ensures any_status_at_a_fault { IsComplete (Some command.Replay) (out_failed (quiet_run idle [] [] [])) 5 }
     ensures counted { KeepsCounts (out_failed (quiet_run [] [] [] [])) }
     ensures a_read_uncounted { KeepsCounts (backwards (read_failed (quiet_run [] [] [] []))) → ⊥ }
     ensures a_write_uncounted { KeepsCounts (backwards (out_failed (quiet_run [] [] [] []))) → ⊥ }
@@ -63,34 +65,36 @@ pub fn worked_counts()
 
 /// What each status says: a run that it fits, and one that it does not fit.
 pub fn worked_statuses()
-    ensures replayed { IsDone (Some command.Replay) (quiet_run (codes "schedule 1 bag lock 2\n") [] (codes "below\nschedule 1 bag lock 2\n") []) }
-    ensures replayed_without_an_image { IsDone (Some command.Replay) (quiet_run (codes "schedule 1 bag lock 2\n") [] (codes "below\n") []) → ⊥ }
-    ensures permitted { IsDone (Some (command.Check StackId.Lock)) (quiet_run (codes "below\nschedule 1 bag lock 2\n") [] permitted_line []) }
-    ensures permitted_in_silence { IsDone (Some (command.Check StackId.Lock)) (quiet_run (codes "below\nschedule 1 bag lock 2\n") [] [] []) → ⊥ }
-    ensures not_read_to_its_end { IsDone (Some (command.Check StackId.Lock)) (quiet_run (codes "below\nschedule 1 bag lock 2\n") (codes "\n") permitted_line []) → ⊥ }
-    ensures denied { IsDenied (Some (command.Check StackId.Lock)) (quiet_run (codes "out 1 locked\nbelow\nschedule 1 bag lock 2\n") [] [] (codes "condition 5 line 1\n")) }
-    ensures denied_and_permitted { IsDenied (Some (command.Check StackId.Lock)) (quiet_run (codes "out 1 locked\nbelow\nschedule 1 bag lock 2\n") [] permitted_line (codes "condition 5 line 1\n")) → ⊥ }
-    ensures denied_replay { IsDenied (Some command.Replay) (quiet_run (codes "schedule 1 bag lock 2\n") [] [] (codes "condition 5 line 1\n")) → ⊥ }
-    ensures words { AreWordsRefused (codes "vst" ∷ codes "frob" ∷ []) (quiet_run (codes "schedule 1 bag lock 2\n") (codes "schedule 1 bag lock 2\n") [] usage_line) }
-    ensures words_and_an_input_read { AreWordsRefused (codes "vst" ∷ codes "frob" ∷ []) (quiet_run (codes "schedule 1 bag lock 2\n") [] [] usage_line) → ⊥ }
-    ensures refused { IsLineRefused (Some command.Replay) (quiet_run (codes "schedule 1 bag lock 2\ndeliver 7\n") [] [] (codes "line 2: no copy\n")) }
+    ensures replayed { IsDone (Some command.Replay) (quiet_run idle [] idle_claim []) }
+    ensures replayed_without_an_image { IsDone (Some command.Replay) (quiet_run idle [] (codes "below\n") []) → ⊥ }
+    ensures permitted { IsDone (Some (command.Check StackId.Lock)) (quiet_run idle_claim [] permitted_line []) }
+    ensures permitted_in_silence { IsDone (Some (command.Check StackId.Lock)) (quiet_run idle_claim [] [] []) → ⊥ }
+    ensures not_read_to_its_end { IsDone (Some (command.Check StackId.Lock)) (quiet_run idle_claim (codes "\n") permitted_line []) → ⊥ }
+    ensures denied { IsDenied (Some (command.Check StackId.Lock)) (quiet_run groundless_claim [] [] (codes "condition 5 line 1\n")) }
+    ensures denied_and_permitted { IsDenied (Some (command.Check StackId.Lock)) (quiet_run groundless_claim [] permitted_line (codes "condition 5 line 1\n")) → ⊥ }
+    ensures denied_replay { IsDenied (Some command.Replay) (quiet_run idle [] [] (codes "condition 5 line 1\n")) → ⊥ }
+    ensures words { AreWordsRefused (codes "vst" ∷ codes "frob" ∷ []) (quiet_run idle idle [] usage_line) }
+    ensures words_and_an_input_read { AreWordsRefused (codes "vst" ∷ codes "frob" ∷ []) (quiet_run idle [] [] usage_line) → ⊥ }
+    ensures refused { IsLineRefused (Some command.Replay) (quiet_run unsent [] [] (codes "line 2: no copy\n")) }
     ensures refused_words_of_no_line { IsLineRefused None (quiet_run [] [] [] usage_line) → ⊥ }
-    ensures refused_and_a_fault_hidden { IsLineRefused (Some command.Replay) (err_failed (quiet_run (codes "schedule 1 bag lock 2\ndeliver 7\n") [] [] (codes "line 2: no copy\n"))) → ⊥ }
+    ensures refused_and_a_fault_hidden { IsLineRefused (Some command.Replay) (err_failed (quiet_run unsent [] [] (codes "line 2: no copy\n"))) → ⊥ }
     ensures read { HasReadFailed (Some command.Replay) (read_failed (quiet_run (codes "schedule 1 bag lock 2\nin 1 lock\n") (codes " lock\n") [] read_failed_line)) }
     ensures read_that_did_not_fail { HasReadFailed (Some command.Replay) (quiet_run (codes "schedule 1 bag lock 2\nin 1 lock\n") (codes " lock\n") [] read_failed_line) → ⊥ }
-    ensures write { HasWriteFailed (Some (command.Check StackId.Lock)) (out_failed (quiet_run (codes "below\nschedule 1 bag lock 2\n") [] (codes "per") [])) }
-    ensures write_of_a_line { HasWriteFailed (Some command.Replay) (err_failed (quiet_run (codes "schedule 1 bag lock 2\ndeliver 7\n") [] [] (codes "line"))) }
-    ensures write_that_did_not_fail { HasWriteFailed (Some command.Replay) (quiet_run (codes "schedule 1 bag lock 2\ndeliver 7\n") [] [] []) → ⊥ }
-    ensures write_after_a_failed_read { HasWriteFailed (Some (command.Check StackId.Lock)) (read_failed (out_failed (quiet_run (codes "below\nschedule 1 bag lock 2\n") [] (codes "per") []))) → ⊥ }
-    ensures write_of_both { HasWriteFailed (Some (command.Check StackId.Lock)) (err_failed (out_failed (quiet_run (codes "below\nschedule 1 bag lock 2\n") [] (codes "per") []))) → ⊥ }
-    ensures write_that_wanted_memory { HasWriteFailed (Some command.Replay) (err_wanted (quiet_run (codes "schedule 1 bag lock 2\n") [] [] (codes "mem"))) → ⊥ }
-    ensures memory { IsOutOfMemory (Some command.Replay) (quiet_run (codes "schedule 1 bag lock 2\n") [] (codes "bel") memory_line) }
-    ensures memory_of_the_error_stream { IsOutOfMemory (Some command.Replay) (err_wanted (quiet_run (codes "schedule 1 bag lock 2\n") [] [] (codes "mem"))) }
-    ensures memory_in_silence { IsOutOfMemory (Some command.Replay) (quiet_run (codes "schedule 1 bag lock 2\n") [] [] []) → ⊥ }
-    ensures memory_for_a_failed_write { IsOutOfMemory (Some command.Replay) (out_failed (quiet_run (codes "schedule 1 bag lock 2\n") [] (codes "bel") memory_line)) → ⊥ }
-    ensures memory_for_a_failed_line { IsOutOfMemory (Some command.Replay) (err_failed (quiet_run (codes "schedule 1 bag lock 2\n") [] [] memory_line)) → ⊥ }
-    ensures memory_for_a_failed_read { IsOutOfMemory (Some command.Replay) (read_failed (quiet_run (codes "schedule 1 bag lock 2\n") [] [] memory_line)) → ⊥ }
-    ensures memory_while_it_said_read { IsOutOfMemory (Some command.Replay) (err_wanted (read_failed (quiet_run (codes "schedule 1 bag lock 2\n") [] [] (codes "re")))) }
+    ensures write { HasWriteFailed (Some (command.Check StackId.Lock)) (out_failed (quiet_run idle_claim [] (codes "per") [])) }
+    ensures write_of_a_line { HasWriteFailed (Some command.Replay) (err_failed (quiet_run unsent [] [] (codes "line"))) }
+    ensures write_that_did_not_fail { HasWriteFailed (Some command.Replay) (quiet_run unsent [] [] []) → ⊥ }
+    ensures write_after_a_failed_read { HasWriteFailed (Some (command.Check StackId.Lock)) (read_failed (out_failed (quiet_run idle_claim [] (codes "per") []))) → ⊥ }
+    ensures write_of_both { HasWriteFailed (Some (command.Check StackId.Lock)) (err_failed (out_failed (quiet_run idle_claim [] (codes "per") []))) → ⊥ }
+    ensures write_that_wanted_memory { HasWriteFailed (Some command.Replay) (err_wanted (quiet_run idle [] [] (codes "mem"))) → ⊥ }
+    ensures write_held_back { HasWriteFailed (Some command.Replay) (out_failed (quiet_run (one_input ++ replicate 8192 35) [] [] [])) → ⊥ }
+    ensures memory { IsOutOfMemory (Some command.Replay) (quiet_run idle [] (codes "bel") memory_line) }
+    ensures memory_of_the_error_stream { IsOutOfMemory (Some command.Replay) (err_wanted (quiet_run idle [] [] (codes "mem"))) }
+    ensures memory_with_all_held_back { IsOutOfMemory (Some command.Replay) (quiet_run (one_input ++ replicate 8192 35) [] [] memory_line) → ⊥ }
+    ensures memory_in_silence { IsOutOfMemory (Some command.Replay) (quiet_run idle [] [] []) → ⊥ }
+    ensures memory_for_a_failed_write { IsOutOfMemory (Some command.Replay) (out_failed (quiet_run idle [] (codes "bel") memory_line)) → ⊥ }
+    ensures memory_for_a_failed_line { IsOutOfMemory (Some command.Replay) (err_failed (quiet_run idle [] [] memory_line)) → ⊥ }
+    ensures memory_for_a_failed_read { IsOutOfMemory (Some command.Replay) (read_failed (quiet_run idle [] [] memory_line)) → ⊥ }
+    ensures memory_while_it_said_read { IsOutOfMemory (Some command.Replay) (err_wanted (read_failed (quiet_run idle [] [] (codes "re")))) }
 {
     replays_are_explained();
     permitted_claims_are_explained();

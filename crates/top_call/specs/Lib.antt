@@ -1,4 +1,4 @@
 pub mod Examples
 pub mod Headline
 pub mod Requests
-pub mod Statuses
+pub mod Outcomes

@@ -1,15 +1,13 @@
-ghost use Rattle.std.specs.Prelude.{◌≡◌, ℕ, None, Some, map, string_bytes};
+ghost use Rattle.std.specs.Prelude.{◌≡◌, None, Some, map, string_bytes};
 ghost use Rattle.std.specs.Bool.{OnFalse};
 ghost use Rattle.command_line.specs.declared.asked.Asked.TheVariants.{Texts};
 ghost use Rattle.command_line.specs.declared.command.Command.TheVariants as command;
-ghost use Rattle.node_command.specs.Seen.{KeepsAllCounts, node_ran};
+ghost use Rattle.node_command.specs.Seen.{node_ran};
 ghost use Rattle.run_streams.specs.Seen.{ran};
 ghost use Rattle.text_commands.specs.Answers.{reads};
-ghost use Rattle.text_commands.specs.Statuses.{AreWordsRefused};
 ghost use Rattle.top_call.specs.Headline.{ShowsHeadline};
+ghost use Rattle.top_call.specs.Outcomes.{Answers, IsStatus};
 ghost use Rattle.top_call.specs.Requests.{By, asked};
-ghost use Rattle.top_call.specs.Statuses.{AreAreasRefused, HasListeningFailed, HasReadFailed, HasRun, HasStoreFailed, HasWriteFailed};
-ghost use Rattle.top_call.specs.Statuses.{IsComplete, IsDenied, IsDone, IsInputRefused, IsOutOfMemory, IsStatus};
 
 use command_line::{Asked, read_words};
 use node_command::run_node;
@@ -31,46 +29,12 @@ pub fn run<S: Source, O: Sink, E: Sink, D: Device>(
     device: &mut D,
 ) -> u8
     ensures status { IsStatus result }
-    ensures complete { IsComplete (asked words.now) (node_ran
-        (ran S.Source O.Sink E.Sink input.old input.new out.old out.new err.old err.new)
-        D.Device device.old device.new) result }
-    ensures ran { HasRun (asked words.now) (node_ran (ran S.Source O.Sink E.Sink input.old input.new out.old out.new err.old err.new)
-        D.Device device.old device.new) }
+    ensures answers { let streams = ran S.Source O.Sink E.Sink input.old input.new out.old out.new err.old err.new in
+        Answers (map string_bytes words.now) (node_ran streams D.Device device.old device.new) result }
     ensures headline { asked words.now ≡ Some (Texts command.Replay) → result ≡ 0
         → ShowsHeadline (S.left input.old) (O.written out.old) (O.written out.new) }
-    ensures done { result ≡ 0 → IsDone (asked words.now) (node_ran
-        (ran S.Source O.Sink E.Sink input.old input.new out.old out.new err.old err.new)
-        D.Device device.old device.new) }
-    ensures denied { result ≡ 1 → IsDenied (asked words.now) (node_ran
-        (ran S.Source O.Sink E.Sink input.old input.new out.old out.new err.old err.new)
-        D.Device device.old device.new) }
-    ensures words { result ≡ 2 → AreWordsRefused (map string_bytes words.now)
-        (ran S.Source O.Sink E.Sink input.old input.new out.old out.new err.old err.new) }
-    ensures refused { result ≡ 3 → IsInputRefused (asked words.now)
-        (node_ran (ran S.Source O.Sink E.Sink input.old input.new out.old out.new err.old err.new)
-        D.Device device.old device.new) }
-    ensures read { result ≡ 4 → HasReadFailed (asked words.now)
-        (node_ran (ran S.Source O.Sink E.Sink input.old input.new out.old out.new err.old err.new)
-        D.Device device.old device.new) }
-    ensures write { result ≡ 5 → HasWriteFailed (asked words.now)
-        (node_ran (ran S.Source O.Sink E.Sink input.old input.new out.old out.new err.old err.new)
-        D.Device device.old device.new) }
-    ensures listening { result ≡ 6 → HasListeningFailed (asked words.now)
-        (node_ran (ran S.Source O.Sink E.Sink input.old input.new out.old out.new err.old err.new)
-        D.Device device.old device.new) }
-    ensures store { result ≡ 7 → HasStoreFailed (asked words.now)
-        (node_ran (ran S.Source O.Sink E.Sink input.old input.new out.old out.new err.old err.new)
-        D.Device device.old device.new) }
-    ensures memory { result ≡ 8 → IsOutOfMemory (asked words.now)
-        (node_ran (ran S.Source O.Sink E.Sink input.old input.new out.old out.new err.old err.new)
-        D.Device device.old device.new) }
-    ensures areas { result ≡ 9 → AreAreasRefused (asked words.now)
-        (node_ran (ran S.Source O.Sink E.Sink input.old input.new out.old out.new err.old err.new)
-        D.Device device.old device.new) }
     ensures unread { By (asked words.now) (λ command. OnFalse (reads command) (input.new ≡ input.old)) (λ w. Unit {0}) }
     ensures unwritten { asked words.now ≡ None → out.new ≡ out.old }
-    ensures counts { KeepsAllCounts (node_ran (ran S.Source O.Sink E.Sink input.old input.new out.old out.new err.old err.new)
-        D.Device device.old device.new) }
     ensures device { By (asked words.now) (λ command. device.new ≡ device.old) (λ w. Unit {0}) }
 {
     match read_words(alloc, words) {

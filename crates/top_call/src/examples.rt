@@ -4,15 +4,17 @@ ghost use Rattle.command_line.specs.AskedNodes.{NodeWordsView};
 ghost use Rattle.command_line.specs.declared.asked.Asked.TheVariants.{Node, Texts};
 ghost use Rattle.command_line.specs.declared.command.Command.{Command};
 ghost use Rattle.command_line.specs.declared.command.Command.TheVariants as command;
-ghost use Rattle.node_command.specs.Examples.{complained, idle, words};
+ghost use Rattle.node_command.specs.Examples.{complained, idle as left_alone, words};
 ghost use Rattle.node_command.specs.Seen.{NodeRun};
+ghost use Rattle.node_command.specs.Statuses.{IsNodeStatus};
 ghost use Rattle.run_streams.specs.Lines.{memory_line, read_failed_line};
-ghost use Rattle.text_commands.specs.Examples.{out_failed, quiet_run, read_failed};
-ghost use Rattle.top_call.specs.Examples.{beside, used};
+ghost use Rattle.text_commands.specs.Examples.{backwards, out_failed, quiet_run, read_failed};
+ghost use Rattle.text_commands.specs.Statuses.{IsTextStatus};
+ghost use Rattle.top_call.specs.Examples.{NodeAnswers, ReplayAnswers, beside, used};
 ghost use Rattle.top_call.specs.Headline.{Headline};
+ghost use Rattle.top_call.specs.Outcomes.{AnswersAsked, IsStatus};
 ghost use Rattle.top_call.specs.Requests.{By, asked};
-ghost use Rattle.top_call.specs.Statuses.{AreAreasRefused, HasListeningFailed, HasReadFailed, HasRun, HasStoreFailed, HasWriteFailed};
-ghost use Rattle.top_call.specs.Statuses.{IsComplete, IsDenied, IsDone, IsInputRefused, IsOutOfMemory, IsStatus};
+ghost use Rattle.schedule_text.specs.ExampleTexts.{handover, handover_claim, idle, unsent};
 
 use schedule_replay::replays_are_explained;
 use vst_base::StackId;
@@ -30,46 +32,49 @@ pub fn worked_requests()
     ensures no_status { IsStatus 10 → ⊥ }
 {}
 
-/// What a status says of a command over texts, and that it never ends as a node does.
+/// What a run of a command over texts answers: never a status that is a node's alone, nor that of words. Words that ask for nothing are
+/// never done.
 pub fn worked_texts()
-    ensures complete { IsComplete (Some (Texts command.Replay)) (beside (quiet_run (codes "schedule 1 bag lock 2\n") [] [] [])) 0 }
-    ensures another_status { IsComplete (Some (Texts command.Replay)) (beside (quiet_run (codes "schedule 1 bag lock 2\n") [] [] [])) 5 → ⊥ }
-    ensures done_without_an_image { IsDone (Some (Texts command.Replay)) (beside (quiet_run (codes "schedule 1 bag lock 2\n") [] (codes "below\n") [])) → ⊥ }
-    ensures done_of_no_words { (r : NodeRun) → IsDone None r → ⊥ }
-    ensures denied_replay { (r : NodeRun) → IsDenied (Some (Texts command.Replay)) r → ⊥ }
-    ensures refused_as_a_configuration { IsInputRefused (Some (Texts command.Replay)) (complained 0 (codes "config: me\n") idle) → ⊥ }
-    ensures read_that_did_not_fail { HasReadFailed (Some (Texts command.Replay)) (beside (quiet_run (codes "\n") (codes "\n") [] read_failed_line)) → ⊥ }
-    ensures write { HasWriteFailed (Some (Texts command.Replay)) (beside (out_failed (quiet_run (codes "schedule 1 bag lock 2\n") [] (codes "bel") []))) }
-    ensures write_that_did_not_fail { HasWriteFailed (Some (Texts command.Replay)) (beside (quiet_run (codes "schedule 1 bag lock 2\n") [] (codes "bel") [])) → ⊥ }
-    ensures listening { (c : Command) (r : NodeRun) → HasListeningFailed (Some (Texts c)) r → ⊥ }
-    ensures store { (c : Command) (r : NodeRun) → HasStoreFailed (Some (Texts c)) r → ⊥ }
-    ensures memory { IsOutOfMemory (Some (Texts command.Replay)) (beside (quiet_run (codes "schedule 1 bag lock 2\n") [] (codes "bel") memory_line)) }
-    ensures memory_for_a_failed_write { IsOutOfMemory (Some (Texts command.Replay)) (beside (out_failed (quiet_run (codes "schedule 1 bag lock 2\n") [] (codes "bel") memory_line))) → ⊥ }
-    ensures areas { (c : Command) (r : NodeRun) → AreAreasRefused (Some (Texts c)) r → ⊥ }
+    ensures status { (c : Command) (ws : List (List ℕ)) (r : NodeRun) (n : ℕ) → AnswersAsked (Some (Texts c)) ws r n → IsTextStatus n }
+    ensures no_words { IsTextStatus 2 → ⊥ }
+    ensures no_listening { IsTextStatus 6 → ⊥ }
+    ensures no_store { IsTextStatus 7 → ⊥ }
+    ensures no_areas { IsTextStatus 9 → ⊥ }
+    ensures another_status { ReplayAnswers (beside (quiet_run idle [] [] [])) 5 → ⊥ }
+    ensures done_without_an_image { ReplayAnswers (beside (quiet_run idle [] (codes "below\n") [])) 0 → ⊥ }
+    ensures done_of_no_words { (ws : List (List ℕ)) (r : NodeRun) → AnswersAsked None ws r 0 → ⊥ }
+    ensures denied_replay { (ws : List (List ℕ)) (r : NodeRun) → AnswersAsked (Some (Texts command.Replay)) ws r 1 → ⊥ }
+    ensures refused_as_a_configuration { ReplayAnswers (complained 0 (codes "config: me\n") left_alone) 3 → ⊥ }
+    ensures read_that_did_not_fail { ReplayAnswers (beside (quiet_run (codes "\n") (codes "\n") [] read_failed_line)) 4 → ⊥ }
+    ensures write { ReplayAnswers (beside (out_failed (quiet_run idle [] (codes "bel") []))) 5 }
+    ensures memory { ReplayAnswers (beside (quiet_run idle [] (codes "bel") memory_line)) 8 }
+    ensures memory_for_a_failed_write { ReplayAnswers (beside (out_failed (quiet_run idle [] (codes "bel") memory_line))) 8 → ⊥ }
+    ensures a_count_that_fell { ReplayAnswers (beside (backwards (out_failed (quiet_run [] [] [] [])))) 8 → ⊥ }
 {}
 
-/// What a status says of a node, which never ends as a check does.
+/// What a run of a node answers, which never ends as a check does, nor as refused words.
 pub fn worked_nodes()
-    ensures left_alone { HasRun (Some (Node words)) (complained 0 [] idle) }
-    ensures used_after_a_failed_read { HasRun (Some (Node words)) (used (read_failed (quiet_run [] [] [] []))) → ⊥ }
-    ensures denied { (w : NodeWordsView) (r : NodeRun) → IsDenied (Some (Node w)) r → ⊥ }
-    ensures done_as_a_replay { IsDone (Some (Node words)) (beside (quiet_run (codes "schedule 1 bag lock 2\n") [] (codes "below\n") [])) → ⊥ }
-    ensures refused_as_a_line { IsInputRefused (Some (Node words)) (complained 0 (codes "line 1: header\n") idle) → ⊥ }
-    ensures read_and_the_device_used { HasReadFailed (Some (Node words)) (used (read_failed (quiet_run [] [] [] read_failed_line))) → ⊥ }
-    ensures write_that_did_not_fail { HasWriteFailed (Some (Node words)) (complained 0 [] idle) → ⊥ }
-    ensures listening_in_silence { HasListeningFailed (Some (Node words)) (complained 0 [] idle) → ⊥ }
-    ensures store_in_silence { HasStoreFailed (Some (Node words)) (complained 0 [] idle) → ⊥ }
-    ensures memory_in_silence { IsOutOfMemory (Some (Node words)) (complained 0 [] idle) → ⊥ }
-    ensures areas_in_silence { AreAreasRefused (Some (Node words)) (complained 0 [] idle) → ⊥ }
+    ensures status { (w : NodeWordsView) (ws : List (List ℕ)) (r : NodeRun) (n : ℕ) → AnswersAsked (Some (Node w)) ws r n → IsNodeStatus n }
+    ensures no_denial { IsNodeStatus 1 → ⊥ }
+    ensures no_words { IsNodeStatus 2 → ⊥ }
+    ensures wanted { NodeAnswers (complained 0 (codes "memory\n") left_alone) 8 }
+    ensures used_after_a_failed_read { (n : ℕ) → NodeAnswers (used (read_failed (quiet_run [] [] [] []))) n → ⊥ }
+    ensures done_as_a_replay { NodeAnswers (beside (quiet_run idle [] (codes "below\n") [])) 0 → ⊥ }
+    ensures refused_as_a_line { NodeAnswers (complained 0 (codes "line 1: header\n") left_alone) 3 → ⊥ }
+    ensures read_and_the_device_used { NodeAnswers (used (read_failed (quiet_run [] [] [] read_failed_line))) 4 → ⊥ }
+    ensures write_that_did_not_fail { NodeAnswers (complained 0 [] left_alone) 5 → ⊥ }
+    ensures listening_in_silence { NodeAnswers (complained 0 [] left_alone) 6 → ⊥ }
+    ensures store_in_silence { NodeAnswers (complained 0 [] left_alone) 7 → ⊥ }
+    ensures memory_in_silence { NodeAnswers (complained 0 [] left_alone) 8 → ⊥ }
+    ensures areas_in_silence { NodeAnswers (complained 0 [] left_alone) 9 → ⊥ }
 {}
 
 /// The headline of two inputs, and texts that are none of theirs.
 pub fn worked_headlines()
-    ensures handed_over { Headline (codes "schedule 1 bag lock 2\nin 1 lock\ndeliver 0\ndeliver 1\n")
-        (codes "in 1 lock\nout 1 locked\nbelow\nschedule 1 bag lock 2\nin 1 lock\ndeliver 0\ndeliver 1\n") }
-    ensures another_trace { Headline (codes "schedule 1 bag lock 2\n") (codes "in 1 lock\nbelow\nschedule 1 bag lock 2\n") → ⊥ }
-    ensures without_an_image { Headline (codes "schedule 1 bag lock 2\n") [] → ⊥ }
-    ensures a_refused_step { (text : List ℕ) → Headline (codes "schedule 1 bag lock 2\ndeliver 7\n") text → ⊥ }
+    ensures handed_over { Headline handover handover_claim }
+    ensures another_trace { Headline idle (codes "in 1 lock\nbelow\nschedule 1 bag lock 2\n") → ⊥ }
+    ensures without_an_image { Headline idle [] → ⊥ }
+    ensures a_refused_step { (text : List ℕ) → Headline unsent text → ⊥ }
     ensures no_header { (text : List ℕ) → Headline [] text → ⊥ }
 {
     replays_are_explained();

@@ -45,7 +45,7 @@ returns-clause-summarized_as_a_text c = λ h. let e : 115 ≡ 101 = ap written_f
 pub returns-clause-write : goal.returns-clause-write
 unfolding digits
 returns-clause-write c = record {
-  front = record { out = (3, refl); verdict = tt };
+  front = record { out = (3, refl); verdict = tt; kept_up = tt };
   failed = inl (record { rose = lit≤ tt; wants = refl; reads = refl; err = refl });
 }
 
@@ -60,7 +60,7 @@ returns-clause-write_of_another_text c = λ h. another h.front.out.0 h.front.out
 pub returns-clause-memory : goal.returns-clause-memory
 unfolding digits
 returns-clause-memory c = record {
-  front = record { out = (3, refl); verdict = tt };
+  front = record { out = (3, refl); verdict = tt; kept_up = tt };
   writes = refl;
   complains = refl;
   wanted = inl (record { err = refl; reads = refl });

@@ -1,9 +1,12 @@
 -- These print numbers, whose digits have to be computed.
-use Rattle.std.proofs.Common.{codes, inl, inr, lit≤, refl, ℕ, List, [], Option}
+use Rattle.std.proofs.Common.{◌≡◌, ◌≤◌, ◌++◌, ◌∙◌, ap, arith, codes, inl, inr, length, lit≤, refl, replicate, sym, ℕ, List, [], Option, Some}
 use Rattle.std.specs.Fmt.{digits}
 use Rattle.line_reader.specs.declared.why.Why.TheVariants as why
 use Rattle.vst_base.specs.declared.stack.StackId.TheVariants as stack
-use Rattle.schedule_replay.specs.Replays.{replayed}
+use Rattle.schedule_replay.specs.Examples.{one_input}
+use Rattle.schedule_replay.specs.Outcomes.{KeptUp}
+use Rattle.schedule_replay.specs.Replays.{replayed, replayed_so_far}
+use Rattle.schedule_replay.proofs.KeptRows.{all-given, hashes, kept-few, kept-input}
 use Rattle.run_streams.specs.Lines.{memory_line, read_failed_line}
 use Rattle.run_streams.specs.Seen.{CountsNothing}
 use Rattle.text_commands.specs.declared.complaint.Complaint.TheVariants as complaint
@@ -99,14 +102,14 @@ returns-clause-read c = record {
 pub returns-clause-write : goal.returns-clause-write
 unfolding digits
 returns-clause-write c = record {
-  front = record { out = (3, refl); verdict = (3, refl) };
+  front = record { out = (3, refl); verdict = (3, refl); kept_up = tt };
   failed = inl (record { rose = lit≤ tt; wants = refl; reads = refl; err = refl });
 }
 
 pub returns-clause-write_of_a_line : goal.returns-clause-write_of_a_line
 unfolding digits
 returns-clause-write_of_a_line c = record {
-  front = record { out = (0, refl); verdict = tt };
+  front = record { out = (0, refl); verdict = tt; kept_up = kept-few (codes "schedule 1 bag lock 2\ndeliver 7\n") [] (lit≤ tt) };
   failed = inr (record {
     rose = lit≤ tt;
     wants = refl;
@@ -126,7 +129,7 @@ returns-clause-write_of_a_line c = record {
 pub returns-clause-memory : goal.returns-clause-memory
 unfolding digits
 returns-clause-memory c = record {
-  front = record { out = (3, refl); verdict = tt };
+  front = record { out = (3, refl); verdict = tt; kept_up = kept-few (codes "schedule 1 bag lock 2\n") (codes "bel") (lit≤ tt) };
   writes = refl;
   complains = refl;
   wanted = inl (record { err = refl; reads = refl });
@@ -135,7 +138,7 @@ returns-clause-memory c = record {
 pub returns-clause-memory_of_the_error_stream : goal.returns-clause-memory_of_the_error_stream
 unfolding digits
 returns-clause-memory_of_the_error_stream c = record {
-  front = record { out = (0, refl); verdict = tt };
+  front = record { out = (0, refl); verdict = tt; kept_up = kept-few (codes "schedule 1 bag lock 2\n") [] (lit≤ tt) };
   writes = refl;
   complains = refl;
   wanted = inr (
@@ -152,7 +155,7 @@ returns-clause-memory_of_the_error_stream c = record {
 pub returns-clause-memory_while_it_said_read : goal.returns-clause-memory_while_it_said_read
 unfolding digits
 returns-clause-memory_while_it_said_read c = record {
-  front = record { out = (0, refl); verdict = tt };
+  front = record { out = (0, refl); verdict = tt; kept_up = kept-few (codes "schedule 1 bag lock 2\n") [] (lit≤ tt) };
   writes = refl;
   complains = refl;
   wanted = inr (
@@ -169,3 +172,15 @@ returns-clause-memory_while_it_said_read c = record {
     },
   );
 }
+
+nothing_kept : KeptUp replayed_so_far (one_input ++ hashes 8192) (Some []) (Some []) (Some []) → ⊥
+nothing_kept x =
+    let line = kept-input 8192 x.early x.past.late (all-given 8192 x.early x.past) x.past.few (omega arith) in
+    let out : ◌≡◌ {A = Option (List ℕ)} (Some []) (Some (codes "in 1 lock\n" ++ x.more)) = x.written ∙ ap (λ xs. Some (xs ++ x.more)) line in
+    cc out
+
+pub returns-clause-write_held_back : goal.returns-clause-write_held_back
+returns-clause-write_held_back c = λ x. nothing_kept x.front.kept_up
+
+pub returns-clause-memory_with_all_held_back : goal.returns-clause-memory_with_all_held_back
+returns-clause-memory_with_all_held_back c = λ x. nothing_kept x.front.kept_up
