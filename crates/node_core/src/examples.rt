@@ -1,7 +1,8 @@
 ghost use Rattle.std.specs.Prelude.{◌≡◌, ◌-◌, ◌^◌, [], ◌∷◌, ◌++◌, None, Some};
 ghost use Rattle.node_acts.specs.Examples.{knowing, state, who};
-ghost use Rattle.node_core.specs.Examples.{after, config, first, says, started, thinking};
-ghost use Rattle.node_core.specs.Replicas.{IsReady, kept_of, view_of, who_of};
+ghost use Rattle.node_body.specs.Bodies.{VoteAmong};
+ghost use Rattle.node_core.specs.Examples.{after, config, first, says, started, taken, taken_with_a_strange_vote, thinking};
+ghost use Rattle.node_core.specs.Replicas.{IsReady, IsTaken, kept_of, view_of, who_of};
 ghost use Rattle.node_run.specs.Examples.{asked_put, at_port, candidate, datagram, number_of_eight, votes};
 ghost use Rattle.node_run.specs.declared.event.Event.TheVariants.{Tick};
 
@@ -9,7 +10,7 @@ use vst_base::StackId;
 
 /// A node at its start, and after an event: what it keeps, when its timer is to fire, and what it says. A request moves no deadline, and
 /// no event changes what is known of the areas.
-#[tactic(auto, unfolding(wire_fields::specs::Bytes::number_bytes, wire_fields::specs::Bytes::number_in, wire_fields::specs::Bytes::has_bytes, wire_fields::specs::Bytes::read_number))]
+#[tactic(auto, unfolding(wire_fields::specs::Bytes::number_bytes))]
 pub fn worked_replicas()
     ensures who { who_of config ≡ who }
     ensures first_deadline { (started 5).deadline ≡ 305 }
@@ -35,4 +36,19 @@ pub fn worked_readiness()
     ensures of_another_term { IsReady StackId.KvRaft (thinking (state 1 None [])) → ⊥ }
     ensures of_another_vote { IsReady StackId.KvRaft (thinking (state 0 (Some 1) [])) → ⊥ }
     ensures of_another_log { IsReady StackId.KvRaft (thinking (state 0 None (1 ∷ []))) → ⊥ }
+{}
+
+/// A node that has taken an event, of which so many entries at least are known to be held: those in front whose terms are held.
+pub fn worked_taken()
+    ensures all_that_are_held { IsTaken StackId.KvRaft (taken 2 (1 ∷ 1 ∷ 2 ∷ []) (1 ∷ 1 ∷ [])) }
+    ensures fewer { IsTaken StackId.KvRaft (taken 1 (1 ∷ 1 ∷ 2 ∷ []) (1 ∷ 1 ∷ [])) }
+    ensures one_that_is_not_held { IsTaken StackId.KvRaft (taken 3 (1 ∷ 1 ∷ 2 ∷ []) (1 ∷ 1 ∷ [])) → ⊥ }
+    ensures one_of_another_term { IsTaken StackId.KvRaft (taken 2 (1 ∷ 2 ∷ []) (1 ∷ 1 ∷ [])) → ⊥ }
+    ensures one_behind_a_difference { IsTaken StackId.KvRaft (taken 2 (1 ∷ 2 ∷ 2 ∷ []) (1 ∷ 1 ∷ 2 ∷ [])) → ⊥ }
+    ensures up_to_a_difference { IsTaken StackId.KvRaft (taken 1 (1 ∷ 2 ∷ 2 ∷ []) (1 ∷ 1 ∷ 2 ∷ [])) }
+    ensures of_another_stack { IsTaken StackId.TableRaft (taken 0 [] []) → ⊥ }
+    ensures of_a_strange_vote { IsTaken StackId.KvRaft taken_with_a_strange_vote → ⊥ }
+    ensures a_vote_of_the_cluster { VoteAmong 3 (Some 2) }
+    ensures a_vote_past_it { VoteAmong 3 (Some 3) → ⊥ }
+    ensures no_vote { VoteAmong 3 None }
 {}

@@ -8,7 +8,7 @@ mod saved;
 mod shipped;
 mod taken;
 
-pub use examples::{worked_readiness, worked_replicas};
+pub use examples::{worked_readiness, worked_replicas, worked_taken};
 pub use replica::Replica;
 pub use saved::Saved;
 pub use shipped::Shipped;
