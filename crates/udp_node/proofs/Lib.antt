@@ -6,3 +6,4 @@ pub mod Acts
 pub mod Going
 pub mod Served
 pub mod Worked
+pub mod WorkedTable

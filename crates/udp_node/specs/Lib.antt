@@ -4,3 +4,4 @@ pub mod Acting
 pub mod Serving
 pub mod Stacks
 pub mod Examples
+pub mod TableExamples

@@ -1,4 +1,4 @@
-ghost use Rattle.std.specs.Prelude.{◌≡◌, ◌-◌, ◌^◌, [], ◌∷◌, None, Some, Ok, Err};
+ghost use Rattle.std.specs.Prelude.{◌-◌, ◌^◌, [], ◌∷◌, None, Some, Ok, Err};
 ghost use Rattle.disk.specs.Acts.{Now, Quiet, ReceiveFailed, Took};
 ghost use Rattle.node_device.specs.Examples.{counts, sends, tells, untold};
 ghost use Rattle.node_run.specs.Examples.{asked_by_1, at_port, candidate, kept_as, settings};

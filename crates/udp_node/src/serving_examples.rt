@@ -1,11 +1,12 @@
-ghost use Rattle.std.specs.Prelude.{◌≡◌, [], ◌∷◌, ◌++◌, None, Some, codes, drop, length, take};
+ghost use Rattle.std.specs.Prelude.{◌≡◌, [], ◌∷◌, ◌++◌, None, Some, drop, length, take};
 ghost use Rattle.disk.specs.Acts.{Now, ReceiveFailed, StoreFailed, Sync};
 ghost use Rattle.node_acts.specs.Examples.{three_syncs};
 ghost use Rattle.node_device.specs.Telling.{told_after};
 ghost use Rattle.node_records.specs.Examples.{answered, first, save};
 ghost use Rattle.node_run.specs.Examples.{three_turns};
 ghost use Rattle.slots.specs.Opening.{BadSelector, Fresh, Held, OtherStack, Refused};
-ghost use Rattle.udp_node.specs.Examples.{begun, begun_doubly, begun_held, begun_on, config, ends, found, fresh_opening, opens_by, serves, voting};
+ghost use Rattle.udp_node.specs.Examples.{begun, begun_doubly, begun_elsewhere, begun_held, config, ends, found, fresh_opening};
+ghost use Rattle.udp_node.specs.Examples.{opens_by, serves, voting};
 ghost use Rattle.udp_node.specs.Stacks.{ServedOn, refused_areas};
 
 use crate::NodeFault;
@@ -25,7 +26,7 @@ pub fn worked_serving()
     ensures not_answered { serves 3 (fresh_opening ++ (three_turns ++ save)) → ⊥ }
     ensures answered_before_the_sync { serves 3 (fresh_opening ++ (three_turns ++ (take 3 save ++ answered ∷ drop 3 save))) → ⊥ }
     ensures a_sync_of_the_opening_less { serves 3 (take 10 fresh_opening ++ voting) → ⊥ }
-    ensures in_another_directory { ServedOn StackId.KvRaft config 3 (begun_on (codes "e") [] []) (told_after begun (fresh_opening ++ voting)) → ⊥ }
+    ensures in_another_directory { ServedOn StackId.KvRaft config 3 begun_elsewhere (told_after begun (fresh_opening ++ voting)) → ⊥ }
 {}
 
 /// Runs that a fault ended: in the first receive, in the first sync, and before it for want of memory. A receive that waited otherwise
