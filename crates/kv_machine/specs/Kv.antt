@@ -1,5 +1,5 @@
 -- The key-value machine, as functions on finite maps.
-use Rattle.std.specs.Prelude.{ℕ, List, None, Some, if◌then◌else◌}
+use Rattle.std.specs.Prelude.{ℕ, Bool, true, false, List, None, Some, if◌then◌else◌}
 use Rattle.std.specs.FinMap.{empty, get, insert, remove}
 use Rattle.key_map.specs.ByKey.{ByKey}
 pub use Rattle.key_map.specs.ByKey.{holds}
@@ -32,6 +32,14 @@ apply m (Put k v) = sets m k v
 apply m (Del k) = removes m k
 apply m (Cas k e v) = if holds m k e then sets m k v else keeps m k
 apply m (Cad k v) = if holds m k (Some v) then removes m k else keeps m k
+
+-- get is the one command that only reads
+abbrev pub is_read : KvCmd → Bool
+is_read (Get k) = true
+is_read (Put k v) = false
+is_read (Del k) = false
+is_read (Cas k e v) = false
+is_read (Cad k v) = false
 
 abbrev pub kv : MachineMeaning Store KvCmd KvOut
 kv = record { init = empty; apply = apply }

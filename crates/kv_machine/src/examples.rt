@@ -1,12 +1,12 @@
-ghost use Rattle.std.specs.Prelude.{◌≡◌, [], ◌∷◌, None, Some};
+ghost use Rattle.std.specs.Prelude.{◌≡◌, true, false, [], ◌∷◌, None, Some};
 ghost use Rattle.kv_machine.specs.Examples.{a, b, x, y, z, told};
-ghost use Rattle.kv_machine.specs.Kv.{kv};
+ghost use Rattle.kv_machine.specs.Kv.{is_read, kv};
 ghost use Rattle.vst_base.specs.Machines.{fold};
 
 use crate::KvCmd;
 
 /// Runs of commands from the first state on, with what they answer: the key, its value after and its
-/// value before.
+/// value before; and which commands only read.
 #[tactic(auto, using(key_map::proofs::Lookups::lookups))]
 pub fn worked()
     ensures get_of_absent { fold kv (KvCmd.Get a ∷ []) ≡ told a None None ∷ [] }
@@ -25,4 +25,10 @@ pub fn worked()
     ensures cad_of_absent { fold kv (KvCmd.Cad a x ∷ []) ≡ told a None None ∷ [] }
     ensures keys_stand_apart { fold kv (KvCmd.Put a x ∷ KvCmd.Put b y ∷ KvCmd.Del a ∷ KvCmd.Get b ∷ []) ≡ told a (Some x) None ∷ told b (Some y) None ∷ told a None (Some x) ∷ told b (Some y) (Some y) ∷ [] }
     ensures each_in_turn { fold kv (KvCmd.Cas a None x ∷ KvCmd.Cas a (Some y) z ∷ KvCmd.Cad a x ∷ KvCmd.Del a ∷ []) ≡ told a (Some x) None ∷ told a (Some x) (Some x) ∷ told a None (Some x) ∷ told a None None ∷ [] }
+
+    ensures get_reads { is_read (KvCmd.Get a) ≡ true }
+    ensures put_does_not_read { is_read (KvCmd.Put a x) ≡ false }
+    ensures del_does_not_read { is_read (KvCmd.Del a) ≡ false }
+    ensures cas_does_not_read { is_read (KvCmd.Cas a (Some x) x) ≡ false }
+    ensures cad_does_not_read { is_read (KvCmd.Cad a x) ≡ false }
 {}

@@ -1,11 +1,12 @@
 ghost use Rattle.std.specs.Prelude.{◌≡◌, IfOk, IsOk};
-ghost use Rattle.kv_machine.specs.Kv.{kv};
+ghost use Rattle.kv_machine.specs.Kv.{is_read, kv};
+ghost use Rattle.kv_machine.specs.Reading.{reads_leave};
 
 use crate::changes::{keeps, removes, sets};
 use crate::{KvCmd, KvOut, KvState};
 use key_map::copy_token;
 use std::alloc::{AllocError, Global};
-use vst_base::Machine;
+use vst_base::{Machine, Queries};
 
 /// The key-value store. A command costs a hash look-up or two.
 #[derive(Drop)]
@@ -70,4 +71,14 @@ impl Machine for KvMachine {
             before: copy_token(alloc, out.before.as_ref())?,
         })
     }
+}
+
+impl Queries for KvMachine {
+    ghost reads = { λ _ c. is_read c };
+
+    fn is_read(&self, cmd: &KvCmd) -> bool {
+        matches!(cmd, KvCmd::Get(_))
+    }
+
+    ghost leaves = { λ _ s c read. reads_leave s c read };
 }

@@ -40,5 +40,11 @@ apply m (Acquire l o) = acquires m l o
 apply m (Release l o) = releases m l o
 apply m (Holder l) = tells m l
 
+-- the question who holds a name is the one command that only reads
+abbrev pub is_read : TableCmd → Bool
+is_read (Acquire l o) = false
+is_read (Release l o) = false
+is_read (Holder l) = true
+
 abbrev pub table : MachineMeaning Holders TableCmd TableOut
 table = record { init = empty; apply = apply }

@@ -1,11 +1,11 @@
 ghost use Rattle.std.specs.Prelude.{◌≡◌, true, false, [], ◌∷◌, None, Some};
 ghost use Rattle.lock_table.specs.Examples.{l, m, bob, al};
-ghost use Rattle.lock_table.specs.Table.{table, told};
+ghost use Rattle.lock_table.specs.Table.{is_read, table, told};
 ghost use Rattle.lock_table.specs.declared.cmd.TableCmd.TheVariants.{Acquire, Release, Holder};
 ghost use Rattle.vst_base.specs.Machines.{fold};
 
 /// Runs of commands from the first state on, with what they answer: the name, its holder after the
-/// command, and yes or no.
+/// command, and yes or no; and which commands only read.
 #[tactic(auto, using(key_map::proofs::Lookups::lookups))]
 pub fn worked()
     ensures acquire_of_free { fold table (Acquire l bob ∷ Holder l ∷ []) ≡ told l (Some bob) true ∷ told l (Some bob) true ∷ [] }
@@ -34,4 +34,8 @@ pub fn worked()
         ≡ told l (Some m) true ∷ told m (Some l) true ∷ told m (Some l) false ∷ told l (Some m) true ∷ [] }
     ensures each_in_turn { fold table (Acquire l bob ∷ Acquire l al ∷ Release l bob ∷ Holder l ∷ [])
         ≡ told l (Some bob) true ∷ told l (Some bob) false ∷ told l None true ∷ told l None false ∷ [] }
+
+    ensures acquire_does_not_read { is_read (Acquire l bob) ≡ false }
+    ensures release_does_not_read { is_read (Release l bob) ≡ false }
+    ensures holder_reads { is_read (Holder l) ≡ true }
 {}

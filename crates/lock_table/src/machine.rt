@@ -1,11 +1,12 @@
 ghost use Rattle.std.specs.Prelude.{◌≡◌, IfOk, IsOk};
-ghost use Rattle.lock_table.specs.Table.{table};
+ghost use Rattle.lock_table.specs.Reading.{reads_leave};
+ghost use Rattle.lock_table.specs.Table.{is_read, table};
 
 use crate::rules::{acquires, releases, tells};
 use crate::{TableCmd, TableOut, TableState};
 use key_map::copy_token;
 use std::alloc::{AllocError, Global};
-use vst_base::Machine;
+use vst_base::{Machine, Queries};
 
 /// The table of named locks. A command costs a hash look-up or two.
 #[derive(Drop)]
@@ -59,4 +60,14 @@ impl Machine for TableMachine {
             yes: out.yes,
         })
     }
+}
+
+impl Queries for TableMachine {
+    ghost reads = { λ _ c. is_read c };
+
+    fn is_read(&self, cmd: &TableCmd) -> bool {
+        matches!(cmd, TableCmd::Holder(_))
+    }
+
+    ghost leaves = { λ _ s c read. reads_leave s c read };
 }

@@ -16,16 +16,75 @@ kind_of (step.Lose k) = kind.Lose
 kind_of (step.Crash n) = kind.Crash
 kind_of (step.Reboot n) = kind.Reboot
 
--- one machine takes inputs; packets are delivered and timers fire on a bag; packets are copied too on dup; and on fail
--- they are lost as well, and nodes crash and reboot
+-- one machine takes inputs; packets are delivered and timers fire on a bag, and where packets keep their order; packets are
+-- copied too on dup, and lost as well on loss; nodes crash and reboot too on fail; and on acts they reboot, but stop otherwise
 abbrev pub has_kind : Net → StepKind → Bool
 has_kind net.One kind.In = true
+has_kind net.One kind.Deliver = false
+has_kind net.One kind.Tick = false
+has_kind net.One kind.Dup = false
+has_kind net.One kind.Lose = false
+has_kind net.One kind.Crash = false
+has_kind net.One kind.Reboot = false
 has_kind net.Bag kind.In = true
 has_kind net.Bag kind.Deliver = true
 has_kind net.Bag kind.Tick = true
+has_kind net.Bag kind.Dup = false
+has_kind net.Bag kind.Lose = false
+has_kind net.Bag kind.Crash = false
+has_kind net.Bag kind.Reboot = false
 has_kind net.Dup kind.In = true
 has_kind net.Dup kind.Deliver = true
 has_kind net.Dup kind.Tick = true
 has_kind net.Dup kind.Dup = true
-has_kind net.Fail k = true
-has_kind n k = false
+has_kind net.Dup kind.Lose = false
+has_kind net.Dup kind.Crash = false
+has_kind net.Dup kind.Reboot = false
+has_kind net.Fail kind.In = true
+has_kind net.Fail kind.Deliver = true
+has_kind net.Fail kind.Tick = true
+has_kind net.Fail kind.Dup = true
+has_kind net.Fail kind.Lose = true
+has_kind net.Fail kind.Crash = true
+has_kind net.Fail kind.Reboot = true
+has_kind net.Ord kind.In = true
+has_kind net.Ord kind.Deliver = true
+has_kind net.Ord kind.Tick = true
+has_kind net.Ord kind.Dup = false
+has_kind net.Ord kind.Lose = false
+has_kind net.Ord kind.Crash = false
+has_kind net.Ord kind.Reboot = false
+has_kind net.Loss kind.In = true
+has_kind net.Loss kind.Deliver = true
+has_kind net.Loss kind.Tick = true
+has_kind net.Loss kind.Dup = true
+has_kind net.Loss kind.Lose = true
+has_kind net.Loss kind.Crash = false
+has_kind net.Loss kind.Reboot = false
+has_kind net.Acts kind.In = true
+has_kind net.Acts kind.Deliver = true
+has_kind net.Acts kind.Tick = true
+has_kind net.Acts kind.Dup = true
+has_kind net.Acts kind.Lose = true
+has_kind net.Acts kind.Crash = false
+has_kind net.Acts kind.Reboot = true
+
+-- all nodes are always up
+abbrev pub stops_no_node : Net → Bool
+stops_no_node net.One = true
+stops_no_node net.Bag = true
+stops_no_node net.Dup = true
+stops_no_node net.Fail = false
+stops_no_node net.Ord = true
+stops_no_node net.Loss = true
+stops_no_node net.Acts = false
+
+-- packets of one source to one destination come in the order in which they were sent
+abbrev pub keeps_order : Net → Bool
+keeps_order net.One = false
+keeps_order net.Bag = false
+keeps_order net.Dup = false
+keeps_order net.Fail = false
+keeps_order net.Ord = true
+keeps_order net.Loss = false
+keeps_order net.Acts = false

@@ -1,8 +1,8 @@
-ghost use Rattle.std.specs.Prelude.{◌≡◌, [], ◌∷◌, true, false, Some, None, filter, length, map, replicate, codes};
-ghost use Rattle.vst_base.specs.Examples.{kinds, counter};
+ghost use Rattle.std.specs.Prelude.{◌≡◌, [], ◌∷◌, ◌++◌, true, false, not, Some, None, filter, length, map, replicate, codes};
+ghost use Rattle.vst_base.specs.Examples.{kinds, nets, counter};
 ghost use Rattle.vst_base.specs.Firsts.{first_of};
 ghost use Rattle.vst_base.specs.Machines.{fold, state_after};
-ghost use Rattle.vst_base.specs.Nets.{has_kind};
+ghost use Rattle.vst_base.specs.Nets.{has_kind, keeps_order, stops_no_node};
 ghost use Rattle.vst_base.specs.Stacks.{row_of, rows, stack_word};
 ghost use Rattle.vst_base.specs.Tokens.{is_token, token_of};
 
@@ -14,6 +14,11 @@ pub fn worked()
     ensures bag_delivers_and_ticks { filter (has_kind Net.Bag) kinds ≡ StepKind.In ∷ StepKind.Deliver ∷ StepKind.Tick ∷ [] }
     ensures dup_copies { filter (has_kind Net.Dup) kinds ≡ StepKind.In ∷ StepKind.Deliver ∷ StepKind.Tick ∷ StepKind.Dup ∷ [] }
     ensures fail_has_all { filter (has_kind Net.Fail) kinds ≡ kinds }
+    ensures ord_has_as_a_bag { filter (has_kind Net.Ord) kinds ≡ filter (has_kind Net.Bag) kinds }
+    ensures loss_loses { filter (has_kind Net.Loss) kinds ≡ filter (has_kind Net.Dup) kinds ++ StepKind.Lose ∷ [] }
+    ensures acts_have_no_crash { filter (has_kind Net.Acts) kinds ≡ filter (has_kind Net.Loss) kinds ++ StepKind.Reboot ∷ [] }
+    ensures nets_that_stop_nodes { filter (λ net. not (stops_no_node net)) nets ≡ Net.Fail ∷ Net.Acts ∷ [] }
+    ensures nets_that_keep_order { filter keeps_order nets ≡ Net.Ord ∷ [] }
 
     ensures first_that_applies { first_of ((StepRefusal.NotThisNet, false) ∷ (StepRefusal.NodeDown, true) ∷ (StepRefusal.NoCopy, true) ∷ []) ≡ Some StepRefusal.NodeDown }
     ensures last_that_applies { first_of ((StepRefusal.NotThisNet, false) ∷ (StepRefusal.NodeDown, true) ∷ []) ≡ Some StepRefusal.NodeDown }

@@ -14,6 +14,7 @@ mod net;
 mod node;
 mod pb_msg;
 mod pb_out;
+mod queries;
 mod raft_examples;
 mod request;
 mod seq;
@@ -33,6 +34,7 @@ pub use net::Net;
 pub use node::{MAX_NODES, Node};
 pub use pb_msg::PbMsg;
 pub use pb_out::PbOut;
+pub use queries::Queries;
 pub use raft_examples::{
     majorities_meet, worked_commits, worked_elections, worked_entries, worked_logs,
 };

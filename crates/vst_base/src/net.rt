@@ -1,5 +1,5 @@
 ghost use Rattle.std.specs.Prelude.{◌≡◌};
-ghost use Rattle.vst_base.specs.Nets.{has_kind};
+ghost use Rattle.vst_base.specs.Nets.{has_kind, keeps_order, stops_no_node};
 
 use crate::StepKind;
 
@@ -14,6 +14,13 @@ pub enum Net {
     Dup,
     /// Packets may also be lost, and nodes crash and reboot.
     Fail,
+    /// Packets in flight are delivered in any order, but those of one source to one destination in the
+    /// order in which they were sent.
+    Ord,
+    /// A packet in flight may be copied, and a copy may be lost.
+    Loss,
+    /// As where nodes fail, but a node stops between any two acts of its device.
+    Acts,
 }
 
 impl Net {
@@ -23,12 +30,27 @@ impl Net {
     {
         match self {
             Net::One => kind == StepKind::In,
-            Net::Bag => matches!(kind, StepKind::In | StepKind::Deliver | StepKind::Tick),
-            Net::Dup => matches!(
-                kind,
-                StepKind::In | StepKind::Deliver | StepKind::Tick | StepKind::Dup
-            ),
+            Net::Bag | Net::Ord => {
+                matches!(kind, StepKind::In | StepKind::Deliver | StepKind::Tick)
+            }
+            Net::Dup => !matches!(kind, StepKind::Lose | StepKind::Crash | StepKind::Reboot),
+            Net::Loss => !matches!(kind, StepKind::Crash | StepKind::Reboot),
             Net::Fail => true,
+            Net::Acts => kind != StepKind::Crash,
         }
+    }
+
+    /// Whether every node of this network is always up.
+    pub fn stops_no_node(self) -> bool
+        ensures { result ≡ stops_no_node self }
+    {
+        !matches!(self, Net::Fail | Net::Acts)
+    }
+
+    /// Whether packets of one source to one destination come in the order in which they were sent.
+    pub fn keeps_order(self) -> bool
+        ensures { result ≡ keeps_order self }
+    {
+        self == Net::Ord
     }
 }

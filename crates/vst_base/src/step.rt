@@ -84,7 +84,14 @@ pub enum StepRefusal {
     /// The packet was never sent, or no copy of it is in flight.
     #[error("no copy")]
     NoCopy,
-    /// Want of memory.
-    #[error("out of memory")]
-    Memory,
+    /// An earlier packet of the same source and destination is still in flight, on a network that keeps
+    /// their order.
+    #[error("not first")]
+    NotFirst,
+    /// The node has not ended what its last event began.
+    #[error("node busy")]
+    NodeBusy,
+    /// The node has no event to go on with.
+    #[error("node idle")]
+    NodeIdle,
 }
