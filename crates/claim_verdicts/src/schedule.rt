@@ -1,7 +1,8 @@
-ghost use Rattle.std.specs.Prelude.{◌≡◌, ◌≢◌, ◌≤◌, ◌+◌, [], IfOk, length};
+ghost use Rattle.std.specs.Prelude.{◌≡◌, ◌≤◌, ◌+◌, [], IfOk, IsTrue, length};
 ghost use Rattle.net_semantics.specs.Runs.{first_refused, trace};
 ghost use Rattle.claim_verdicts.specs.Explaining.{explained_by};
 ghost use Rattle.claim_verdicts.specs.Schedules.{schedule_verdict};
+ghost use Rattle.vst_base.specs.Nets.{stops_no_node};
 ghost use Rattle.vst_base.specs.declared.step.TheConstants.{MAX_STEPS};
 ghost use Rattle.check_text.specs.declared.reading.TheConstants.{MAX_LINES};
 ghost use Rattle.xform_stack.specs.Running.{HasRun};
@@ -63,7 +64,7 @@ pub fn schedule_verdict<H: Handlers, A: AppText<Input = H::Input, Output = H::Ou
     net: Net,
     claim: &Claim<H::Input, H::Output, Step<H::Input>>,
 ) -> Result<Verdict, AllocError>
-    requires net { net ≢ Net.Fail }
+    requires net { IsTrue (stops_no_node net) }
     requires alone { net ≡ Net.One → (H.meaning handlers).nodes ≡ 1 }
     requires few { length claim.now.trace + length claim.now.image ≤ MAX_LINES }
     requires counted { length claim.now.image ≤ MAX_STEPS }

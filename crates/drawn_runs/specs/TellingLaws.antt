@@ -4,9 +4,9 @@ use Rattle.std.proofs.Common.{arith}
 use Rattle.handler_trait.specs.Handling.{Effect, IsModest, Meaning}
 use Rattle.drawn_runs.specs.Telling.{telling, told}
 
-module _ {H S I O M : Type 0} (meaning : H → Meaning S I O M) (sound : H → ℕ → S → Type 0) (spent : H → S → ℕ) where
+module _ {H S I O M : Type 0} (meaning : H → Meaning S I O M) (sound : H → ℕ → S → Type 0) (spent : H → S → ℕ) (sends : ℕ) where
   abbrev IsModestWithin : {Q : Type 0} → H → ℕ → S → Effect S Q M → Type 0
-  IsModestWithin h n s e = IsModest (meaning h).nodes (sound h n) (spent h) s e
+  IsModestWithin h n s e = IsModest (meaning h).nodes sends (sound h n) (spent h) s e
 
   -- what these make of an input, of a message or of a tick at a node within is modest
   abbrev AreInputsModest : {Q : Type 0} → (H → Meaning S I Q M) → Type 0

@@ -4,7 +4,7 @@ use crate::{RunsToDraw, Told};
 use app_text::AppText;
 use drawing::Picture;
 use outside_mem::SteadySource;
-use schedule_text::{LineFault, MAX_LINES, Reader, read_header, read_step};
+use schedule_text::{MAX_LINES, ReadFault, Reader, read_header, read_step};
 use std::alloc::{AllocError, Global};
 
 /// How many steps are drawn at most.
@@ -27,7 +27,7 @@ where
     for _ in 0..MAX_ROWS {
         let step = match read_step::<A, SteadySource>(alloc, reader, source) {
             Ok(step) => step,
-            Err(LineFault::Memory) => return Err(AllocError),
+            Err(ReadFault::Memory) => return Err(AllocError),
             Err(_) => break,
         };
         if !run.take(&step)? {
@@ -47,7 +47,7 @@ pub fn picture_of(alloc: Global, text: Vec<u8>) -> Result<Picture, AllocError> {
             let title = reader.line().to_vec(alloc)?;
             draw_stack(alloc, title, &header, &mut reader, &mut source)
         }
-        Err(LineFault::Memory) => Err(AllocError),
+        Err(ReadFault::Memory) => Err(AllocError),
         Err(_) => Gathered::new(alloc, Vec::new(alloc), 0)?.finish(),
     }
 }

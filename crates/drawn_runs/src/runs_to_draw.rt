@@ -4,9 +4,9 @@ ghost use Rattle.net_semantics.specs.ShownFail.{IsSoundFailBy};
 
 use crate::Leads;
 use handler_trait::{Handlers, Rebootable};
-use net_semantics::{FailWorld, World};
+use net_semantics::{FailWorld, StepFault, World};
 use std::alloc::AllocError;
-use vst_base::{Item, MAX_STEPS, Node, Step, StepRefusal};
+use vst_base::{Item, MAX_STEPS, Node, Step};
 
 /// A schedule that is run step by step to be drawn.
 pub trait RunsToDraw: Drop {
@@ -34,13 +34,13 @@ pub trait RunsToDraw: Drop {
 }
 
 // Whether a step was taken. Want of memory is no refusal.
-fn was_taken(answer: Result<(), StepRefusal>) -> Result<bool, AllocError>
+fn was_taken(answer: Result<(), StepFault>) -> Result<bool, AllocError>
     ensures { result ≡ Ok true → answer ≡ Ok tt }
 {
     match answer {
         Ok(()) => Ok(true),
-        Err(StepRefusal::Memory) => Err(AllocError),
-        Err(_) => Ok(false),
+        Err(StepFault::Refused(_)) => Ok(false),
+        Err(StepFault::Memory) => Err(AllocError),
     }
 }
 

@@ -1,4 +1,5 @@
-ghost use Rattle.std.specs.Prelude.{◌≡◌, ◌≢◌};
+ghost use Rattle.std.specs.Prelude.{◌≡◌, IsTrue};
+ghost use Rattle.vst_base.specs.Nets.{stops_no_node};
 
 use crate::pictures::draw_rest;
 use crate::{Leads, Says, Telling};
@@ -32,7 +33,7 @@ where
     H: Handlers<Input = A::Input, Output = A::Output>,
     H::Msg: Says,
     A: AppText,
-    requires net { net ≢ Net.Fail }
+    requires net { IsTrue (stops_no_node net) }
     requires alone { net ≡ Net.One → (H.meaning handlers).nodes ≡ 1 }
 {
     let world = World::new(alloc, Telling::new(handlers), net)?;

@@ -3,7 +3,7 @@ ghost use Rattle.drawn_runs.specs.TellingLaws.{modest_input, modest_message, mod
 
 use crate::hand_on::hand_on;
 use crate::{Says, Told};
-use handler_trait::{Effects, Handlers, MAX_SENDS, Rebootable};
+use handler_trait::{Effects, Handlers, Rebootable};
 use std::alloc::{AllocError, Global};
 use std::marker::Model;
 use vst_base::Node;
@@ -57,6 +57,10 @@ where
 
     ghost spent = { H.spent };
 
+    const SENDS: usize = H::SENDS;
+
+    ghost SENDS = { H.SENDS };
+
     fn nodes(&self) -> u8 {
         self.inner.nodes()
     }
@@ -67,6 +71,10 @@ where
 
     fn copy_input(&self, alloc: Global, input: &H::Input) -> Result<H::Input, AllocError> {
         self.inner.copy_input(alloc, input)
+    }
+
+    fn copy_msg(&self, alloc: Global, message: &H::Msg) -> Result<H::Msg, AllocError> {
+        self.inner.copy_msg(alloc, message)
     }
 
     fn init(&self, alloc: Global, node: Node) -> Result<H::State, AllocError> {
@@ -81,7 +89,7 @@ where
         input: &H::Input,
         effects: &mut Effects<Told<H::Output>, H::Msg>,
     ) -> Result<(), AllocError> {
-        let mut within = Effects::with_capacity(alloc, 0, MAX_SENDS)?;
+        let mut within = Effects::with_capacity(alloc, 0, H::SENDS)?;
         self.inner.input(alloc, node, state, input, &mut within)?;
         hand_on(alloc, within, effects)
     }
@@ -95,7 +103,7 @@ where
         message: &H::Msg,
         effects: &mut Effects<Told<H::Output>, H::Msg>,
     ) -> Result<(), AllocError> {
-        let mut within = Effects::with_capacity(alloc, 0, MAX_SENDS)?;
+        let mut within = Effects::with_capacity(alloc, 0, H::SENDS)?;
         self.inner
             .message(alloc, node, state, from, message, &mut within)?;
         hand_on(alloc, within, effects)
@@ -108,18 +116,20 @@ where
         state: &mut H::State,
         effects: &mut Effects<Told<H::Output>, H::Msg>,
     ) -> Result<(), AllocError> {
-        let mut within = Effects::with_capacity(alloc, 0, MAX_SENDS)?;
+        let mut within = Effects::with_capacity(alloc, 0, H::SENDS)?;
         self.inner.timeout(alloc, node, state, &mut within)?;
         hand_on(alloc, within, effects)
     }
 
+    ghost few_sends = { H.few_sends };
+
     ghost fresh = { H.fresh };
 
-    ghost modest_input = { modest_input H.meaning H.sound H.spent H.modest_input };
+    ghost modest_input = { modest_input H.meaning H.sound H.spent H.SENDS H.modest_input };
 
-    ghost modest_message = { modest_message H.meaning H.sound H.spent H.modest_message };
+    ghost modest_message = { modest_message H.meaning H.sound H.spent H.SENDS H.modest_message };
 
-    ghost modest_timeout = { modest_timeout H.meaning H.sound H.spent H.modest_timeout };
+    ghost modest_timeout = { modest_timeout H.meaning H.sound H.spent H.SENDS H.modest_timeout };
 }
 
 impl<H: Rebootable> Rebootable for Telling<H>

@@ -13,13 +13,14 @@ RebootableFacts H S K I O M = record {
   meaning : H → Meaning S I O M;
   sound : H → ℕ → S → Type 0;
   spent : H → S → ℕ;
+  SENDS : ℕ;
   recovery : H → Recovery S K;
   fits : H → K → Type 0;
 }
 
 -- the same in a proof, which names the two traits' own records: `g.H.Handlers` and `g.H.Rebootable`
 abbrev pub rebootable_facts : {H S K I O M : Type 0} → OfHandlers H S I O M → OfRebootable H K S I O M → RebootableFacts H S K I O M
-rebootable_facts h r = record { meaning = h.meaning; sound = h.sound; spent = h.spent; recovery = r.recovery; fits = r.fits }
+rebootable_facts h r = record { meaning = h.meaning; sound = h.sound; spent = h.spent; SENDS = h.SENDS; recovery = r.recovery; fits = r.fits }
 
 -- what these handlers promise: what their events make, what each state of a node keeps to, and what it has used up
 pub record Promises (S I O M : Type 0) : Type 1 where

@@ -1,7 +1,7 @@
 -- Handlers as functions (Verdi, PLDI 2015): theorems on runs are about these records alone.
 use Rattle.std.specs.Prelude.{◌≡◌, ℕ, Bool, ◌+◌, ◌<◌, ◌≤◌, List, [], ◌∷◌, ◌++◌, length}
 use Rattle.handler_trait.specs.Gathering.{Gathered}
-use Rattle.handler_trait.specs.declared.handlers.TheConstants.{MAX_OUTPUTS, MAX_SENDS, STEP_COST}
+use Rattle.handler_trait.specs.declared.handlers.TheConstants.{MAX_OUTPUTS, STEP_COST}
 
 -- what one event makes of a node: its state, outputs, and sends (destination and content)
 pub record Effect (S O M : Type 0) : Type 0 where
@@ -34,9 +34,10 @@ abbrev pub AreSentBelow : {M : Type 0} → ℕ → List (ℕ × M) → Type 0
 AreSentBelow nodes [] = Unit {0}
 AreSentBelow nodes (p ∷ ps) = (p.0 < nodes) × AreSentBelow nodes ps
 
--- an effect on a state: few sends, to nodes that exist, little spent, and few outputs where the new state keeps to what it has to
-pub record IsModest {S O M : Type 0} (nodes : ℕ) (sound : S → Type 0) (spent : S → ℕ) (before : S) (e : Effect S O M) : Type 0 where
-  pub few : length e.sends ≤ MAX_SENDS
+-- an effect on a state: at most so many sends, to nodes that exist, little spent, and, where the new state keeps to what it has to,
+-- few outputs beside those that answer what was spent before
+pub record IsModest {S O M : Type 0} (nodes sends : ℕ) (sound : S → Type 0) (spent : S → ℕ) (before : S) (e : Effect S O M) : Type 0 where
+  pub few : length e.sends ≤ sends
   pub to_nodes : AreSentBelow nodes e.sends
   pub cheap : spent e.state ≤ spent before + STEP_COST
-  pub few_outputs : sound e.state → length e.outputs ≤ MAX_OUTPUTS
+  pub few_outputs : sound e.state → length e.outputs ≤ MAX_OUTPUTS + spent before

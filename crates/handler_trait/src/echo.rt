@@ -40,6 +40,7 @@ impl Handlers for Echo {
 
     type Msg = u8;
 
+    ghost use Rattle.std.proofs.Common.{arith};
     ghost use Rattle.handler_trait.specs.Echo.{echo};
     ghost use Rattle.handler_trait.specs.EchoLaws.{echo_modest_input, echo_modest_message, echo_modest_timeout};
 
@@ -48,6 +49,10 @@ impl Handlers for Echo {
     ghost sound = { λ _ _ _. Unit {0} };
 
     ghost spent = { λ _ _. 0 };
+
+    const SENDS: usize = 1;
+
+    ghost SENDS = { 1 };
 
     fn nodes(&self) -> u8 {
         self.nodes
@@ -59,6 +64,10 @@ impl Handlers for Echo {
 
     fn copy_input(&self, _alloc: Global, input: &u8) -> Result<u8, AllocError> {
         Ok(*input)
+    }
+
+    fn copy_msg(&self, _alloc: Global, message: &u8) -> Result<u8, AllocError> {
+        Ok(*message)
     }
 
     fn init(&self, _alloc: Global, node: Node) -> Result<u16, AllocError> {
@@ -105,6 +114,8 @@ impl Handlers for Echo {
         effects.send(node, 9);
         Ok(())
     }
+
+    ghost few_sends = { omega arith };
 
     ghost fresh = { λ h n below. refl };
 

@@ -157,34 +157,6 @@ impl<O: Drop, M: Drop> Effects<O, M> {
         &self.sends
     }
 
-    /// Moves the first output out, in time that grows with what is left: to take all of them, give up the parts. `None` comes
-    /// where none is left.
-    pub fn next_output(&mut self) -> Option<O>
-        ensures some { IfSome result (λ first. self.old.outputs ≡ first ∷ self.new.outputs) }
-        ensures none { IfNone result ((self.old.outputs ≡ []) × (self.new ≡ self.old)) }
-        ensures sends { self.new.sends ≡ self.old.sends }
-        ensures send_places { self.new.send_places ≡ self.old.send_places }
-    {
-        if self.outputs.is_empty() {
-            return None;
-        }
-        Some(self.outputs.remove(0))
-    }
-
-    /// Moves the first packet to send out, with its destination, in the same time. `None` comes where none is left.
-    pub fn next_send(&mut self) -> Option<(Node, M)>
-        ensures some { IfSome result (λ first. self.old.sends ≡ first ∷ self.new.sends) }
-        ensures none { IfNone result ((self.old.sends ≡ []) × (self.new ≡ self.old)) }
-        ensures outputs { self.new.outputs ≡ self.old.outputs }
-        ensures output_places { self.new.output_places ≡ self.old.output_places }
-        ensures send_places { self.old.send_places ≤ self.new.send_places }
-    {
-        if self.sends.is_empty() {
-            return None;
-        }
-        Some(self.sends.remove(0))
-    }
-
     /// Drops all outputs and sends. The room stays.
     pub fn clear(&mut self)
         ensures outputs { self.new.outputs ≡ [] }

@@ -20,10 +20,13 @@ pub fn worked()
     ensures no_packet_past_it { ¬ AreSentBelow {M = ℕ} 2 ((0, 6) ∷ (2, 5) ∷ []) }
     ensures nothing_sent { AreSentBelow {M = ℕ} 0 [] }
 
-    ensures eight_packets { IsModest 2 (λ s. s < 100) (λ s. s) 0 (effect 8 [] (replicate 8 (1, 5))) }
-    ensures nine_packets { ¬ IsModest 2 (λ s. s < 100) (λ s. s) 0 (effect 8 [] (replicate 9 (1, 5))) }
-    ensures spends_nine { ¬ IsModest 2 (λ s. s < 100) (λ s. s) 3 (effect 12 [] []) }
-    ensures as_many_outputs { (os : List ℕ) → length os ≡ MAX_OUTPUTS → IsModest 2 (λ s. s < 100) (λ s. s) 0 (effect 0 os []) }
-    ensures no_sound_state { (os : List ℕ) → length os ≡ MAX_OUTPUTS + 1 → IsModest 2 (λ s. s < 100) (λ s. 0) 0 (effect 100 os []) }
-    ensures one_output_more { (os : List ℕ) → length os ≡ MAX_OUTPUTS + 1 → ¬ IsModest 2 (λ s. s < 100) (λ s. s) 0 (effect 0 os []) }
+    ensures as_many_packets { IsModest 2 8 (λ s. s < 100) (λ s. s) 0 (effect 8 [] (replicate 8 (1, 5))) }
+    ensures one_packet_more { ¬ IsModest 2 8 (λ s. s < 100) (λ s. s) 0 (effect 8 [] (replicate 9 (1, 5))) }
+    ensures fewer_allowed { ¬ IsModest 2 7 (λ s. s < 100) (λ s. s) 0 (effect 8 [] (replicate 8 (1, 5))) }
+    ensures spends_nine { ¬ IsModest 2 8 (λ s. s < 100) (λ s. s) 3 (effect 12 [] []) }
+    ensures as_many_outputs { (os : List ℕ) → length os ≡ MAX_OUTPUTS → IsModest 2 0 (λ s. s < 100) (λ s. s) 0 (effect 0 os []) }
+    ensures no_sound_state { (os : List ℕ) → length os ≡ MAX_OUTPUTS + 1 → IsModest 2 0 (λ s. s < 100) (λ s. 0) 0 (effect 100 os []) }
+    ensures one_output_more { (os : List ℕ) → length os ≡ MAX_OUTPUTS + 1 → ¬ IsModest 2 0 (λ s. s < 100) (λ s. s) 0 (effect 0 os []) }
+    ensures outputs_for_what_was_spent { (os : List ℕ) → length os ≡ MAX_OUTPUTS + 3 → IsModest 2 0 (λ s. s < 100) (λ s. s) 3 (effect 0 os []) }
+    ensures more_than_was_spent { (os : List ℕ) → length os ≡ MAX_OUTPUTS + 4 → ¬ IsModest 2 0 (λ s. s < 100) (λ s. s) 3 (effect 0 os []) }
 {}

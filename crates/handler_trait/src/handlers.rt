@@ -9,7 +9,8 @@ use vst_base::Node;
 /// The greatest number of packets that one event sends.
 pub const MAX_SENDS: usize = 8;
 
-/// The greatest number of outputs that one event makes: a replica that applies its whole log at once answers for each entry.
+/// The greatest number of outputs that one event makes beside those that answer what was spent before: a replica that applies its
+/// whole log at once answers for each entry.
 pub const MAX_OUTPUTS: usize = 1_000_000;
 
 /// The greatest growth of `spent` in one event.
@@ -39,6 +40,11 @@ pub trait Handlers: Drop {
     /// What a state has used up of the counters that it holds.
     ghost spent: { Self → Self.State → ℕ };
 
+    /// At most so many packets are sent by one event of these handlers.
+    const SENDS: usize;
+
+    ghost SENDS: { ℕ };
+
     /// How many nodes there are.
     fn nodes(&self) -> u8
         ensures { result ≡ (meaning self.now).nodes };
@@ -50,6 +56,10 @@ pub trait Handlers: Drop {
     /// An equal input.
     fn copy_input(&self, alloc: Global, input: &Self::Input) -> Result<Self::Input, AllocError>
         ensures { IfOk result (λ copy. copy ≡ input.now) };
+
+    /// An equal message.
+    fn copy_msg(&self, alloc: Global, message: &Self::Msg) -> Result<Self::Msg, AllocError>
+        ensures { IfOk result (λ copy. copy ≡ message.now) };
 
     /// The node's first state.
     fn init(&self, alloc: Global, node: Node) -> Result<Self::State, AllocError>
@@ -70,7 +80,7 @@ pub trait Handlers: Drop {
         requires takes { IsTrue ((meaning self.now).takes_input node) }
         requires sound { sound self.now node state.old }
         requires budget { spent self.now state.old + STEP_COST ≤ SPENT_MAX }
-        requires room { MAX_SENDS ≤ effects.old.send_places }
+        requires room { SENDS ≤ effects.old.send_places }
         ensures does { OnOk result (Does ((meaning self.now).input node state.old input.now) state.new effects.old effects.new) }
         ensures sound { OnOk result (sound self.now node state.new) };
 
@@ -88,7 +98,7 @@ pub trait Handlers: Drop {
         requires from { from < (meaning self.now).nodes }
         requires sound { sound self.now node state.old }
         requires budget { spent self.now state.old + STEP_COST ≤ SPENT_MAX }
-        requires room { MAX_SENDS ≤ effects.old.send_places }
+        requires room { SENDS ≤ effects.old.send_places }
         ensures does { OnOk result (Does ((meaning self.now).message node state.old from message.now) state.new effects.old effects.new) }
         ensures sound { OnOk result (sound self.now node state.new) };
 
@@ -103,21 +113,26 @@ pub trait Handlers: Drop {
         requires node { node < (meaning self.now).nodes }
         requires sound { sound self.now node state.old }
         requires budget { spent self.now state.old + STEP_COST ≤ SPENT_MAX }
-        requires room { MAX_SENDS ≤ effects.old.send_places }
+        requires room { SENDS ≤ effects.old.send_places }
         ensures does { OnOk result (Does ((meaning self.now).timeout node state.old) state.new effects.old effects.new) }
         ensures sound { OnOk result (sound self.now node state.new) };
+
+    /// No handlers send more packets in one event than `MAX_SENDS`.
+    ghost few_sends: { SENDS ≤ MAX_SENDS };
 
     /// Nothing is spent at first.
     ghost fresh: { (h : Self) (n : ℕ) → n < (meaning h).nodes → spent h ((meaning h).init n) ≡ 0 };
 
-    /// An event sends at most `MAX_SENDS` packets, each to a node that exists, spends at most `STEP_COST`, and, where the state that
-    /// it makes is sound, has at most `MAX_OUTPUTS` outputs.
+    /// An event sends at most `SENDS` packets, each to a node that exists, spends at most `STEP_COST`, and, where the state that
+    /// it makes is sound, has at most `MAX_OUTPUTS` outputs and as many more as were spent before.
     ghost modest_input: { (h : Self) (n : ℕ) (s : Self.State) (i : Self.Input) → n < (meaning h).nodes
-        → IsTrue ((meaning h).takes_input n) → sound h n s → IsModest (meaning h).nodes (sound h n) (spent h) s ((meaning h).input n s i) };
+        → IsTrue ((meaning h).takes_input n) → sound h n s
+        → IsModest (meaning h).nodes SENDS (sound h n) (spent h) s ((meaning h).input n s i) };
 
     ghost modest_message: { (h : Self) (n : ℕ) (s : Self.State) (from : ℕ) (m : Self.Msg) → n < (meaning h).nodes
-        → from < (meaning h).nodes → sound h n s → IsModest (meaning h).nodes (sound h n) (spent h) s ((meaning h).message n s from m) };
+        → from < (meaning h).nodes → sound h n s
+        → IsModest (meaning h).nodes SENDS (sound h n) (spent h) s ((meaning h).message n s from m) };
 
     ghost modest_timeout: { (h : Self) (n : ℕ) (s : Self.State) → n < (meaning h).nodes → sound h n s
-        → IsModest (meaning h).nodes (sound h n) (spent h) s ((meaning h).timeout n s) };
+        → IsModest (meaning h).nodes SENDS (sound h n) (spent h) s ((meaning h).timeout n s) };
 }

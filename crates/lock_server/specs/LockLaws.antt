@@ -11,7 +11,7 @@ use Rattle.lock_server.specs.declared.state.LockState.TheVariants.{Server, Clien
 use Rattle.lock_server.specs.Locks.{LockEffect, lock_server, IsSound, stays}
 
 abbrev pub IsModestFrom : ℕ → ℕ → LockState → LockEffect → Type 0
-IsModestFrom nodes n s e = IsModest nodes (IsSound nodes n) (λ _. 0) s e
+IsModestFrom nodes n s e = IsModest nodes 1 (IsSound nodes n) (λ _. 0) s e
 
 pub stays_modest : (nodes n : ℕ) (s : LockState) → IsModestFrom nodes n s (stays s)
 stays_modest nodes n s = record { few = omega arith; to_nodes = tt; cheap = omega arith; few_outputs = λ after. omega arith }

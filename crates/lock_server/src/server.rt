@@ -5,7 +5,7 @@ ghost use Rattle.lock_server.specs.LockLaws.{modest_input, modest_message, modes
 
 use crate::rules::{client_input, client_message, server_message};
 use crate::{LockState, Queue};
-use handler_trait::{Effects, Handlers, MAX_SENDS};
+use handler_trait::{Effects, Handlers};
 use std::alloc::{AllocError, Global};
 use std::marker::Model;
 use vst_base::{LockInput, LockMsg, LockOutput, Node};
@@ -44,11 +44,17 @@ impl Handlers for LockServer {
 
     type Msg = LockMsg;
 
+    ghost use Rattle.std.proofs.Common.{arith};
+
     ghost meaning = { lock_server };
 
     ghost sound = { IsSound };
 
     ghost spent = { λ _ _. 0 };
+
+    const SENDS: usize = 1;
+
+    ghost SENDS = { 1 };
 
     fn nodes(&self) -> u8 {
         self.nodes
@@ -60,6 +66,10 @@ impl Handlers for LockServer {
 
     fn copy_input(&self, _alloc: Global, input: &LockInput) -> Result<LockInput, AllocError> {
         Ok(*input)
+    }
+
+    fn copy_msg(&self, _alloc: Global, message: &LockMsg) -> Result<LockMsg, AllocError> {
+        Ok(*message)
     }
 
     fn init(&self, alloc: Global, node: Node) -> Result<LockState, AllocError> {
@@ -81,7 +91,7 @@ impl Handlers for LockServer {
         requires node { node < (lock_server self.now).nodes }
         requires takes { IsTrue ((lock_server self.now).takes_input node) }
         requires sound { IsSound self.now node state.old }
-        requires room { MAX_SENDS ≤ effects.old.send_places }
+        requires room { 1 ≤ effects.old.send_places }
         ensures does { OnOk result (Does ((lock_server self.now).input node state.old input.now) state.new effects.old effects.new) }
         ensures sound { OnOk result (IsSound self.now node state.new) }
         ensures succeeds { IsOk result }
@@ -104,7 +114,7 @@ impl Handlers for LockServer {
         requires node { node < (lock_server self.now).nodes }
         requires from { from < (lock_server self.now).nodes }
         requires sound { IsSound self.now node state.old }
-        requires room { MAX_SENDS ≤ effects.old.send_places }
+        requires room { 1 ≤ effects.old.send_places }
         ensures does { OnOk result (Does ((lock_server self.now).message node state.old from message.now) state.new effects.old
             effects.new) }
         ensures sound { OnOk result (IsSound self.now node state.new) }
@@ -127,13 +137,15 @@ impl Handlers for LockServer {
     ) -> Result<(), AllocError>
         requires node { node < (lock_server self.now).nodes }
         requires sound { IsSound self.now node state.old }
-        requires room { MAX_SENDS ≤ effects.old.send_places }
+        requires room { 1 ≤ effects.old.send_places }
         ensures does { OnOk result (Does ((lock_server self.now).timeout node state.old) state.new effects.old effects.new) }
         ensures sound { OnOk result (IsSound self.now node state.new) }
         ensures succeeds { IsOk result }
     {
         Ok(())
     }
+
+    ghost few_sends = { omega arith };
 
     ghost fresh = { λ h n b. refl };
 

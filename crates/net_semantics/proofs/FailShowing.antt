@@ -7,7 +7,7 @@ use Rattle.handler_trait.specs.Handling.{Meaning, Recovery}
 use Rattle.vst_base.specs.declared.net.Net.TheVariants as net
 use Rattle.vst_base.specs.declared.step.Step.{Step}
 use Rattle.vst_base.specs.declared.step.Step.TheVariants as step
-use Rattle.vst_base.specs.Nets.{has_kind, kind_of}
+use Rattle.vst_base.specs.Nets.{has_kind, keeps_order, kind_of}
 use Rattle.net_semantics.specs.Worlds.{World, Packet, put, change_at, one_less}
 use Rattle.net_semantics.specs.Steps.{next, refusal_of, items_of, acting, fails, delivery, after_event, with_packets}
 use Rattle.net_semantics.specs.Runs.{no_recovery}
@@ -26,13 +26,14 @@ all_up w = record { state = w.state; is_up = λ _. true; kept = λ _. None; pack
 pub shows_up : {H S K I O M : Type 0} (nodes : ℕ) (u : WorldView H S I O M) (kept : List (Option K)) (w : World S K M) → ShowsFail nodes (fail_view u kept) w → Shows nodes u (all_up w)
 shows_up nodes u kept w sh = record { states = sh.states; up = λ n. refl; packets = sh.packets }
 
-pub sound_up : {H S K I O M : Type 0} (f : RebootPromises S K I O M) (u : WorldView H S I O M) (kept : List (Option K)) → IsSoundFail f (fail_view u kept) → IsSound f.handlers u
-sound_up f u kept was = record {
+pub sound_up : {H S K I O M : Type 0} (f : RebootPromises S K I O M) (u : WorldView H S I O M) (kept : List (Option K)) → u.net ≡ net.Loss → IsSoundFail f (fail_view u kept) → IsSound f.handlers u
+sound_up f u kept loss was = record {
   nodes = was.world.nodes;
   states = was.world.states;
   packets = was.world.packets;
   few_packets = was.world.few_packets;
   few_steps = was.world.few_steps;
+  in_order = λ keeps. absurd (false≢true (subst (λ n. keeps_order n ≡ true) loss keeps));
 }
 
 pub sound_fail : {H S K I O M : Type 0} (f : RebootPromises S K I O M) (u : WorldView H S I O M) (kept : List (Option K)) → IsSound f.handlers u → length kept ≡ f.handlers.meaning.nodes → ((n : ℕ) → IfSome (kept_at (slice_get kept n)) f.fits) → IsSoundFail f (fail_view u kept)
@@ -43,6 +44,7 @@ sound_fail f u kept h nodes fit = record {
     packets = h.packets;
     few_packets = h.few_packets;
     few_steps = h.few_steps;
+    in_order = λ keeps. absurd (false≢true keeps);
   };
   nodes = nodes;
   stopped = fit;
@@ -73,12 +75,12 @@ never_down (Some n) = refl
 
 module _ {S K I O M : Type 0} (m : Meaning S I O M) where
   -- where the node that acts is up, the step is refused as if all were
-  pub refused_up : (w : World S K M) (s : Step I) → has_kind net.Dup (kind_of s) ≡ true → fails (acting w s) w.is_up ≡ false → refusal_of net.Fail m w s ≡ refusal_of net.Dup m (all_up w) s
+  pub refused_up : (w : World S K M) (s : Step I) → has_kind net.Loss (kind_of s) ≡ true → fails (acting w s) w.is_up ≡ false → refusal_of net.Fail m w s ≡ refusal_of net.Loss m (all_up w) s
   refused_up w (step.In n i) has up = rw up refl
   refused_up w (step.Deliver k) has up = rw (up, never_down) refl
   refused_up w (step.Tick n) has up = rw up refl
   refused_up w (step.Dup k) has up = refl
-  refused_up w (step.Lose k) has up = absurd (false≢true has)
+  refused_up w (step.Lose k) has up = refl
   refused_up w (step.Crash n) has up = absurd (false≢true has)
   refused_up w (step.Reboot n) has up = absurd (false≢true has)
 
@@ -100,13 +102,13 @@ module _ {H S K I O M : Type 0} (m : Meaning S I O M) where
   shows_delivery nodes u kept w ps (Some p) keeps up h = record { states = h.states; kept = keeps; up = up; packets = h.packets }
 
   -- a step that changes nothing of which nodes are down leads where it leads if all are up
-  pub shows_next : (r : Recovery S K) (nodes : ℕ) (u : WorldView H S I O M) (kept : List (Option K)) (w : World S K M) (s : Step I) → has_kind net.Dup (kind_of s) ≡ true
+  pub shows_next : (r : Recovery S K) (nodes : ℕ) (u : WorldView H S I O M) (kept : List (Option K)) (w : World S K M) (s : Step I) → has_kind net.Loss (kind_of s) ≡ true
       → ((n : ℕ) → w.kept n ≡ kept_at (slice_get kept n)) → ((n : ℕ) → w.is_up n ≡ is_none (kept_at (slice_get kept n)))
       → Shows nodes u (next m no_recovery (all_up w) s) → ShowsFail nodes (fail_view u kept) (next m r w s)
   shows_next r nodes u kept w (step.In n i) has keeps up h = record { states = h.states; kept = keeps; up = up; packets = h.packets }
   shows_next r nodes u kept w (step.Deliver k) has keeps up h = shows_delivery nodes u kept w (change_at one_less k w.packets) (slice_get w.packets k) keeps up h
   shows_next r nodes u kept w (step.Tick n) has keeps up h = record { states = h.states; kept = keeps; up = up; packets = h.packets }
   shows_next r nodes u kept w (step.Dup k) has keeps up h = record { states = h.states; kept = keeps; up = up; packets = h.packets }
-  shows_next r nodes u kept w (step.Lose k) has keeps up h = absurd (false≢true has)
+  shows_next r nodes u kept w (step.Lose k) has keeps up h = record { states = h.states; kept = keeps; up = up; packets = h.packets }
   shows_next r nodes u kept w (step.Crash n) has keeps up h = absurd (false≢true has)
   shows_next r nodes u kept w (step.Reboot n) has keeps up h = absurd (false≢true has)

@@ -1,10 +1,8 @@
 -- What each kind of step makes of what a `FailWorld` shows, from what its parts do.
 use Rattle.std.proofs.Common.{◌≡◌, ◌≢◌, ℕ, ◌+◌, ◌<◌, List, ◌++◌, length, Option, Some, None, Result, Ok, Err, Bool, true, false, refl, ap, sym, ◌∙◌, subst, arith, inl, inr}
 use Rattle.std.proofs.lemmas.List.{append-nil}
-use Rattle.std.specs.Prelude.{nat_lt, is_none, slice_get, IfSome, IfOk, IfErr, OnOk, OnErr, MatchResult, if◌then◌else◌}
-use Rattle.std.specs.declared.alloc.AllocError.{AllocError}
-use Rattle.std.proofs.lemmas.Bool.{cases_eq, lt-ltb, ltb-true}
-use Rattle.std.proofs.lemmas.Option.{IfSome_then}
+use Rattle.std.specs.Prelude.{nat_lt, is_none, slice_get, IfSome, IfErr, OnOk, if◌then◌else◌}
+use Rattle.std.proofs.lemmas.Bool.{cases_eq, lt-ltb, ltb-true, false≢true}
 use Rattle.handler_trait.specs.Facts.{RebootPromises}
 use Rattle.vst_base.specs.declared.net.Net.TheVariants as net
 use Rattle.vst_base.specs.declared.step.Step.{Step}
@@ -12,19 +10,20 @@ use Rattle.vst_base.specs.declared.step.Step.TheVariants as step
 use Rattle.vst_base.specs.declared.step.TheConstants.{MAX_STEPS}
 use Rattle.vst_base.specs.declared.step.StepRefusal.{StepRefusal}
 use Rattle.vst_base.specs.declared.step.StepRefusal.TheVariants as refusal
-use Rattle.vst_base.specs.Nets.{has_kind, kind_of}
-use Rattle.net_semantics.specs.Worlds.{World, put, change_at, one_less, copies}
+use Rattle.net_semantics.specs.declared.fault.StepFault.{StepFault}
+use Rattle.net_semantics.specs.declared.fault.StepFault.TheVariants as fault
+use Rattle.vst_base.specs.Nets.{has_kind, keeps_order, kind_of}
+use Rattle.net_semantics.specs.Worlds.{World, put, change_at}
 use Rattle.net_semantics.specs.Steps.{next, refusal_of, items_of, acting, fails, rebooted, IsAnswer}
 use Rattle.net_semantics.specs.Runs.{no_recovery}
-use Rattle.net_semantics.specs.Shown.{WorldView, Shows, IsSound, IsSoundPacket, IsSoundState}
+use Rattle.net_semantics.specs.Shown.{WorldView, Shows, IsSound, IsSoundState}
 use Rattle.net_semantics.specs.ShownFail.{ShowsFail, IsSoundFail, kept_at}
-use Rattle.net_semantics.specs.Held.{held_less, held_copies}
 use Rattle.net_semantics.specs.Taking.{GrowsBy}
 use Rattle.net_semantics.specs.TakingFail.{AnswersFail, TakesFail}
-use Rattle.net_semantics.proofs.Places.{put-there, put-elsewhere, length-change_at, change_at-there, change_at-elsewhere, each-change_at, slice_get_there}
+use Rattle.net_semantics.proofs.Places.{put-there, put-elsewhere, length-change_at, change_at-there, change_at-elsewhere, slice_get_there}
 use Rattle.net_semantics.proofs.Eventful.{if_some_at}
-use Rattle.net_semantics.proofs.Showing.{shown-change_at, shown_less, copies_shown, with_states}
-use Rattle.net_semantics.proofs.Taken.{sound_quiet, each_state_later, each_later, less_sound}
+use Rattle.net_semantics.proofs.Showing.{with_states}
+use Rattle.net_semantics.proofs.Taken.{sound_quiet, each_state_later, each_later}
 use Rattle.net_semantics.proofs.FailShowing.{fail_view, all_up, shows_up, sound_up, sound_fail, put_kept, each_kept, still_nothing, refused_up, items_up, shows_next}
 
 -- a node that a step names exists, and is that number
@@ -36,11 +35,6 @@ pub exists_node : (n nodes node : ℕ) (found : Result ℕ StepRefusal) → foun
 exists_node n nodes node found is e =
     let both = exists_where (nat_lt n nodes) n node found is e in
     (both.0, subst (λ j. j < nodes) (sym both.0) (ltb-true n nodes both.1))
-
--- what is known of a value that did not want memory
-pub from_memory : {X : Type 0} (P : X → Type 0) (outcome : Result X AllocError) (answer : Result X StepRefusal) (x : X) → answer ≡ Ok x → MatchResult outcome (λ y. answer ≡ Ok y) (λ _. answer ≡ Err refusal.Memory) → IfOk outcome P → P x
-from_memory P (Ok y) answer x is same p = let e : y ≡ x = cc in subst P e p
-from_memory P (Err y) answer x is same p = let e : answer ≡ Err refusal.Memory = same in cc
 
 -- the states that are shown, where one node starts again
 states_put : {S : Type 0} (f : ℕ → S) (xs : List S) (nodes n : ℕ) (s : S) → n < length xs → ((j : ℕ) → j < nodes → slice_get xs j ≡ Some (f j)) → (j : ℕ) → j < nodes → slice_get (change_at (λ _. s) n xs) j ≡ Some (put f n s j)
@@ -58,23 +52,20 @@ states_sound_put P xs n s lt p h j = elim (cases_eq j n) [
 same_state : {S : Type 0} (a b : S) (o : Option S) → o ≡ Some a → o ≡ Some b → a ≡ b
 same_state a b o e f = cc
 
--- what is shown after a loss, and after a step that changes nothing but which nodes are down
-abbrev pub lost : {H S I O M : Type 0} → WorldView H S I O M → ℕ → WorldView H S I O M
-lost u k = record u { packets = change_at held_less k u.packets; taken = u.taken + 1 }
-
+-- what is shown after a step that changes nothing but which nodes are down
 abbrev pub counted : {H S I O M : Type 0} → WorldView H S I O M → WorldView H S I O M
 counted u = record u { taken = u.taken + 1 }
 
 module _ {H S K I O M : Type 0} (f : RebootPromises S K I O M) where
   -- a step that the world takes on which this one stands, where the node that acts is up
-  module _ {A : Type 0} (u u2 : WorldView H S I O M) (kept : List (Option K)) (s : Step I) (has : has_kind net.Dup (kind_of s) ≡ true) (dup : u.net ≡ net.Dup)
+  module _ {A : Type 0} (u u2 : WorldView H S I O M) (kept : List (Option K)) (s : Step I) (has : has_kind net.Loss (kind_of s) ≡ true) (loss : u.net ≡ net.Loss)
       (was : IsSoundFail f (fail_view u kept)) (up : (w : World S K M) → ShowsFail f.handlers.meaning.nodes (fail_view u kept) w → fails (acting w s) w.is_up ≡ false) (handlers : u2.handlers ≡ u.handlers) where
-    refused_shared : (answer : Result A StepRefusal) → ((w : World S S M) → Shows f.handlers.meaning.nodes u w → IsAnswer answer (refusal_of u.net f.handlers.meaning w s)) → (w : World S K M) → ShowsFail f.handlers.meaning.nodes (fail_view u kept) w → IsAnswer answer (refusal_of net.Fail f.handlers.meaning w s)
-    refused_shared answer refused w sh = subst (IsAnswer answer) (ap (λ n. refusal_of n f.handlers.meaning (all_up w) s) dup ∙ sym (refused_up f.handlers.meaning w s has (up w sh))) (refused (all_up w) (shows_up f.handlers.meaning.nodes u kept w sh))
+    refused_shared : (answer : Result A StepFault) → ((w : World S S M) → Shows f.handlers.meaning.nodes u w → IsAnswer answer (refusal_of u.net f.handlers.meaning w s)) → (w : World S K M) → ShowsFail f.handlers.meaning.nodes (fail_view u kept) w → IsAnswer answer (refusal_of net.Fail f.handlers.meaning w s)
+    refused_shared answer refused w sh = subst (IsAnswer answer) (ap (λ n. refusal_of n f.handlers.meaning (all_up w) s) loss ∙ sym (refused_up f.handlers.meaning w s has (up w sh))) (refused (all_up w) (shows_up f.handlers.meaning.nodes u kept w sh))
 
-    pub answers_shared : (answer : Result A StepRefusal)
+    pub answers_shared : (answer : Result A StepFault)
         → ((w : World S S M) → Shows f.handlers.meaning.nodes u w → IsAnswer answer (refusal_of u.net f.handlers.meaning w s))
-        → IfErr answer (λ why. why ≢ refusal.Memory → u2 ≡ u)
+        → IfErr answer (λ why. why ≢ fault.Memory → u2 ≡ u)
         → OnOk answer ((w : World S S M) → Shows f.handlers.meaning.nodes u w → Shows f.handlers.meaning.nodes u2 (next f.handlers.meaning no_recovery w s))
         → OnOk answer ((w : World S S M) → Shows f.handlers.meaning.nodes u w → u2.trace ≡ u.trace ++ items_of f.handlers.meaning w s)
         → OnOk answer (GrowsBy (length u.trace) (length u2.trace))
@@ -100,49 +91,17 @@ module _ {H S K I O M : Type 0} (f : RebootPromises S K I O M) where
       same_handlers = handlers;
     }
 
-  module _ (u : WorldView H S I O M) (kept : List (Option K)) (was : IsSoundFail f (fail_view u kept)) where
-    copies_same : (w : World S K M) → ShowsFail f.handlers.meaning.nodes (fail_view u kept) w → (k : ℕ) → held_copies (slice_get u.packets k) ≡ copies w k
-    copies_same w sh k = copies_shown (slice_get u.packets k) (slice_get w.packets k) (sh.packets k)
-
-    lost_sound : (k : ℕ) → u.taken < MAX_STEPS → IsSound f.handlers (lost u k)
-    lost_sound k few =
-        let all = sound_up f u kept was in
-        let each : (j : ℕ) → IfSome (slice_get u.packets j) (IsSoundPacket f.handlers.meaning.nodes (u.taken + 1)) = each_later f.handlers.meaning.nodes u.taken (u.taken + 1) (omega arith) u.packets all.packets in
-        sound_quiet f.handlers u (lost u k) all few refl refl (each_state_later f.handlers u (lost u k) all (omega arith) refl) (length-change_at held_less u.packets k)
-        (each-change_at (IsSoundPacket f.handlers.meaning.nodes (u.taken + 1)) held_less u.packets k each (IfSome_then (slice_get u.packets k) (each k) (less_sound f.handlers.meaning.nodes (u.taken + 1))))
-
-    pub takes_lose : (k : ℕ) → 0 < held_copies (slice_get u.packets k) → u.taken < MAX_STEPS → TakesFail f (step.Lose k) (fail_view u kept) (fail_view (lost u k) kept)
-    takes_lose k copy few = record {
-      leads = λ w sh. record { states = sh.states; kept = sh.kept; up = sh.up; packets = shown-change_at held_less one_less (λ l. 0 < l) shown_less u.packets w.packets k copy sh.packets };
-      sees = λ w sh. sym (append-nil u.trace);
-      grows = record { least = omega arith; most = omega arith };
-      counts = refl;
-      keeps = sound_fail f (lost u k) kept (lost_sound k few) was.nodes was.stopped;
-    }
-
-    pub answers_lose : {A : Type 0} (u2 : WorldView H S I O M) (k : ℕ) (few : u.taken < MAX_STEPS) (answer : Result A StepRefusal)
-        → OnOk answer (0 < held_copies (slice_get u.packets k)) → OnOk answer (u2 ≡ lost u k)
-        → IfErr answer (λ why. (why ≡ refusal.NoCopy) × (held_copies (slice_get u.packets k) ≡ 0)) → OnErr answer (u2 ≡ u)
-        → AnswersFail f (step.Lose k) (fail_view u kept) (fail_view u2 kept) answer
-    answers_lose {A = A} u2 k few (Ok x) copy is why unchanged = record {
-      refused = λ w sh. let l : nat_lt 0 (copies w k) ≡ true = lt-ltb 0 (copies w k) (subst (λ n. 0 < n) (copies_same w sh k) copy) in rw l refl;
-      unchanged = tt;
-      taken = subst (λ v. TakesFail f (step.Lose k) (fail_view u kept) (fail_view v kept)) (sym is) (takes_lose k copy few);
-      same_handlers = ap (λ v. v.handlers) is;
-    }
-    answers_lose {A = A} u2 k few (Err e) copy is why unchanged = record {
-      refused = λ w sh. subst (λ y. IsAnswer {A = A} (Err y) (refusal_of net.Fail f.handlers.meaning w (step.Lose k))) (sym why.0) (let l : nat_lt 0 (copies w k) ≡ false = subst (λ n. nat_lt 0 n ≡ false) (sym why.1 ∙ copies_same w sh k) refl in rw l refl);
-      unchanged = λ ne. ap (λ x. fail_view x kept) unchanged;
-      taken = tt;
-      same_handlers = ap (λ v. v.handlers) unchanged;
-    }
+  module _ (u : WorldView H S I O M) (kept : List (Option K)) (loss : u.net ≡ net.Loss) (was : IsSoundFail f (fail_view u kept)) where
+    -- this network keeps no order
+    no_order : {A : Type 0} → keeps_order u.net ≡ true → A
+    no_order keeps = absurd (false≢true (subst (λ n. keeps_order n ≡ true) loss keeps))
 
     -- a node stops
     module _ (n : ℕ) (below : n < f.handlers.meaning.nodes) (k : K) (s : S) (stood : slice_get u.states n ≡ Some s) (keeps : k ≡ f.recovery.keep s) (fit : f.fits k) (few : u.taken < MAX_STEPS) where
       takes_crash : TakesFail f (step.Crash n) (fail_view u kept) (fail_view (counted u) (change_at (λ _. Some k) n kept))
       takes_crash =
           let held : n < length kept = subst (λ l. n < l) (sym was.nodes) below in
-          let all = sound_up f u kept was in
+          let all = sound_up f u kept loss was in
           record {
             leads = λ w sh. record {
               states = sh.states;
@@ -154,7 +113,7 @@ module _ {H S K I O M : Type 0} (f : RebootPromises S K I O M) where
             grows = record { least = omega arith; most = omega arith };
             counts = refl;
             keeps = sound_fail f (counted u) (change_at (λ _. Some k) n kept)
-                (sound_quiet f.handlers u (counted u) all few refl refl (each_state_later f.handlers u (counted u) all (omega arith) refl) refl (each_later f.handlers.meaning.nodes u.taken (u.taken + 1) (omega arith) u.packets all.packets))
+                (sound_quiet f.handlers u (counted u) all few refl refl (each_state_later f.handlers u (counted u) all (omega arith) refl) refl (each_later f.handlers.meaning.nodes u.taken (u.taken + 1) (omega arith) u.packets all.packets) no_order)
                 (length-change_at (λ _. Some k) kept n ∙ was.nodes)
                 (each_kept f.fits kept n (Some k) held fit was.stopped);
           }
@@ -177,7 +136,7 @@ module _ {H S K I O M : Type 0} (f : RebootPromises S K I O M) where
         takes_reboot : TakesFail f (step.Reboot n) (fail_view u kept) (fail_view started (change_at (λ _. None) n kept))
         takes_reboot =
             let held : n < length kept = subst (λ l. n < l) (sym was.nodes) below in
-            let all = sound_up f u kept was in
+            let all = sound_up f u kept loss was in
             let stands : n < length u.states = subst (λ l. n < l) (sym all.nodes) below in
             record {
               leads = λ w sh. subst (λ o. ShowsFail f.handlers.meaning.nodes (fail_view started (change_at (λ _. None) n kept)) (rebooted f.recovery w n o)) (sym (sh.kept n ∙ stopped)) (record {
@@ -192,7 +151,7 @@ module _ {H S K I O M : Type 0} (f : RebootPromises S K I O M) where
               keeps = sound_fail f started (change_at (λ _. None) n kept)
                   (sound_quiet f.handlers u started all few refl (length-change_at (λ _. s) u.states n)
                   (states_sound_put (λ j. IsSoundState (f.handlers.sound j) f.handlers.spent (u.taken + 1)) u.states n s stands (record { keeps = ok; little = omega arith }) (each_state_later f.handlers u (counted u) all (omega arith) refl))
-                  refl (each_later f.handlers.meaning.nodes u.taken (u.taken + 1) (omega arith) u.packets all.packets))
+                  refl (each_later f.handlers.meaning.nodes u.taken (u.taken + 1) (omega arith) u.packets all.packets) no_order)
                   (length-change_at (λ _. None) kept n ∙ was.nodes)
                   (each_kept f.fits kept n None held tt was.stopped);
             }
@@ -208,7 +167,7 @@ module _ {H S K I O M : Type 0} (f : RebootPromises S K I O M) where
 
       -- but not one that is up
       pub answers_reboot_up : {A : Type 0} (kept2 : List (Option K)) → kept_at (slice_get kept n) ≡ None → kept2 ≡ change_at (λ _. None) n kept
-          → AnswersFail {A = A} f (step.Reboot n) (fail_view u kept) (fail_view u kept2) (Err refusal.NodeUp)
+          → AnswersFail {A = A} f (step.Reboot n) (fail_view u kept) (fail_view u kept2) (Err (fault.Refused refusal.NodeUp))
       answers_reboot_up kept2 nothing e = record {
         refused = λ w sh. let t : w.is_up n ≡ true = sh.up n ∙ ap is_none nothing in let l : nat_lt n f.handlers.meaning.nodes ≡ true = lt-ltb n f.handlers.meaning.nodes below in rw (l, t) refl;
         unchanged = λ ne. ap (fail_view u) (e ∙ still_nothing kept n nothing);

@@ -3,6 +3,7 @@ pub mod Eventful
 pub mod Showing
 pub mod Counts
 pub mod Keeping
+pub mod Ordering
 pub mod Taken
 pub mod Stops
 pub mod FailShowing

@@ -2,25 +2,30 @@
 use Rattle.std.proofs.Common.{◌≡◌, ◌≢◌, ℕ, zero, suc, ◌+◌, ◌-◌, ◌<◌, ◌≤◌, List, [], ◌∷◌, ◌++◌, length, map, Option, Some, None, refl, ap, sym, ◌∙◌, subst, arith, eqb, true, false, length-append, append_assoc, inl, inr}
 use Rattle.std.proofs.lemmas.List.{length-map, append-nil}
 use Rattle.std.specs.Prelude.{◌==◌, nat_lt, slice_get, IfSome, IsSome, if◌then◌else◌}
-use Rattle.std.proofs.lemmas.Bool.{ne_eqb, eq-eqb, cases_eq, cases_lt, lt-ltb}
+use Rattle.std.proofs.lemmas.Bool.{ne_eqb, eq-eqb, cases_eq, cases_lt, lt-ltb, false≢true}
 use Rattle.std.proofs.lemmas.Option.{IfSome_then, MatchOption-from_none, slice_get_past}
 use Rattle.handler_trait.specs.Facts.{Promises}
 use Rattle.handler_trait.specs.Handling.{Meaning, Effect, IsModest, AreSentBelow}
 use Rattle.handler_trait.specs.Gathering.{Gathered}
 use Rattle.handler_trait.specs.declared.handlers.TheConstants.{MAX_OUTPUTS, MAX_SENDS}
 use Rattle.vst_base.specs.declared.net.Net.{Net}
+use Rattle.vst_base.specs.declared.net.Net.TheVariants as net
+use Rattle.vst_base.specs.declared.step.Step.{Step}
 use Rattle.vst_base.specs.declared.step.Step.TheVariants as step
 use Rattle.vst_base.specs.declared.step.StepKind.TheVariants as kind
 use Rattle.vst_base.specs.declared.step.Item.{Item}
 use Rattle.vst_base.specs.declared.step.TheConstants.{MAX_STEPS}
-use Rattle.vst_base.specs.Nets.{has_kind}
+use Rattle.vst_base.specs.Nets.{has_kind, keeps_order}
 use Rattle.vst_base.specs.declared.step.Item.TheVariants as item
 use Rattle.net_semantics.specs.Worlds.{World, Packet, put, change_at, one_more, one_less, sent_by, copies}
-use Rattle.net_semantics.specs.Steps.{refusal_of, input_item, delivery, after_event, with_packets, items_of_event}
-use Rattle.net_semantics.specs.Shown.{Shown, WorldView, Shows, ShowsAt, IsSound, IsSoundPacket, IsSoundState}
+use Rattle.net_semantics.specs.Steps.{next, refusal_of, items_of, input_item, delivery, after_event, with_packets, items_of_event}
+use Rattle.net_semantics.specs.Runs.{no_recovery}
+use Rattle.net_semantics.specs.Shown.{Shown, ShowsPacket, WorldView, Shows, ShowsAt, IsSound, IsSoundPacket, IsSoundState}
 use Rattle.net_semantics.specs.Held.{held_sent, held_more, held_less, held_copies}
 use Rattle.net_semantics.specs.Taking.{GrowsBy, Happens, IsReady, Takes}
 use Rattle.net_semantics.proofs.Places.{put-there, put-elsewhere, length-change_at, change_at-there, change_at-elsewhere, each-append, each-change_at, slice_get_there}
+use Rattle.net_semantics.specs.Order.{IsInOrder}
+use Rattle.net_semantics.proofs.Ordering.{order-sent}
 use Rattle.net_semantics.proofs.Eventful.{if_some_at, if_some_given}
 use Rattle.net_semantics.proofs.Showing.{ShowsAll, shown-append, shown_sent, shown-change_at, shown_more, shown_less, packet_of_shown}
 
@@ -73,10 +78,12 @@ pub record Occurs {H S I O M : Type 0} (x : Promises S I O M) (v v2 : WorldView 
   pub node : n < x.meaning.nodes
   pub happens : Happens event n v.states v2.states gathered
   pub kept : IfSome (slice_get v2.states n) (x.sound n)
-  pub modest : (s : S) → x.sound n s → IsModest x.meaning.nodes (x.sound n) x.spent s (event s)
+  pub modest : (s : S) → x.sound n s → IsModest x.meaning.nodes MAX_SENDS (x.sound n) x.spent s (event s)
   pub packets : v2.packets ≡ base ++ map (held_sent n) gathered.sends
   pub trace : v2.trace ≡ v.trace ++ (input_item n input ++ map (λ o. item.Output n o) gathered.outputs)
   pub taken : v2.taken ≡ v.taken + 1
+  pub same_net : v2.net ≡ v.net
+  pub in_order : keeps_order v.net ≡ true → IsInOrder base
 
 module _ {H S I O M : Type 0} (x : Promises S I O M) (v v2 : WorldView H S I O M) (n : ℕ) (input : Option I) (event : S → Effect S O M) (gathered : Gathered O M) (base : List (Shown M)) (h : Occurs x v v2 n input event gathered base) where
   stood : (s : S) × (slice_get v.states n ≡ Some s)
@@ -114,7 +121,7 @@ module _ {H S I O M : Type 0} (x : Promises S I O M) (v v2 : WorldView H S I O M
   was_state : IsSoundState (x.sound n) x.spent v.taken stood.0
   was_state = if_some_given (IsSoundState (x.sound n) x.spent v.taken) (slice_get v.states n) stood.0 stood.1 (h.was.states n)
 
-  was_modest : IsModest x.meaning.nodes (x.sound n) x.spent stood.0 (event stood.0)
+  was_modest : IsModest x.meaning.nodes MAX_SENDS (x.sound n) x.spent stood.0 (event stood.0)
   was_modest = h.modest stood.0 was_state.keeps
 
   sends_were : gathered.sends ≡ (event stood.0).sends
@@ -138,7 +145,8 @@ module _ {H S I O M : Type 0} (x : Promises S I O M) (v v2 : WorldView H S I O M
       let parts = length-append given outputs in
       let seen : length outputs ≡ length gathered.outputs = length-map gathered.outputs (λ o. item.Output n o) in
       let one : length given ≤ 1 = input_once O n input in
-      let few : length gathered.outputs ≤ MAX_OUTPUTS = subst (λ xs. length xs ≤ MAX_OUTPUTS) (sym outputs_were) (was_modest.few_outputs sound_here.keeps) in
+      let few : length gathered.outputs ≤ MAX_OUTPUTS + x.spent stood.0 = subst (λ xs. length xs ≤ MAX_OUTPUTS + x.spent stood.0) (sym outputs_were) (was_modest.few_outputs sound_here.keeps) in
+      let little = was_state.little in let steps = h.few in
       record { least = omega arith; most = omega arith }
 
   state_later : (k : ℕ) (s : S) → IsSoundState (x.sound k) x.spent v.taken s → IsSoundState (x.sound k) x.spent v2.taken s
@@ -162,6 +170,7 @@ module _ {H S I O M : Type 0} (x : Promises S I O M) (v v2 : WorldView H S I O M
         let b : length gathered.sends ≤ MAX_SENDS = subst (λ xs. length xs ≤ MAX_SENDS) (sym sends_were) was_modest.few in
         let c = h.taken in let d = h.was.few_packets in omega arith;
     few_steps = let c = h.taken in let d = h.few in omega arith;
+    in_order = λ keeps. subst IsInOrder (sym h.packets) (order-sent base n gathered.sends (h.in_order (subst (λ net. keeps_order net ≡ true) h.same_net keeps)));
   }
 
 module _ {H S I O M : Type 0} (x : Promises S I O M) (v v2 : WorldView H S I O M) where
@@ -229,13 +238,15 @@ module _ {H S I O M : Type 0} (x : Promises S I O M) (v v2 : WorldView H S I O M
   -- a step in which no event happens: a state and a packet are as before, or sound after it
   pub sound_quiet : IsSound x v → v.taken < MAX_STEPS → v2.taken ≡ v.taken + 1
       → length v2.states ≡ length v.states → ((n : ℕ) → IfSome (slice_get v2.states n) (IsSoundState (x.sound n) x.spent v2.taken))
-      → length v2.packets ≡ length v.packets → ((k : ℕ) → IfSome (slice_get v2.packets k) (IsSoundPacket x.meaning.nodes v2.taken)) → IsSound x v2
-  sound_quiet was few taken same_nodes states same_packets packets = record {
+      → length v2.packets ≡ length v.packets → ((k : ℕ) → IfSome (slice_get v2.packets k) (IsSoundPacket x.meaning.nodes v2.taken))
+      → (keeps_order v2.net ≡ true → IsInOrder v2.packets) → IsSound x v2
+  sound_quiet was few taken same_nodes states same_packets packets in_order = record {
     nodes = same_nodes ∙ was.nodes;
     states = states;
     packets = packets;
     few_packets = let b = was.few_packets in omega arith;
     few_steps = omega arith;
+    in_order = in_order;
   }
 
   pub each_state_later : IsSound x v → v.taken ≤ v2.taken → v2.states ≡ v.states → (n : ℕ) → IfSome (slice_get v2.states n) (IsSoundState (x.sound n) x.spent v2.taken)
@@ -243,22 +254,36 @@ module _ {H S I O M : Type 0} (x : Promises S I O M) (v v2 : WorldView H S I O M
       subst (λ xs. IfSome (slice_get xs n) (IsSoundState (x.sound n) x.spent v2.taken)) (sym states)
       (IfSome_then (slice_get v.states n) (was.states n) (λ (s : S) (p : IsSoundState (x.sound n) x.spent v.taken s). record { keeps = p.keeps; little = let a = p.little in omega arith }))
 
-  module _ (k : ℕ) (copy : 0 < held_copies (slice_get v.packets k)) (was : IsSound x v) (few : v.taken < MAX_STEPS) (states : v2.states ≡ v.states) (packets : v2.packets ≡ change_at held_more k v.packets) (trace : v2.trace ≡ v.trace) (taken : v2.taken ≡ v.taken + 1) where
-    pub takes_dup : Takes x (step.Dup k) v v2
-    takes_dup = record {
-      leads = λ w sh. record {
+  -- a step that changes how many copies of packet k are in flight, and nothing else, where the network keeps no order
+  module _ (s : Step I) (f : Shown M → Shown M) (g : Packet M → Packet M) (k : ℕ) (copy : 0 < held_copies (slice_get v.packets k)) (was : IsSound x v) (few : v.taken < MAX_STEPS)
+      (states : v2.states ≡ v.states) (packets : v2.packets ≡ change_at f k v.packets) (trace : v2.trace ≡ v.trace) (taken : v2.taken ≡ v.taken + 1) (free : keeps_order v2.net ≡ false)
+      (leads_to : (w : World S S M) → next x.meaning no_recovery w s ≡ with_packets w (change_at g k w.packets)) (silent : (w : World S S M) → items_of x.meaning w s ≡ [])
+      (shows : (p : Shown M) (q : Packet M) → 0 < p.copies → ShowsPacket p q → ShowsPacket (f p) (g q)) (sounds : IfSome (slice_get v.packets k) (λ p. IsSoundPacket x.meaning.nodes (v.taken + 1) (f p))) where
+    pub takes_copies : Takes x s v v2
+    takes_copies = record {
+      leads = λ w sh. subst (Shows x.meaning.nodes v2) (sym (leads_to w)) (record {
         states = λ n lt. ap (λ xs. slice_get xs n) states ∙ sh.states n lt;
         up = sh.up;
-        packets = subst (λ ps. ShowsAll ps (change_at one_more k w.packets)) (sym packets) (shown-change_at held_more one_more (λ l. 0 < l) shown_more v.packets w.packets k copy sh.packets);
-      };
-      sees = λ w sh. trace ∙ sym (append-nil v.trace);
+        packets = subst (λ ps. ShowsAll ps (change_at g k w.packets)) (sym packets) (shown-change_at f g (λ l. 0 < l) shows v.packets w.packets k copy sh.packets);
+      });
+      sees = λ w sh. trace ∙ (sym (append-nil v.trace) ∙ ap (λ xs. v.trace ++ xs) (sym (silent w)));
       grows = let size = ap length trace in record { least = omega arith; most = omega arith };
       counts = taken;
-      keeps = sound_quiet was few taken (ap length states) (each_state_later was (omega arith) states) (ap length packets ∙ length-change_at held_more v.packets k)
+      keeps = sound_quiet was few taken (ap length states) (each_state_later was (omega arith) states) (ap length packets ∙ length-change_at f v.packets k)
           (subst (λ ps. (j : ℕ) → IfSome (slice_get ps j) (IsSoundPacket x.meaning.nodes v2.taken)) (sym packets)
-          (each-change_at (IsSoundPacket x.meaning.nodes v2.taken) held_more v.packets k (each_later x.meaning.nodes v.taken v2.taken (omega arith) v.packets was.packets)
-          (subst (λ t. IfSome (slice_get v.packets k) (λ p. IsSoundPacket x.meaning.nodes t (held_more p))) (sym taken) (more_sound x.meaning.nodes v.taken (slice_get v.packets k) copy (was.packets k)))));
+          (each-change_at (IsSoundPacket x.meaning.nodes v2.taken) f v.packets k (each_later x.meaning.nodes v.taken v2.taken (omega arith) v.packets was.packets)
+          (subst (λ t. IfSome (slice_get v.packets k) (λ p. IsSoundPacket x.meaning.nodes t (f p))) (sym taken) sounds)))
+          (λ keeps. absurd (false≢true (sym free ∙ keeps)));
     }
+
+  module _ (k : ℕ) (copy : 0 < held_copies (slice_get v.packets k)) (was : IsSound x v) (few : v.taken < MAX_STEPS) (states : v2.states ≡ v.states) (trace : v2.trace ≡ v.trace) (taken : v2.taken ≡ v.taken + 1) (free : keeps_order v2.net ≡ false) where
+    pub takes_dup : v2.packets ≡ change_at held_more k v.packets → Takes x (step.Dup k) v v2
+    takes_dup packets = takes_copies (step.Dup k) held_more one_more k copy was few states packets trace taken free (λ w. refl) (λ w. refl) shown_more (more_sound x.meaning.nodes v.taken (slice_get v.packets k) copy (was.packets k))
+
+    pub takes_lose : v2.packets ≡ change_at held_less k v.packets → Takes x (step.Lose k) v v2
+    takes_lose packets =
+        let each : (j : ℕ) → IfSome (slice_get v.packets j) (IsSoundPacket x.meaning.nodes (v.taken + 1)) = each_later x.meaning.nodes v.taken (v.taken + 1) (omega arith) v.packets was.packets in
+        takes_copies (step.Lose k) held_less one_less k copy was few states packets trace taken free (λ w. refl) (λ w. refl) shown_less (IfSome_then (slice_get v.packets k) (each k) (less_sound x.meaning.nodes (v.taken + 1)))
 
 -- each node can take an event while steps are left
 pub ready_there : {H S I O M : Type 0} (x : Promises S I O M) (v : WorldView H S I O M) → IsSound x v → v.taken < MAX_STEPS → (n : ℕ) → IfSome (slice_get v.states n) (IsReady (x.sound n) x.spent)
@@ -276,5 +301,32 @@ first_sound x states len first ok fresh n = elim (cases_lt n x.meaning.nodes) [
   | inr ge ↦ MatchOption-from_none (slice_get states n) (IsSoundState (x.sound n) x.spent 0) (slice_get_past states n (omega arith))
 ]
 
-pub dup_not_refused : {S K I O M : Type 0} (net : Net) (m : Meaning S I O M) (w : World S K M) (k : ℕ) → has_kind net kind.Dup ≡ true → 0 < copies w k → refusal_of net m w (step.Dup k) ≡ None
-dup_not_refused net m w k has more = let l : nat_lt 0 (copies w k) ≡ true = lt-ltb 0 (copies w k) more in rw (has, l) refl
+-- a network on which packets are copied or lost keeps no order
+pub no_order-dup : (net : Net) → has_kind net kind.Dup ≡ true → keeps_order net ≡ false
+no_order-dup net.One has = refl
+no_order-dup net.Bag has = refl
+no_order-dup net.Dup has = refl
+no_order-dup net.Fail has = refl
+no_order-dup net.Ord has = absurd (false≢true has)
+no_order-dup net.Loss has = refl
+no_order-dup net.Acts has = refl
+
+pub no_order-lose : (net : Net) → has_kind net kind.Lose ≡ true → keeps_order net ≡ false
+no_order-lose net.One has = refl
+no_order-lose net.Bag has = refl
+no_order-lose net.Dup has = refl
+no_order-lose net.Fail has = refl
+no_order-lose net.Ord has = absurd (false≢true has)
+no_order-lose net.Loss has = refl
+no_order-lose net.Acts has = refl
+
+module _ {S K I O M : Type 0} (net : Net) (m : Meaning S I O M) (w : World S K M) (k : ℕ) (more : 0 < copies w k) where
+  pub dup_not_refused : has_kind net kind.Dup ≡ true → refusal_of net m w (step.Dup k) ≡ None
+  dup_not_refused has = let l : nat_lt 0 (copies w k) ≡ true = lt-ltb 0 (copies w k) more in rw (has, l, no_order-dup net has) refl
+
+  pub lose_not_refused : has_kind net kind.Lose ≡ true → refusal_of net m w (step.Lose k) ≡ None
+  lose_not_refused has = let l : nat_lt 0 (copies w k) ≡ true = lt-ltb 0 (copies w k) more in rw (has, l, no_order-lose net has) refl
+
+-- an event that sends no more than these handlers may sends no more than any may
+pub modest_most : {S O M : Type 0} {nodes sends : ℕ} {sound : S → Type 0} {spent : S → ℕ} {before : S} {e : Effect S O M} → sends ≤ MAX_SENDS → IsModest nodes sends sound spent before e → IsModest nodes MAX_SENDS sound spent before e
+modest_most few modest = record { few = let a = modest.few in omega arith; to_nodes = modest.to_nodes; cheap = modest.cheap; few_outputs = modest.few_outputs }

@@ -1,6 +1,6 @@
 -- Packets as a `World` holds them: the content of one goes with its last copy.
 use Rattle.std.specs.Prelude.{ℕ, nat_lt, ◌+◌, ◌-◌, ◌==◌, List, count_by, Option, Some, None, if◌then◌else◌}
-use Rattle.net_semantics.specs.Shown.{Shown}
+use Rattle.net_semantics.specs.PacketViews.{Shown}
 
 -- a packet that was just sent
 abbrev pub held_sent : {M : Type 0} → ℕ → ℕ × M → Shown M

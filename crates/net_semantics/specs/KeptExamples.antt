@@ -1,5 +1,5 @@
 -- Packets and contents for worked rows.
-use Rattle.std.specs.Prelude.{ℕ, List, length, Option}
+use Rattle.std.specs.Prelude.{ℕ, List, length, Option, Some}
 use Rattle.slab.specs.Slab.{Slab}
 use Rattle.net_semantics.specs.declared.packets.Sent.{Sent}
 use Rattle.net_semantics.specs.Shown.{Shown}
@@ -14,3 +14,7 @@ sent_with copies place = record { source = 1; destination = 0; copies = copies; 
 
 abbrev pub shown_so : ℕ → Option ℕ → Shown ℕ
 shown_so copies content = record { source = 1; destination = 0; copies = copies; content = content }
+
+-- a packet along this way with so many copies
+abbrev pub shown_along : ℕ → ℕ → ℕ → Shown ℕ
+shown_along source destination copies = record { source = source; destination = destination; copies = copies; content = Some 7 }

@@ -1,8 +1,10 @@
 pub mod Worlds
 pub mod Steps
 pub mod Runs
+pub mod PacketViews
 pub mod Shown
 pub mod Held
+pub mod Order
 pub mod Kept
 pub mod KeptExamples
 pub mod Taking

@@ -4,16 +4,12 @@ use Rattle.std.specs.Prelude.{◌≡◌, ℕ, true, ◌<◌, ◌≤◌, ◌*◌,
 use Rattle.handler_trait.specs.Facts.{HandlersFacts, Promises, promises_of}
 use Rattle.handler_trait.specs.declared.handlers.TheConstants.{MAX_SENDS, STEP_COST}
 use Rattle.vst_base.specs.declared.net.Net.{Net}
+use Rattle.vst_base.specs.Nets.{keeps_order}
 use Rattle.vst_base.specs.declared.step.Item.{Item}
 use Rattle.vst_base.specs.declared.step.TheConstants.{MAX_STEPS}
 use Rattle.net_semantics.specs.Worlds.{World, Packet}
-
--- a packet as it is kept
-pub record Shown (M : Type 0) : Type 0 where
-  pub source : ℕ
-  pub destination : ℕ
-  pub copies : ℕ
-  pub content : Option M
+pub use Rattle.net_semantics.specs.PacketViews.{Shown}
+use Rattle.net_semantics.specs.Order.{IsInOrder}
 
 -- the handlers and their network, a state for each node, the packets, what clients saw since it was last
 -- cleared, and how many steps were taken
@@ -64,6 +60,7 @@ pub record IsSound {H S I O M : Type 0} (h : Promises S I O M) (v : WorldView H 
   pub packets : (k : ℕ) → IfSome (slice_get v.packets k) (IsSoundPacket h.meaning.nodes v.taken)
   pub few_packets : length v.packets ≤ MAX_SENDS * v.taken
   pub few_steps : v.taken ≤ MAX_STEPS
+  pub in_order : keeps_order v.net ≡ true → IsInOrder v.packets
 
 -- the same by what the view's own handlers promise, and what holds of each world that the view stands for
 module _ {H S I O M : Type 0} (f : HandlersFacts H S I O M) (v : WorldView H S I O M) where

@@ -29,9 +29,16 @@ pub record ShowsFail {H S K I O M : Type 0} (nodes : ℕ) (v : FailView H S K I 
   pub up : (n : ℕ) → w.is_up n ≡ is_none (kept_at (slice_get v.stopped n))
   pub packets : (k : ℕ) → ShowsAt (slice_get v.packets k) (slice_get w.packets k)
 
--- the same as a network shows it that copies packets, where no node is ever down
+-- the view of the world within, on a network that copies and loses packets, where no node is ever down
 abbrev pub without_stopped : {H S K I O M : Type 0} → FailView H S K I O M → WorldView H S I O M
-without_stopped v = record { handlers = v.handlers; net = net.Dup; states = v.states; packets = v.packets; trace = v.trace; taken = v.taken }
+without_stopped v = record {
+  handlers = v.handlers;
+  net = net.Loss;
+  states = v.states;
+  packets = v.packets;
+  trace = v.trace;
+  taken = v.taken;
+}
 
 -- what holds of a world of these handlers when it is made and after each step that doesn't answer want of memory
 pub record IsSoundFail {H S K I O M : Type 0} (h : RebootPromises S K I O M) (v : FailView H S K I O M) : Type 0 where

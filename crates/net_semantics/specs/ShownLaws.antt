@@ -21,6 +21,7 @@ sound-forget h v u e was =
       packets = was.packets;
       few_packets = was.few_packets;
       few_steps = was.few_steps;
+      in_order = was.in_order;
     })
 
 pub shows_fail-forget : {H S K I O M : Type 0} (nodes : ℕ) (v u : FailView H S K I O M) (w : World S K M)

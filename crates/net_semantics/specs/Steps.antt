@@ -1,5 +1,5 @@
 -- The steps of a world: which one it refuses and why, and what the others make of it.
-use Rattle.std.specs.Prelude.{◌≡◌, ℕ, Bool, true, false, not, nat_lt, List, [], ◌∷◌, ◌++◌, map, Option, Some, None, Result, Ok, Err, slice_get}
+use Rattle.std.specs.Prelude.{◌≡◌, ℕ, Bool, true, false, not, ◌&&◌, ◌||◌, ◌==◌, nat_lt, List, [], ◌∷◌, ◌++◌, map, take, Option, Some, None, Result, Ok, Err, slice_get}
 use Rattle.handler_trait.specs.Handling.{Meaning, Effect, Recovery}
 use Rattle.vst_base.specs.declared.net.Net.{Net}
 use Rattle.vst_base.specs.declared.step.Step.{Step}
@@ -9,7 +9,9 @@ use Rattle.vst_base.specs.declared.step.Item.TheVariants as item
 use Rattle.vst_base.specs.declared.step.StepRefusal.{StepRefusal}
 use Rattle.vst_base.specs.declared.step.StepRefusal.TheVariants as refusal
 use Rattle.vst_base.specs.Firsts.{first_of}
-use Rattle.vst_base.specs.Nets.{has_kind, kind_of}
+use Rattle.vst_base.specs.Nets.{has_kind, keeps_order, kind_of}
+use Rattle.net_semantics.specs.declared.fault.StepFault.{StepFault}
+use Rattle.net_semantics.specs.declared.fault.StepFault.TheVariants as fault
 use Rattle.net_semantics.specs.Worlds.{World, Packet, put, change_at, one_more, one_less, sent_by, copies, ends}
 
 -- the node that a step names, and the packet
@@ -68,6 +70,20 @@ reboots (step.Dup k) = None
 reboots (step.Lose k) = None
 reboots (step.Crash n) = None
 
+-- whether one of these packets has these ends, source and destination, and a copy in flight
+abbrev pub flies_among : {M : Type 0} → ℕ × ℕ → List (Packet M) → Bool
+flies_among e [] = false
+flies_among e (p ∷ ps) = ((p.source == e.0) && ((p.destination == e.1) && nat_lt 0 p.copies)) || flies_among e ps
+
+-- none of the packets before has these ends and a copy in flight
+abbrev pub comes_first : {M : Type 0} → Option (ℕ × ℕ) → List (Packet M) → Bool
+comes_first None before = true
+comes_first (Some e) before = not (flies_among e before)
+
+-- no packet of the same ends that was sent before this one has a copy in flight
+abbrev pub is_first : {S K M : Type 0} → World S K M → ℕ → Bool
+is_first w k = comes_first (ends w k) (take k w.packets)
+
 -- the refusals in their order, each with whether it applies
 abbrev pub refusals : {S K I O M : Type 0} → Net → Meaning S I O M → World S K M → Step I → List (StepRefusal × Bool)
 refusals net m w s =
@@ -77,6 +93,7 @@ refusals net m w s =
     ∷ (refusal.NodeDown, fails (acting w s) w.is_up)
     ∷ (refusal.NodeUp, fails (reboots s) (λ n. not (w.is_up n)))
     ∷ (refusal.NoCopy, fails (packet_of s) (λ k. nat_lt 0 (copies w k)))
+    ∷ (refusal.NotFirst, keeps_order net && fails (packet_of s) (is_first w))
     ∷ []
 
 -- the first that applies
@@ -151,12 +168,7 @@ abbrev pub items_of : {S K I O M : Type 0} → Meaning S I O M → World S K M �
 items_of m w s = items_of_event (event_of m w s)
 
 -- what a step may answer where this is its first refusal: that refusal, or, where there is none, that it was taken or that memory ran out
-abbrev pub IsAnswer : {A : Type 0} → Result A StepRefusal → Option StepRefusal → Type 0
+abbrev pub IsAnswer : {A : Type 0} → Result A StepFault → Option StepRefusal → Type 0
 IsAnswer (Ok x) first = first ≡ None
-IsAnswer (Err refusal.Memory) first = first ≡ None
-IsAnswer (Err refusal.NotThisNet) first = first ≡ Some refusal.NotThisNet
-IsAnswer (Err refusal.NoSuchNode) first = first ≡ Some refusal.NoSuchNode
-IsAnswer (Err refusal.NoInputHere) first = first ≡ Some refusal.NoInputHere
-IsAnswer (Err refusal.NodeDown) first = first ≡ Some refusal.NodeDown
-IsAnswer (Err refusal.NodeUp) first = first ≡ Some refusal.NodeUp
-IsAnswer (Err refusal.NoCopy) first = first ≡ Some refusal.NoCopy
+IsAnswer (Err (fault.Refused why)) first = first ≡ Some why
+IsAnswer (Err fault.Memory) first = first ≡ None

@@ -1,10 +1,12 @@
-ghost use Rattle.std.specs.Prelude.{◌≡◌, ℕ, ◌+◌, ◌*◌, ◌<◌, ◌≤◌, ◌++◌, length, map, IsTrue, IfSome, IfOk, OnOk, Some, [], slice_get};
+ghost use Rattle.std.specs.Prelude.{◌≡◌, ℕ, ◌+◌, ◌*◌, ◌<◌, ◌≤◌, ◌++◌, length, map, IsTrue, IfSome, IfOk, OnOk, Some, is_some, [], slice_get};
 ghost use Rattle.net_semantics.specs.Held.{held_sent};
+ghost use Rattle.net_semantics.specs.Order.{LanesFollow, all_ends};
 ghost use Rattle.net_semantics.specs.Taking.{Happens, IsReady};
 
 use crate::Trace;
 use crate::packets::{Packets, Parcel};
 use handler_trait::{Effects, Handlers, MAX_SENDS};
+use lanes::Lanes;
 use std::alloc::{AllocError, Global};
 use std::mem;
 use vst_base::{Item, Node};
@@ -104,11 +106,14 @@ fn send_packets<M: Drop>(
     node: Node,
     sends: &mut Vec<(Node, M)>,
     packets: &mut Packets<M>,
+    lanes: &mut Option<Lanes>,
 ) -> Result<(), AllocError>
-    ensures { OnOk result (packets.new ≡ packets.old ++ map (held_sent node) sends.old.items) }
+    ensures sent { OnOk result (packets.new ≡ packets.old ++ map (held_sent node) sends.old.items) }
+    ensures kept { is_some lanes.new ≡ is_some lanes.old }
+    ensures follow { LanesFollow lanes.old (all_ends packets.old) → LanesFollow lanes.new (all_ends packets.new) }
 {
     for (destination, content) in sends.drain(..) {
-        packets.send(node, destination, content)?;
+        packets.send(lanes, node, destination, content)?;
     }
     Ok(())
 }
@@ -119,13 +124,16 @@ fn release<I: Drop, O: Drop, M: Drop>(
     effects: Effects<O, M>,
     trace: &mut Trace<I, O>,
     packets: &mut Packets<M>,
+    lanes: &mut Option<Lanes>,
 ) -> Result<Effects<O, M>, AllocError>
     ensures trace { OnOk result (trace.new ≡ trace.old ++ map (λ o. Item.Output node o) effects.outputs) }
     ensures packets { OnOk result (packets.new ≡ packets.old ++ map (held_sent node) effects.sends) }
+    ensures kept { is_some lanes.new ≡ is_some lanes.old }
+    ensures follow { LanesFollow lanes.old (all_ends packets.old) → LanesFollow lanes.new (all_ends packets.new) }
 {
     let (mut outputs, mut sends) = effects.into_parts();
     give_outputs(node, &mut outputs, trace)?;
-    send_packets(node, &mut sends, packets)?;
+    send_packets(node, &mut sends, packets, lanes)?;
     Ok(Effects::from_parts(outputs, sends))
 }
 
@@ -137,12 +145,15 @@ pub fn publish<I: Drop, O: Drop, M: Drop>(
     effects: &mut Effects<O, M>,
     trace: &mut Trace<I, O>,
     packets: &mut Packets<M>,
+    lanes: &mut Option<Lanes>,
 ) -> Result<(), AllocError>
     ensures trace { OnOk result (trace.new ≡ trace.old ++ map (λ o. Item.Output node o) effects.old.outputs) }
     ensures packets { OnOk result (packets.new ≡ packets.old ++ map (held_sent node) effects.old.sends) }
+    ensures kept { is_some lanes.new ≡ is_some lanes.old }
+    ensures follow { LanesFollow lanes.old (all_ends packets.old) → LanesFollow lanes.new (all_ends packets.new) }
 {
     let gathered = mem::replace(effects, Effects::new(alloc));
-    *effects = release(node, gathered, trace, packets)?;
+    *effects = release(node, gathered, trace, packets, lanes)?;
     Ok(())
 }
 

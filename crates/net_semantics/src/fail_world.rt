@@ -1,4 +1,4 @@
-ghost use Rattle.std.specs.Prelude.{◌≡◌, ◌≢◌, ℕ, ◌+◌, ◌<◌, ◌≤◌, [], ◌++◌, length, true, false, IsTrue, IfOk, IfErr, OnOk, OnErr, MatchResult, Ok, Err};
+ghost use Rattle.std.specs.Prelude.{◌≡◌, ◌≢◌, ℕ, ◌+◌, ◌<◌, ◌≤◌, [], ◌++◌, length, true, false, IsTrue, IfOk, IfErr, OnOk, OnErr, MatchResult, Ok, Err, Some};
 ghost use Rattle.net_semantics.specs.Worlds.{first_world, copies, ends, held};
 ghost use Rattle.net_semantics.specs.Steps.{next, refusal_of, items_of, IsAnswer, acting, fails};
 ghost use Rattle.net_semantics.specs.ShownFail.{ForShownFail, IsSoundFailBy, ShowsFailBy};
@@ -7,16 +7,16 @@ ghost use Rattle.net_semantics.specs.TakingFail.{AnswersFailBy};
 ghost use Rattle.vst_base.specs.Nets.{has_kind, kind_of};
 ghost use Rattle.vst_base.specs.declared.step.TheConstants.{MAX_STEPS};
 
-use crate::refusals::{existing_node, input_node, or_memory};
+use crate::refusals::{existing_node, input_node};
 use crate::stopped::Stopped;
-use crate::{Trace, World};
+use crate::{StepFault, Trace, World};
 use handler_trait::{Handlers, Rebootable};
 use std::alloc::{AllocError, Global};
 use std::marker::Model;
 use vst_base::{Net, Node, Step, StepRefusal};
 
 /// A network on which packets are copied and lost, and nodes crash and reboot. It is one that copies
-/// packets, on which the nodes that are down take no step.
+/// and loses packets, on which the nodes that are down take no step.
 #[derive(Drop)]
 pub struct FailWorld<H: Rebootable> {
     alloc: Global,
@@ -26,7 +26,7 @@ pub struct FailWorld<H: Rebootable> {
 
 impl<H: Rebootable> Model for FailWorld<H> {
     ghost use Rattle.std.specs.Prelude.{◌≡◌};
-    ghost use Rattle.vst_base.specs.declared.net.Net.TheVariants.{Dup};
+    ghost use Rattle.vst_base.specs.declared.net.Net.TheVariants.{Loss};
     ghost use Rattle.net_semantics.specs.ShownFail.{FailView};
 
     ghost Value = { FailView H H.State H.Kept H.Input H.Output H.Msg };
@@ -40,7 +40,7 @@ impl<H: Rebootable> Model for FailWorld<H> {
       taken = f.world.taken;
     } };
 
-    ghost invariant = { λ f. f.world.net ≡ Dup };
+    ghost invariant = { λ f. f.world.net ≡ Loss };
 }
 
 impl<H: Rebootable> FailWorld<H> {
@@ -54,7 +54,7 @@ impl<H: Rebootable> FailWorld<H> {
         ensures sound { IfOk result (IsSoundFailBy H.Rebootable) }
     {
         let nodes = handlers.nodes();
-        let world = World::new(alloc, handlers, Net::Dup)?;
+        let world = World::new(alloc, handlers, Net::Loss)?;
         let stopped = Stopped::new(alloc, nodes)?;
         Ok(FailWorld {
             alloc,
@@ -65,12 +65,12 @@ impl<H: Rebootable> FailWorld<H> {
 
     /// Takes one step, or says why not: the first refusal that applies. A refused step changes nothing.
     /// After want of memory the world is given up.
-    pub fn step(&mut self, step: &Step<H::Input>) -> Result<(), StepRefusal>
+    pub fn step(&mut self, step: &Step<H::Input>) -> Result<(), StepFault>
         requires sound { IsSoundFailBy H.Rebootable self.old }
         requires steps { self.old.taken < MAX_STEPS }
         ensures refused { ForShownFail H.Rebootable self.old (λ w.
             IsAnswer result (refusal_of Net.Fail (H.meaning self.old.handlers) w step.now)) }
-        ensures unchanged { IfErr result (λ why. why ≢ StepRefusal.Memory → self.new ≡ self.old) }
+        ensures unchanged { IfErr result (λ why. why ≢ StepFault.Memory → self.new ≡ self.old) }
         ensures next { OnOk result (ForShownFail H.Rebootable self.old (λ w.
             ShowsFailBy H.Rebootable self.new (next (H.meaning self.old.handlers) (H.recovery self.old.handlers) w step.now))) }
         ensures trace { OnOk result (ForShownFail H.Rebootable self.old (λ w.
@@ -79,12 +79,12 @@ impl<H: Rebootable> FailWorld<H> {
         ensures taken { OnOk result (self.new.taken ≡ self.old.taken + 1) }
         ensures handlers { self.new.handlers ≡ self.old.handlers }
         ensures sound { OnOk result (IsSoundFailBy H.Rebootable self.new) }
-        ensures dup_takes_no_memory { (k : ℕ) → step.now ≡ Step.Dup k → result ≢ Err StepRefusal.Memory }
-        ensures lose_takes_no_memory { (k : ℕ) → step.now ≡ Step.Lose k → result ≢ Err StepRefusal.Memory }
+        ensures dup_takes_no_memory { (k : ℕ) → step.now ≡ Step.Dup k → result ≢ Err StepFault.Memory }
+        ensures lose_takes_no_memory { (k : ℕ) → step.now ≡ Step.Lose k → result ≢ Err StepFault.Memory }
     {
         match step {
-            Step::In(..) | Step::Deliver(_) | Step::Tick(_) | Step::Dup(_) => self.pass_on(step),
-            Step::Lose(k) => self.take_lose(*k),
+            Step::In(..) | Step::Deliver(_) | Step::Tick(_) | Step::Dup(_) | Step::Lose(_) =>
+                self.pass_on(step),
             Step::Crash(n) => self.take_crash(*n),
             Step::Reboot(n) => self.take_reboot(*n),
         }
@@ -191,12 +191,11 @@ impl<H: Rebootable> FailWorld<H> {
 
     // The node that acts in the step, if any, has to be up.
     fn acting_up(&self, step: &Step<H::Input>) -> Result<(), StepRefusal>
-        requires kind { IsTrue (has_kind Net.Dup (kind_of step.now)) }
+        requires kind { IsTrue (has_kind Net.Loss (kind_of step.now)) }
         ensures up { OnOk result (ForShownFail H.Rebootable self.now (λ w.
             fails (acting w step.now) w.is_up ≡ false)) }
-        ensures refused { OnErr result (ForShownFail H.Rebootable self.now (λ w.
-            IsAnswer result (refusal_of Net.Fail (H.meaning self.now.handlers) w step.now))) }
-        ensures no_memory { result ≢ Err StepRefusal.Memory }
+        ensures refused { IfErr result (λ why. ForShownFail H.Rebootable self.now (λ w.
+            refusal_of Net.Fail (H.meaning self.now.handlers) w step.now ≡ Some why)) }
     {
         match step {
             Step::In(n, _) => self.up(input_node(self.world.handlers(), *n)?),
@@ -205,36 +204,27 @@ impl<H: Rebootable> FailWorld<H> {
                 Some((_, destination)) => self.up(destination),
                 None => Ok(()),
             },
-            Step::Dup(_) => Ok(()),
-            Step::Lose(_) | Step::Crash(_) | Step::Reboot(_) => unreachable!(),
+            Step::Dup(_) | Step::Lose(_) => Ok(()),
+            Step::Crash(_) | Step::Reboot(_) => unreachable!(),
         }
     }
 
     // A step that a network has too on which no node is ever down: the world takes it that this one
     // stands on.
-    fn pass_on(&mut self, step: &Step<H::Input>) -> Result<(), StepRefusal>
+    fn pass_on(&mut self, step: &Step<H::Input>) -> Result<(), StepFault>
         requires sound { IsSoundFailBy H.Rebootable self.old }
         requires steps { self.old.taken < MAX_STEPS }
-        requires kind { IsTrue (has_kind Net.Dup (kind_of step.now)) }
+        requires kind { IsTrue (has_kind Net.Loss (kind_of step.now)) }
         ensures answers { AnswersFailBy H.Rebootable step.now self.old self.new result }
-        ensures dup_takes_no_memory { (k : ℕ) → step.now ≡ Step.Dup k → result ≢ Err StepRefusal.Memory }
+        ensures dup_takes_no_memory { (k : ℕ) → step.now ≡ Step.Dup k → result ≢ Err StepFault.Memory }
+        ensures lose_takes_no_memory { (k : ℕ) → step.now ≡ Step.Lose k → result ≢ Err StepFault.Memory }
     {
         self.acting_up(step)?;
         self.world.step(step)
     }
 
-    // A loss. It takes no memory.
-    fn take_lose(&mut self, k: u32) -> Result<(), StepRefusal>
-        requires sound { IsSoundFailBy H.Rebootable self.old }
-        requires steps { self.old.taken < MAX_STEPS }
-        ensures answers { AnswersFailBy H.Rebootable (Step.Lose k) self.old self.new result }
-        ensures no_memory { result ≢ Err StepRefusal.Memory }
-    {
-        self.world.lose(k)
-    }
-
     // A crash.
-    fn take_crash(&mut self, n: u32) -> Result<(), StepRefusal>
+    fn take_crash(&mut self, n: u32) -> Result<(), StepFault>
         requires sound { IsSoundFailBy H.Rebootable self.old }
         requires steps { self.old.taken < MAX_STEPS }
         ensures { AnswersFailBy H.Rebootable (Step.Crash n) self.old self.new result }
@@ -242,23 +232,23 @@ impl<H: Rebootable> FailWorld<H> {
         let node = existing_node(self.world.handlers(), n)?;
         self.up(node)?;
         let state = self.world.held_state(node);
-        let kept = or_memory(self.world.handlers().keep(self.alloc, state))?;
+        let kept = self.world.handlers().keep(self.alloc, state)?;
         self.stopped.stop(node, kept);
         self.world.count_step();
         Ok(())
     }
 
     // A reboot.
-    fn take_reboot(&mut self, n: u32) -> Result<(), StepRefusal>
+    fn take_reboot(&mut self, n: u32) -> Result<(), StepFault>
         requires sound { IsSoundFailBy H.Rebootable self.old }
         requires steps { self.old.taken < MAX_STEPS }
         ensures { AnswersFailBy H.Rebootable (Step.Reboot n) self.old self.new result }
     {
         let node = existing_node(self.world.handlers(), n)?;
         let Some(kept) = self.stopped.start(node) else {
-            return Err(StepRefusal::NodeUp);
+            return Err(StepFault::Refused(StepRefusal::NodeUp));
         };
-        let state = or_memory(self.world.handlers().reboot(self.alloc, node, kept))?;
+        let state = self.world.handlers().reboot(self.alloc, node, kept)?;
         self.world.restart(node, state);
         Ok(())
     }

@@ -5,6 +5,7 @@
 
 mod events;
 mod fail_world;
+mod fault;
 mod packets;
 mod pins;
 mod refusals;
@@ -13,9 +14,10 @@ mod trace;
 mod world;
 
 pub use fail_world::FailWorld;
+pub use fault::StepFault;
 pub use pins::{
-    contents_apart, kept_by_place, refusals_in_order, repeats_left_out, runs_and_traces,
-    steps_of_a_world,
+    contents_apart, kept_by_place, order_and_loss, refusals_in_order, repeats_left_out,
+    runs_and_traces, steps_of_a_world,
 };
 pub use trace::Trace;
 pub use vst_base::{Item, MAX_STEPS, Net, Node, Step, StepKind, StepRefusal};

@@ -1,7 +1,11 @@
-ghost use Rattle.std.specs.Prelude.{◌≡◌, ℕ, ◌+◌, ◌<◌, ◌^◌, [], ◌∷◌, ◌++◌, length, Some, IfOk, IfErr, OnOk, OnErr, slice_get};
+ghost use Rattle.std.specs.Prelude.{◌≡◌, ℕ, ◌+◌, ◌<◌, ◌^◌, List, [], ◌∷◌, ◌++◌, length, is_some, Some, IfOk, IfErr, OnOk, OnErr, MatchBool, slice_get};
+ghost use Rattle.std.specs.Prelude.{vec_capacity, vec_len};
 ghost use Rattle.net_semantics.specs.Worlds.{change_at};
+ghost use Rattle.lanes.specs.Lanes.{Follows};
+ghost use Rattle.net_semantics.specs.Order.{IsAhead, IsFirst, IsInOrder, LanesFollow, all_ends};
 ghost use Rattle.net_semantics.specs.Held.{held_sent, held_more, held_less, held_copies, held_ends, held_count};
 
+use lanes::Lanes;
 use slab::Slab;
 use std::alloc::{AllocError, Global};
 use std::marker::Model;
@@ -142,19 +146,64 @@ impl<M: Drop> Packets<M> {
         }
     }
 
-    /// Adds a packet with one copy in flight.
-    pub fn send(&mut self, source: Node, destination: Node, content: M) -> Result<(), AllocError>
+    /// Whether packet `k`, which was sent, is the first in flight on its lane. The lanes follow these packets, which are in order.
+    pub fn is_first(&self, lanes: &Lanes, k: usize) -> bool
+        requires follow { Follows lanes.now (all_ends self.now) }
+        requires in_order { IsInOrder self.now }
+        requires sent { k < length self.now }
+        ensures { MatchBool result (IsFirst self.now k) ((j : ℕ) × IsAhead self.now j k) }
+    {
+        match lanes.previous(k) {
+            Some(before) => self.items[before].copies == 0,
+            None => true,
+        }
+    }
+
+    /// Adds a packet with one copy in flight, and its ends to the lanes, where they are kept.
+    pub fn send(
+        &mut self,
+        lanes: &mut Option<Lanes>,
+        source: Node,
+        destination: Node,
+        content: M,
+    ) -> Result<(), AllocError>
         ensures sent { OnOk result (self.new ≡ self.old ++ held_sent source (destination, content) ∷ []) }
+        ensures kept { is_some lanes.new ≡ is_some lanes.old }
+        ensures follow { LanesFollow lanes.old (all_ends self.old) → LanesFollow lanes.new (all_ends self.new) }
     {
         self.contents.reserve(1)?;
+        self.items.reserve(1)?;
+        push_ends(lanes, source, destination)?;
         let place = self.contents.vacant_key();
-        self.items.push(Sent {
+        let sent = Sent {
             source,
             destination,
             copies: 1,
             place,
-        })?;
+        };
+        push_in_room(&mut self.items, sent);
         self.contents.insert_reserved(content);
         Ok(())
+    }
+}
+
+// Adds an item, for which there is room. It takes no memory.
+fn push_in_room<T: Drop>(items: &mut Vec<T>, item: T)
+    requires { vec_len items.old < vec_capacity items.old }
+    ensures { items.new.items ≡ items.old.items ++ item ∷ [] }
+{
+    items.push(item).unwrap();
+}
+
+// Adds a packet's ends to the lanes, where they are kept. After an `Err` nothing changed.
+fn push_ends(lanes: &mut Option<Lanes>, source: Node, destination: Node) -> Result<(), AllocError>
+    ensures kept { is_some lanes.new ≡ is_some lanes.old }
+    ensures ok { OnOk result ((es : List (ℕ × ℕ)) → LanesFollow lanes.old es
+        → LanesFollow lanes.new (es ++ (source, destination) ∷ [])) }
+    ensures err { OnErr result (lanes.new ≡ lanes.old) }
+{
+    match lanes {
+        Some(lanes) => lanes.push(source, destination),
+        None => Ok(()),
     }
 }

@@ -4,7 +4,8 @@ ghost use Rattle.net_semantics.specs.Runs.{trace, first_refused, machine, machin
 ghost use Rattle.net_semantics.specs.Once.{once};
 ghost use Rattle.net_semantics.specs.ShownFail.{kept_at};
 ghost use Rattle.net_semantics.specs.Kept.{IsKept, shown_all, shown_with};
-ghost use Rattle.net_semantics.specs.KeptExamples.{in_places, sent_with, shown_so};
+ghost use Rattle.net_semantics.specs.KeptExamples.{in_places, sent_with, shown_along, shown_so};
+ghost use Rattle.net_semantics.specs.Order.{IsAhead, IsFirst, IsInOrder};
 ghost use Rattle.handler_trait.specs.Echo.{echo, echo_recovery};
 ghost use Rattle.net_semantics.specs.Echo.{echo_after, echo_refuses, adder};
 
@@ -51,6 +52,45 @@ pub fn refusals_in_order()
     ensures delivered_once_of_two { echo_refuses Net.Dup (Step.In 1 5 ∷ Step.Dup 0 ∷ Step.Deliver 0 ∷ []) (Step.Deliver 0) ≡ None }
     ensures no_copy_to_copy { echo_refuses Net.Dup (Step.In 1 5 ∷ Step.Deliver 0 ∷ []) (Step.Dup 0) ≡ Some StepRefusal.NoCopy }
     ensures no_copy_to_lose { echo_refuses Net.Fail (Step.In 1 5 ∷ []) (Step.Lose 1) ≡ Some StepRefusal.NoCopy }
+{}
+
+/// Networks that keep the order of packets and that lose them, each at its border.
+pub fn order_and_loss()
+    ensures ord_has_tick { echo_refuses Net.Ord [] (Step.Tick 0) ≡ None }
+    ensures ord_has_no_dup { echo_refuses Net.Ord (Step.In 1 5 ∷ []) (Step.Dup 0) ≡ Some StepRefusal.NotThisNet }
+    ensures ord_has_no_lose { echo_refuses Net.Ord (Step.In 1 5 ∷ []) (Step.Lose 0) ≡ Some StepRefusal.NotThisNet }
+    ensures ord_has_no_crash { echo_refuses Net.Ord [] (Step.Crash 1) ≡ Some StepRefusal.NotThisNet }
+
+    ensures first { echo_refuses Net.Ord (Step.In 1 5 ∷ Step.In 1 6 ∷ []) (Step.Deliver 0) ≡ None }
+    ensures not_first { echo_refuses Net.Ord (Step.In 1 5 ∷ Step.In 1 6 ∷ []) (Step.Deliver 1) ≡ Some StepRefusal.NotFirst }
+    ensures first_once_that_is_gone { echo_refuses Net.Ord (Step.In 1 5 ∷ Step.In 1 6 ∷ Step.Deliver 0 ∷ []) (Step.Deliver 1) ≡ None }
+    ensures behind_the_second { echo_refuses Net.Ord (Step.In 1 5 ∷ Step.In 1 6 ∷ Step.In 1 7 ∷ Step.Deliver 0 ∷ []) (Step.Deliver 2)
+        ≡ Some StepRefusal.NotFirst }
+    ensures behind_the_first_alone { echo_refuses Net.Ord (Step.In 1 5 ∷ Step.In 1 6 ∷ Step.In 1 7 ∷ Step.Deliver 1 ∷ []) (Step.Deliver 2)
+        ≡ Some StepRefusal.NotFirst }
+    ensures gone_before_not_first { echo_refuses Net.Ord (Step.In 1 5 ∷ Step.In 1 6 ∷ Step.Deliver 1 ∷ []) (Step.Deliver 1)
+        ≡ Some StepRefusal.NoCopy }
+    ensures to_another_node { echo_refuses Net.Ord (Step.In 1 5 ∷ Step.Tick 1 ∷ []) (Step.Deliver 1) ≡ None }
+    ensures from_another_node { echo_refuses Net.Ord (Step.Tick 0 ∷ Step.In 1 5 ∷ []) (Step.Deliver 1) ≡ None }
+    ensures never_sent { echo_refuses Net.Ord (Step.In 1 5 ∷ []) (Step.Deliver 1) ≡ Some StepRefusal.NoCopy }
+    ensures bag_keeps_no_order { echo_refuses Net.Bag (Step.In 1 5 ∷ Step.In 1 6 ∷ []) (Step.Deliver 1) ≡ None }
+    ensures loss_keeps_no_order { echo_refuses Net.Loss (Step.In 1 5 ∷ Step.In 1 6 ∷ []) (Step.Deliver 1) ≡ None }
+
+    ensures loss_has_dup { echo_refuses Net.Loss (Step.In 1 5 ∷ []) (Step.Dup 0) ≡ None }
+    ensures loss_has_lose { echo_refuses Net.Loss (Step.In 1 5 ∷ []) (Step.Lose 0) ≡ None }
+    ensures loss_has_no_crash { echo_refuses Net.Loss [] (Step.Crash 1) ≡ Some StepRefusal.NotThisNet }
+    ensures loss_has_no_reboot { echo_refuses Net.Loss (Step.Crash 1 ∷ []) (Step.Reboot 1) ≡ Some StepRefusal.NotThisNet }
+    ensures lost { echo_refuses Net.Loss (Step.In 1 5 ∷ Step.Lose 0 ∷ []) (Step.Lose 0) ≡ Some StepRefusal.NoCopy }
+
+    ensures ahead { IsAhead (shown_so 1 (Some 7) ∷ shown_so 1 (Some 9) ∷ []) 0 1 }
+    ensures not_ahead_of_itself { ¬ IsAhead (shown_so 1 (Some 7) ∷ []) 0 0 }
+    ensures not_from_another { ¬ IsAhead (shown_along 1 0 1 ∷ shown_along 2 0 1 ∷ []) 0 1 }
+    ensures not_to_another { ¬ IsAhead (shown_along 1 0 1 ∷ shown_along 1 2 1 ∷ []) 0 1 }
+    ensures not_on_the_way_back { ¬ IsAhead (shown_along 1 0 1 ∷ shown_along 0 1 1 ∷ []) 0 1 }
+    ensures none_ahead { IsFirst (shown_so 0 None ∷ shown_so 1 (Some 9) ∷ []) 1 }
+    ensures one_ahead { ¬ IsFirst (shown_so 1 (Some 7) ∷ shown_so 1 (Some 9) ∷ []) 1 }
+    ensures in_order { IsInOrder (shown_so 0 None ∷ shown_so 1 (Some 9) ∷ []) }
+    ensures out_of_order { ¬ IsInOrder (shown_so 1 (Some 7) ∷ shown_so 0 None ∷ []) }
 {}
 
 /// What each kind of step makes of a world of two nodes.

@@ -1,7 +1,6 @@
-ghost use Rattle.std.specs.Prelude.{◌≡◌, nat_lt, MatchResult, Ok, Err, if◌then◌else◌};
+ghost use Rattle.std.specs.Prelude.{◌≡◌, nat_lt, Ok, Err, if◌then◌else◌};
 
 use handler_trait::Handlers;
-use std::alloc::AllocError;
 use vst_base::{Node, StepRefusal};
 
 /// Node `n`, which has to exist.
@@ -28,14 +27,4 @@ pub fn input_node<H: Handlers>(handlers: &H, n: u32) -> Result<Node, StepRefusal
         return Err(StepRefusal::NoInputHere);
     }
     Ok(node)
-}
-
-/// Want of memory as a refusal.
-pub fn or_memory<T>(outcome: Result<T, AllocError>) -> Result<T, StepRefusal>
-    ensures { MatchResult outcome (λ x. result ≡ Ok x) (λ _. result ≡ Err StepRefusal.Memory) }
-{
-    match outcome {
-        Ok(value) => Ok(value),
-        Err(AllocError) => Err(StepRefusal::Memory),
-    }
 }

@@ -1,7 +1,7 @@
 ghost use Rattle.std.specs.Prelude.{◌≡◌, ◌+◌, ◌<◌, ◌≤◌, IfOk, OnOk};
 ghost use Rattle.handler_trait.specs.declared.handlers.TheConstants.{STEP_COST, SPENT_MAX};
 
-use handler_trait::{Echo, Effects, Handlers, MAX_SENDS, Rebootable};
+use handler_trait::{Echo, Effects, Handlers, Rebootable};
 use std::alloc::{AllocError, Global};
 use std::test::Fail;
 use vst_base::Node;
@@ -29,7 +29,7 @@ fn add_input<H: Handlers>(
     if !handlers.takes_input(node) {
         return Ok(());
     }
-    effects.reserve(0, MAX_SENDS)?;
+    effects.reserve(0, H::SENDS)?;
     let same = handlers.copy_input(alloc, input)?;
     handlers.input(alloc, node, state, &same, effects)
 }
@@ -47,9 +47,9 @@ fn first_events<H: Handlers>(
     let mut state = handlers.init(alloc, node)?;
     let mut effects = Effects::new(alloc);
     add_input(alloc, handlers, node, &mut state, input, &mut effects)?;
-    effects.reserve(1, MAX_SENDS)?;
+    effects.reserve(1, H::SENDS)?;
     handlers.message(alloc, node, &mut state, node, message, &mut effects)?;
-    effects.reserve(0, MAX_SENDS)?;
+    effects.reserve(0, H::SENDS)?;
     handlers.timeout(alloc, node, &mut state, &mut effects)?;
     Ok((state, effects))
 }
@@ -60,8 +60,8 @@ type Taken = (Option<u8>, Option<(Node, u8)>);
 fn last_and_first(effects: Effects<u8, u8>) -> (Taken, Taken) {
     let (mut outputs, mut sends) = effects.into_parts();
     let last = (outputs.pop(), sends.pop());
-    let mut left = Effects::from_parts(outputs, sends);
-    (last, (left.next_output(), left.next_send()))
+    let (outputs, sends) = Effects::from_parts(outputs, sends).into_parts();
+    (last, (outputs.first().copied(), sends.first().copied()))
 }
 
 #[test]

@@ -2,7 +2,7 @@ ghost use Rattle.std.specs.Prelude.{◌≡◌, ◌<◌, length, IfOk};
 ghost use Rattle.net_semantics.specs.ShownFail.{IsSoundFailBy};
 
 use handler_trait::{Echo, Handlers, Rebootable};
-use net_semantics::{FailWorld, MAX_STEPS, Node, Step, StepRefusal};
+use net_semantics::{FailWorld, MAX_STEPS, Node, Step, StepFault, StepRefusal};
 use std::alloc::Global;
 use std::test::Fail;
 
@@ -11,20 +11,20 @@ fn after<H: Rebootable>(
     alloc: Global,
     handlers: H,
     steps: &[Step<H::Input>],
-) -> Result<(FailWorld<H>, Vec<u32>), StepRefusal>
+) -> Result<(FailWorld<H>, Vec<u32>), StepFault>
     requires { length steps.now < MAX_STEPS }
     ensures handlers { IfOk result (λ r. r.0.handlers ≡ handlers) }
     ensures taken { IfOk result (λ r. r.0.taken ≡ length steps.now) }
     ensures sound { IfOk result (λ r. IsSoundFailBy H.Rebootable r.0) }
 {
     let Ok(mut world) = FailWorld::new(alloc, handlers) else {
-        return Err(StepRefusal::Memory);
+        return Err(StepFault::Memory);
     };
     let mut held = Vec::new(alloc);
     for step in steps {
         world.step(step)?;
         if held.push(world.held()).is_err() {
-            return Err(StepRefusal::Memory);
+            return Err(StepFault::Memory);
         }
     }
     Ok((world, held))
@@ -70,7 +70,7 @@ fn a_world_takes_steps_around_a_reboot(rt: HostRuntime) -> Result<(), Fail> {
     assert!(rt; world.is_up(first) && !world.is_up(second));
     assert!(rt; *world.state(first) == 105);
     assert!(rt; counts(&world) == (2, 0, true, 8, 4));
-    assert!(rt; world.step(&Step::Tick(1)) == Err(StepRefusal::NodeDown));
+    assert!(rt; world.step(&Step::Tick(1)) == Err(StepFault::Refused(StepRefusal::NodeDown)));
     assert!(rt; once_forgotten(world) == (3, 0));
     Ok(())
 }

@@ -2,7 +2,7 @@ ghost use Rattle.std.specs.Prelude.{◌<◌, length};
 
 use crate::net_semantics_tests::after;
 use lock_server::LockServer;
-use net_semantics::{MAX_STEPS, Net, Node, Step, StepRefusal};
+use net_semantics::{MAX_STEPS, Net, Node, Step, StepFault};
 use seqnum_xform::SeqNum;
 use std::alloc::Global;
 use std::test::Fail;
@@ -14,7 +14,7 @@ fn tells(
     steps: &[Step<LockInput>],
     mark: u64,
     above: &[u64],
-) -> Result<bool, StepRefusal>
+) -> Result<bool, StepFault>
     requires few { length steps.now < MAX_STEPS }
 {
     let numbered = SeqNum::new(LockServer::new(3));

@@ -18,7 +18,7 @@ one-next (Some c) = omega arith
 
 module _ {S C O : Type 0} where
   abbrev pub IsModestHere : Backed S C → BackupEffect S C O → Type 0
-  IsModestHere s e = IsModest 2 (λ _. Unit {0}) (λ _. 0) s e
+  IsModestHere s e = IsModest 2 1 (λ _. Unit {0}) (λ _. 0) s e
 
   modest-stays : (s : Backed S C) → IsModestHere s (stays s)
   modest-stays s = record { few = omega arith; to_nodes = tt; cheap = omega arith; few_outputs = λ after. omega arith }

@@ -40,11 +40,17 @@ impl<M: Machine> Handlers for PrimaryBackup<M> {
 
     type Msg = PbMsg<M::Cmd>;
 
+    ghost use Rattle.std.proofs.Common.{arith};
+
     ghost meaning = { λ p. primary_backup (M.meaning p) };
 
     ghost sound = { λ _ _ _. Unit {0} };
 
     ghost spent = { λ _ _. 0 };
+
+    const SENDS: usize = 1;
+
+    ghost SENDS = { 1 };
 
     fn nodes(&self) -> u8 {
         2
@@ -56,6 +62,17 @@ impl<M: Machine> Handlers for PrimaryBackup<M> {
 
     fn copy_input(&self, alloc: Global, input: &M::Cmd) -> Result<M::Cmd, AllocError> {
         self.machine.copy_cmd(alloc, input)
+    }
+
+    fn copy_msg(
+        &self,
+        alloc: Global,
+        message: &PbMsg<M::Cmd>,
+    ) -> Result<PbMsg<M::Cmd>, AllocError> {
+        match message {
+            PbMsg::Apply(cmd) => Ok(PbMsg::Apply(self.machine.copy_cmd(alloc, cmd)?)),
+            PbMsg::Ack => Ok(PbMsg::Ack),
+        }
     }
 
     fn init(&self, alloc: Global, _node: Node) -> Result<PbState<M::State, M::Cmd>, AllocError> {
@@ -108,6 +125,8 @@ impl<M: Machine> Handlers for PrimaryBackup<M> {
     ) -> Result<(), AllocError> {
         Ok(())
     }
+
+    ghost few_sends = { omega arith };
 
     ghost fresh = { λ p n below. refl };
 

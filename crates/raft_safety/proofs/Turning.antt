@@ -54,9 +54,9 @@ pub record Turn {S C O : Type 0} (m : MachineMeaning S C O) (n : ℕ) (w : RaftW
   pub sound : IsSoundNode n e.node e.effect.state
   pub good : AreGood n e.node e.effect.sends
 
--- where none of the refusals applies
+-- where none of the refusals applies, on a network that keeps no order
 none_applies : (a b c d e f : Bool) →
-    first_of ((refusal.NotThisNet, a) ∷ (refusal.NoSuchNode, b) ∷ (refusal.NoInputHere, c) ∷ (refusal.NodeDown, d) ∷ (refusal.NodeUp, e) ∷ (refusal.NoCopy, f) ∷ []) ≡ None →
+    first_of ((refusal.NotThisNet, a) ∷ (refusal.NoSuchNode, b) ∷ (refusal.NoInputHere, c) ∷ (refusal.NodeDown, d) ∷ (refusal.NodeUp, e) ∷ (refusal.NoCopy, f) ∷ (refusal.NotFirst, false) ∷ []) ≡ None →
     (b ≡ false) × (d ≡ false) × (e ≡ false)
 none_applies true b c d e f h = absurd (cc (h))
 none_applies false true c d e f h = absurd (cc (h))

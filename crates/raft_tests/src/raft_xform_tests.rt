@@ -131,10 +131,10 @@ fn a_new_leader_whose_log_is_full_adds_nothing(rt: HostRuntime) -> Result<(), Fa
 fn a_leader_whose_log_is_full_says_so(rt: HostRuntime) -> Result<(), Fail> {
     let (client, request) = (ClientId::new(7), ReqId::new(1));
     let kept = Kept::new(1, None, full_log(rt.alloc())?);
-    let (state, mut effects) = elected_and_asked(rt.alloc(), kept, 2)?;
+    let (state, effects) = elected_and_asked(rt.alloc(), kept, 2)?;
+    let (outputs, sends) = effects.into_parts();
     assert!(rt; is_full(&log_terms(rt.alloc(), &state)?));
-    assert!(rt; effects.next_output() == Some(RaftOut::Full { client, request }));
-    assert!(rt; effects.next_output().is_none());
-    assert!(rt; effects.next_send().is_none());
+    assert!(rt; outputs.as_slice() == [RaftOut::Full { client, request }].as_slice());
+    assert!(rt; sends.is_empty());
     Ok(())
 }

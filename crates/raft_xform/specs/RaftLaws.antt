@@ -168,7 +168,7 @@ module _ {S C O : Type 0} where
       few_either (is_leader s.role && a.term == s.ballot.term) (few_moved nodes m me (known s from a) from (moved_by s from a) below) (few_nothing nodes s)
 
   abbrev pub IsModestHere : ℕ → ℕ → RaftView S C O → RaftEffect S C O → Type 0
-  IsModestHere nodes n s e = IsModest nodes (IsSoundNode nodes n) (λ _. 0) s e
+  IsModestHere nodes n s e = IsModest nodes 8 (IsSoundNode nodes n) (λ _. 0) s e
 
   modest : (nodes n : ℕ) (s : RaftView S C O) (e : RaftEffect S C O) → DoesLittle nodes e → IsModestHere nodes n s e
   modest nodes n s e f = record { few = f.sends.few; to_nodes = f.sends.to_nodes; cheap = omega arith; few_outputs = λ after. omega (arith, f.told, after.short) }

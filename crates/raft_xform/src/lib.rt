@@ -3,6 +3,7 @@
 #![tactic(auto)]
 
 mod applying;
+mod copying;
 mod electing;
 mod examples;
 mod leading;

@@ -5,6 +5,7 @@ ghost use Rattle.raft_xform.specs.Raft.{raft, raft_recovery};
 ghost use Rattle.raft_xform.specs.RaftLaws as laws;
 ghost use Rattle.raft_xform.specs.Sound.{IsSoundNode};
 
+use crate::copying::copy_message;
 use crate::electing::{hear, on_request, on_vote, tick};
 use crate::replicating::{on_append, on_appended, on_input};
 use crate::seat::Seat;
@@ -122,11 +123,18 @@ impl<M: Machine> Handlers for Raft<M> {
 
     type Msg = RaftMsg<M::Cmd>;
 
+    ghost use Rattle.std.proofs.Common.{arith};
+
     ghost meaning = { λ r. raft r.nodes (M.meaning r.machine) };
 
     ghost sound = { λ r n s. IsSoundNode r.nodes n s };
 
     ghost spent = { λ _ _. 0 };
+
+    // One to each other node of the greatest cluster.
+    const SENDS: usize = 8;
+
+    ghost SENDS = { 8 };
 
     fn nodes(&self) -> u8 {
         self.nodes
@@ -146,6 +154,14 @@ impl<M: Machine> Handlers for Raft<M> {
             request: input.request,
             cmd: self.machine.copy_cmd(alloc, &input.cmd)?,
         })
+    }
+
+    fn copy_msg(
+        &self,
+        alloc: Global,
+        message: &RaftMsg<M::Cmd>,
+    ) -> Result<RaftMsg<M::Cmd>, AllocError> {
+        copy_message(alloc, &self.machine, message)
     }
 
     fn init(
@@ -204,6 +220,8 @@ impl<M: Machine> Handlers for Raft<M> {
     ) -> Result<(), AllocError> {
         tick(alloc, &self.machine, self.seat(node), state, effects)
     }
+
+    ghost few_sends = { omega arith };
 
     ghost fresh = { λ r n below. refl };
 

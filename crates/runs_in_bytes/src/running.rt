@@ -1,4 +1,5 @@
-ghost use Rattle.std.specs.Prelude.{◌≡◌, ◌≢◌, ◌≤◌, [], IfOk};
+ghost use Rattle.std.specs.Prelude.{◌≡◌, ◌≤◌, [], IfOk, IsTrue};
+ghost use Rattle.vst_base.specs.Nets.{stops_no_node};
 ghost use Rattle.vst_base.specs.declared.node.TheConstants.{MAX_NODES};
 ghost use Rattle.vst_base.specs.declared.step.Step.{Step as SpecStep};
 ghost use Rattle.wired.specs.StackRuns.{IsInputStep};
@@ -57,7 +58,7 @@ impl<H: OnWire, T: TraceMap<H>> RunningInBytes<H, T> {
     /// No step yet of these handlers, of at most `MAX_NODES` nodes, on a network that stops no node. Where a network has inputs alone
     /// there is one node.
     pub fn new(alloc: Global, handlers: H, net: Net) -> Result<Self, AllocError>
-        requires net { net ≢ Net.Fail }
+        requires net { IsTrue (stops_no_node net) }
         requires alone { net ≡ Net.One → (H.meaning handlers).nodes ≡ 1 }
         requires few_nodes { (H.meaning handlers).nodes ≤ MAX_NODES }
         ensures handlers { IfOk result (λ running. running.world.handlers.inner ≡ handlers) }

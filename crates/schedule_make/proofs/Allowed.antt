@@ -10,7 +10,7 @@ use Rattle.net_semantics.specs.Steps.{refusal_of, fails, destination_of, next, a
 use Rattle.net_semantics.specs.Worlds.{World, Packet, copies_of, ends_of, change_at, one_less, first_world}
 use Rattle.rand_pcg.specs.Lcg.{Lcg}
 use Rattle.vst_base.specs.Firsts.{first_of}
-use Rattle.vst_base.specs.Nets.{has_kind}
+use Rattle.vst_base.specs.Nets.{has_kind, keeps_order}
 use Rattle.vst_base.specs.declared.net.Net.{Net}
 use Rattle.vst_base.specs.declared.net.Net.TheVariants as net
 use Rattle.vst_base.specs.declared.step.StepKind.{StepKind}
@@ -23,15 +23,16 @@ use Rattle.schedule_make.specs.Made.{Inputs, after_words, made_from, made_step, 
 use Rattle.schedule_make.proofs.Chosen.{IsNode, IsOne, node-at, one-at}
 
 -- no refusal applies
-none-applies : (a b c d e f : Bool) → a ≡ false → b ≡ false → c ≡ false → d ≡ false → e ≡ false → f ≡ false
-    → first_of ((refusal.NotThisNet, a) ∷ (refusal.NoSuchNode, b) ∷ (refusal.NoInputHere, c) ∷ (refusal.NodeDown, d) ∷ (refusal.NodeUp, e) ∷ (refusal.NoCopy, f) ∷ []) ≡ None
-none-applies false false false false false false ha hb hc hd he hf = refl
-none-applies true b c d e f ha hb hc hd he hf = cc
-none-applies false true c d e f ha hb hc hd he hf = cc
-none-applies false false true d e f ha hb hc hd he hf = cc
-none-applies false false false true e f ha hb hc hd he hf = cc
-none-applies false false false false true f ha hb hc hd he hf = cc
-none-applies false false false false false true ha hb hc hd he hf = cc
+none-applies : (a b c d e f g : Bool) → a ≡ false → b ≡ false → c ≡ false → d ≡ false → e ≡ false → f ≡ false → g ≡ false
+    → first_of ((refusal.NotThisNet, a) ∷ (refusal.NoSuchNode, b) ∷ (refusal.NoInputHere, c) ∷ (refusal.NodeDown, d) ∷ (refusal.NodeUp, e) ∷ (refusal.NoCopy, f) ∷ (refusal.NotFirst, g) ∷ []) ≡ None
+none-applies false false false false false false false ha hb hc hd he hf hg = refl
+none-applies true b c d e f g ha hb hc hd he hf hg = cc
+none-applies false true c d e f g ha hb hc hd he hf hg = cc
+none-applies false false true d e f g ha hb hc hd he hf hg = cc
+none-applies false false false true e f g ha hb hc hd he hf hg = cc
+none-applies false false false false true f g ha hb hc hd he hf hg = cc
+none-applies false false false false false true g ha hb hc hd he hf hg = cc
+none-applies false false false false false false true ha hb hc hd he hf hg = cc
 
 and_first : (a b : Bool) → (a && b) ≡ true → a ≡ true
 and_first true b h = refl
@@ -44,17 +45,29 @@ and_rest false b h = cc
 passes : (b : Bool) → b ≡ true → not b ≡ false
 passes b h = ap not h
 
-crashes-where-it-reboots : (n : Net) → has_kind n kind.Crash ≡ has_kind n kind.Reboot
-crashes-where-it-reboots net.One = refl
-crashes-where-it-reboots net.Bag = refl
-crashes-where-it-reboots net.Dup = refl
-crashes-where-it-reboots net.Fail = refl
+-- no refusal of the order of packets, where they come in any
+unordered : (a b : Bool) → a ≡ false → (a && b) ≡ false
+unordered false b h = refl
+unordered true b h = cc
+
+-- where nodes crash they reboot
+reboots-where-it-crashes : (n : Net) → has_kind n kind.Crash ≡ true → has_kind n kind.Reboot ≡ true
+reboots-where-it-crashes net.One h = cc
+reboots-where-it-crashes net.Bag h = cc
+reboots-where-it-crashes net.Dup h = cc
+reboots-where-it-crashes net.Fail h = refl
+reboots-where-it-crashes net.Ord h = cc
+reboots-where-it-crashes net.Loss h = cc
+reboots-where-it-crashes net.Acts h = cc
 
 ticks-on : (n : Net) → n ≢ net.One → has_kind n kind.Tick ≡ true
 ticks-on net.One h = absurd (h refl)
 ticks-on net.Bag h = refl
 ticks-on net.Dup h = refl
 ticks-on net.Fail h = refl
+ticks-on net.Ord h = refl
+ticks-on net.Loss h = refl
+ticks-on net.Acts h = refl
 
 first-in : (p : ℕ → Bool) (n : ℕ) → 0 < n → p 0 ≡ true → nat_lt 0 (length (filter p (range_with_len 0 n))) ≡ true
 first-in p zero h e = absurd (omega (arith, h))
@@ -85,44 +98,44 @@ module _ {S K I O M : Type 0} (n : Net) (m : Meaning S I O M) (w : World S K M) 
   some : (k : StepKind) → has_step n m w k ≡ true → nat_lt 0 (length (candidates m w k)) ≡ true
   some k h = and_rest (has_kind n k) (nat_lt 0 (length (candidates m w k))) h
 
-  -- a step of a kind that has one, at any of its candidates
-  pub kind-allowed : (k : StepKind) (input : I) (number : ℕ) → has_step n m w k ≡ true
+  -- a step of a kind that has one, at any of its candidates, where packets come in any order
+  pub kind-allowed : keeps_order n ≡ false → (k : StepKind) (input : I) (number : ℕ) → has_step n m w k ≡ true
       → refusal_of n m w (step_of input k (chosen (candidates m w k) number)) ≡ None
-  kind-allowed kind.In input number h =
+  kind-allowed free kind.In input number h =
       let p : ℕ → Bool = λ k. m.takes_input k && w.is_up k in
       let c = node p number (some kind.In h) in
       let at = chosen (nodes_that m p) number in
-      none-applies _ _ _ _ _ _ (has kind.In h) (exists p at c)
-      (passes (m.takes_input at) (and_first (m.takes_input at) (w.is_up at) c.passes)) (passes (w.is_up at) (and_rest (m.takes_input at) (w.is_up at) c.passes)) refl refl
-  kind-allowed kind.Tick input number h =
+      none-applies _ _ _ _ _ _ _ (has kind.In h) (exists p at c)
+      (passes (m.takes_input at) (and_first (m.takes_input at) (w.is_up at) c.passes)) (passes (w.is_up at) (and_rest (m.takes_input at) (w.is_up at) c.passes)) refl refl (unordered _ _ free)
+  kind-allowed free kind.Tick input number h =
       let c = node w.is_up number (some kind.Tick h) in
       let at = chosen (nodes_that m w.is_up) number in
-      none-applies _ _ _ _ _ _ (has kind.Tick h) (exists w.is_up at c) refl (passes (w.is_up at) c.passes) refl refl
-  kind-allowed kind.Crash input number h =
+      none-applies _ _ _ _ _ _ _ (has kind.Tick h) (exists w.is_up at c) refl (passes (w.is_up at) c.passes) refl refl (unordered _ _ free)
+  kind-allowed free kind.Crash input number h =
       let c = node w.is_up number (some kind.Crash h) in
       let at = chosen (nodes_that m w.is_up) number in
-      none-applies _ _ _ _ _ _ (has kind.Crash h) (exists w.is_up at c) refl (passes (w.is_up at) c.passes) refl refl
-  kind-allowed kind.Reboot input number h =
+      none-applies _ _ _ _ _ _ _ (has kind.Crash h) (exists w.is_up at c) refl (passes (w.is_up at) c.passes) refl refl (unordered _ _ free)
+  kind-allowed free kind.Reboot input number h =
       let p : ℕ → Bool = λ k. not (w.is_up k) in
       let c = node p number (some kind.Reboot h) in
       let at = chosen (nodes_that m p) number in
-      none-applies _ _ _ _ _ _ (has kind.Reboot h) (exists p at c) refl refl (passes (not (w.is_up at)) c.passes) refl
-  kind-allowed kind.Dup input number h =
+      none-applies _ _ _ _ _ _ _ (has kind.Reboot h) (exists p at c) refl refl (passes (not (w.is_up at)) c.passes) refl (unordered _ _ free)
+  kind-allowed free kind.Dup input number h =
       let c = one is_in_flight number (some kind.Dup h) in
       let at = chosen (numbers_of is_in_flight 0 w.packets) number in
-      none-applies _ _ _ _ _ _ (has kind.Dup h) refl refl refl refl (has-copy is_in_flight at c c.passes)
-  kind-allowed kind.Lose input number h =
+      none-applies _ _ _ _ _ _ _ (has kind.Dup h) refl refl refl refl (has-copy is_in_flight at c c.passes) (unordered _ _ free)
+  kind-allowed free kind.Lose input number h =
       let c = one is_in_flight number (some kind.Lose h) in
       let at = chosen (numbers_of is_in_flight 0 w.packets) number in
-      none-applies _ _ _ _ _ _ (has kind.Lose h) refl refl refl refl (has-copy is_in_flight at c c.passes)
-  kind-allowed kind.Deliver input number h =
+      none-applies _ _ _ _ _ _ _ (has kind.Lose h) refl refl refl refl (has-copy is_in_flight at c c.passes) (unordered _ _ free)
+  kind-allowed free kind.Deliver input number h =
       let p : Packet M → Bool = λ q. is_in_flight q && w.is_up q.destination in
       let c = one p number (some kind.Deliver h) in
       let at = chosen (numbers_of p 0 w.packets) number in
       let up = passes (w.is_up c.item.destination) (and_rest (is_in_flight c.item) (w.is_up c.item.destination) c.passes) in
-      none-applies _ _ _ _ _ _ (has kind.Deliver h) refl refl
+      none-applies _ _ _ _ _ _ _ (has kind.Deliver h) refl refl
       (ap (λ o. fails (destination_of (ends_of o)) w.is_up) (found p at c) ∙ up) refl
-      (has-copy p at c (and_first (is_in_flight c.item) (w.is_up c.item.destination) c.passes))
+      (has-copy p at c (and_first (is_in_flight c.item) (w.is_up c.item.destination) c.passes)) (unordered _ _ free)
 
   ticks : n ≢ net.One → has_kind n kind.Tick ≡ true
   ticks = ticks-on n
@@ -159,7 +172,7 @@ module _ {S K I O M : Type 0} (n : Net) (m : Meaning S I O M) (w : World S K M) 
   -- the step that is made is allowed
   pub made-allowed : (inputs : Inputs I) (place : ℕ) (words : Words) → HasSteps n m w → refusal_of n m w (made_step n m inputs w place words) ≡ None
   made-allowed inputs place words h =
-      kind-allowed (made_kind n m w (drawn_kind words.kind)) (inputs words.input place) words.number (makes (drawn_kind words.kind) h)
+      kind-allowed h.any_order (made_kind n m w (drawn_kind words.kind)) (inputs words.input place) words.number (makes (drawn_kind words.kind) h)
 
   up-after-delivery : (v : World S K M) (o : Option (Packet M)) (j : ℕ) → (after_event v (delivery m w o)).is_up j ≡ v.is_up j
   up-after-delivery v None j = refl
@@ -174,7 +187,7 @@ module _ {S K I O M : Type 0} (n : Net) (m : Meaning S I O M) (w : World S K M) 
   still-up r kind.Dup input c h none j = refl
   still-up r kind.Lose input c h none j = refl
   still-up r kind.Reboot input c h none j = cc
-  still-up r kind.Crash input c h none j = cc (crashes-where-it-reboots n)
+  still-up r kind.Crash input c h none j = cc (reboots-where-it-crashes n h)
 
   -- a step that is made leaves steps to be made
   pub made-keeps : (r : Recovery S K) (inputs : Inputs I) (place : ℕ) (words : Words) → HasSteps n m w → HasSteps n m (next m r w (made_step n m inputs w place words))
@@ -184,6 +197,7 @@ module _ {S K I O M : Type 0} (n : Net) (m : Meaning S I O M) (w : World S K M) 
       record {
         ticks = h.ticks;
         some = h.some;
+        any_order = h.any_order;
         up = λ none j inside. still-up r k (inputs words.input place) (chosen (candidates m w k) words.number) has none j ∙ h.up none j inside;
       }
 
@@ -199,8 +213,8 @@ module _ {S K I O M : Type 0} (n : Net) (m : Meaning S I O M) (r : Recovery S K)
       ∙ ap (λ o. place_and_why None o) later
 
   -- at first each node is up
-  pub first-has-steps : n ≢ net.One → 0 < m.nodes → HasSteps n m (first_world {K = K} m)
-  first-has-steps ticks some = record { ticks = ticks; some = some; up = λ none k inside. refl }
+  pub first-has-steps : n ≢ net.One → keeps_order n ≡ false → 0 < m.nodes → HasSteps n m (first_world {K = K} m)
+  first-has-steps ticks free some = record { ticks = ticks; some = some; any_order = free; up = λ none k inside. refl }
 
   pub as-many : (w : World S K M) (place : ℕ) (g : Lcg) (steps : ℕ) → length (made_from n m r inputs w place g steps) ≡ steps
   as-many w place g zero = refl

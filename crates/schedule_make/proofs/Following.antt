@@ -1,6 +1,6 @@
 -- What a step does to the packets in flight, and that what is seen of it is what it does.
 use Rattle.std.proofs.Common.{◌≡◌, ℕ, zero, suc, ◌+◌, ◌-◌, ◌<◌, ◌≤◌, Bool, true, false, not, List, [], ◌∷◌, ◌++◌, length, get_or, Option, Some, None, refl, sym, ap, ◌∙◌, arith, inl, inr}
-use Rattle.std.specs.Prelude.{◌==◌, nat_lt, if◌then◌else◌, is_none, slice_get, slice_set, take}
+use Rattle.std.specs.Prelude.{◌&&◌, ◌==◌, nat_lt, if◌then◌else◌, is_none, slice_get, slice_set, take}
 use Rattle.std.proofs.lemmas.Bool.{and_from, and_parts, cases_eq, eq-eqb, lt-ltb, ltb-true, ne_eqb}
 use Rattle.std.proofs.lemmas.Grind.{get_or-set_at}
 use Rattle.std.proofs.lemmas.List.{get_or-set_other, length-set}
@@ -10,7 +10,7 @@ use Rattle.flight_index.specs.Flights.{Flights, is_within}
 use Rattle.net_semantics.specs.Steps.{Event, after_event, after_network, crashed, event_of, fails, next, node_of, packet_of, refusal_of, rebooted, with_packets}
 use Rattle.net_semantics.specs.Worlds.{Packet, World, change_at, copies, copies_of, ends_of, one_less, one_more, put, sent_by}
 use Rattle.vst_base.specs.Firsts.{first_of}
-use Rattle.vst_base.specs.Nets.{has_kind}
+use Rattle.vst_base.specs.Nets.{has_kind, keeps_order}
 use Rattle.vst_base.specs.declared.step.StepKind.TheVariants as kind
 use Rattle.vst_base.specs.declared.net.Net.{Net}
 use Rattle.vst_base.specs.declared.step.StepRefusal.TheVariants as refusal
@@ -145,15 +145,16 @@ module _ {S K I O M : Type 0} (m : Meaning S I O M) (r : Recovery S K) where
   step-fresh w s = event-fresh (after_network r w s) (event_of m w s)
 
 -- where no refusal applies, the named node exists and the named packet has a copy
-none-of : (a b c d e f : Bool) → first_of ((refusal.NotThisNet, a) ∷ (refusal.NoSuchNode, b) ∷ (refusal.NoInputHere, c) ∷ (refusal.NodeDown, d) ∷ (refusal.NodeUp, e) ∷ (refusal.NoCopy, f) ∷ []) ≡ None
+none-of : (a b c d e f g : Bool) → first_of ((refusal.NotThisNet, a) ∷ (refusal.NoSuchNode, b) ∷ (refusal.NoInputHere, c) ∷ (refusal.NodeDown, d) ∷ (refusal.NodeUp, e) ∷ (refusal.NoCopy, f) ∷ (refusal.NotFirst, g) ∷ []) ≡ None
     → (b ≡ false) × (e ≡ false) × (f ≡ false)
-none-of true b c d e f h = cc
-none-of false true c d e f h = cc
-none-of false false true d e f h = cc
-none-of false false false true e f h = cc
-none-of false false false false true f h = cc
-none-of false false false false false true h = cc
-none-of false false false false false false h = (refl, refl, refl)
+none-of true b c d e f g h = cc
+none-of false true c d e f g h = cc
+none-of false false true d e f g h = cc
+none-of false false false true e f g h = cc
+none-of false false false false true f g h = cc
+none-of false false false false false true g h = cc
+none-of false false false false false false true h = cc
+none-of false false false false false false false h = (refl, refl, refl)
 
 holds : (b : Bool) → not b ≡ false → b ≡ true
 holds true h = refl
@@ -162,12 +163,12 @@ holds false h = cc
 module _ {S K I O M : Type 0} (n : Net) (m : Meaning S I O M) (w : World S K M) where
   pub has-copy : (s : Step I) (k : ℕ) → packet_of s ≡ Some k → refusal_of n m w s ≡ None → 0 < copies w k
   has-copy s k is none =
-      let found = (none-of _ _ _ _ _ _ none).2 in
+      let found = (none-of _ _ _ _ _ _ _ none).2 in
       ltb-true 0 (copies w k) (holds (nat_lt 0 (copies w k)) (ap (λ o. fails o (λ k. nat_lt 0 (copies w k))) (sym is) ∙ found))
 
   pub has-node : (s : Step I) (k : ℕ) → node_of s ≡ Some k → refusal_of n m w s ≡ None → k < m.nodes
   has-node s k is none =
-      let found = (none-of _ _ _ _ _ _ none).0 in
+      let found = (none-of _ _ _ _ _ _ _ none).0 in
       ltb-true k m.nodes (holds (nat_lt k m.nodes) (ap (λ o. fails o (λ k. nat_lt k m.nodes)) (sym is) ∙ found))
 
   flight-within : (f : Flights) → KnowsFlights f w → (s : Step I) (k : ℕ) → packet_of s ≡ Some k → refusal_of n m w s ≡ None → k < length f.packets
@@ -249,7 +250,7 @@ module _ {S K I O M : Type 0} (n : Net) (m : Meaning S I O M) (r : Recovery S K)
   begins false up o e = e
 
   is-down : (k : ℕ) → refusal_of n m w (step.Reboot k) ≡ None → w.is_up k ≡ true → true ≡ false
-  is-down k none up = sym (ap (λ b. not (not b)) up) ∙ (none-of (not (has_kind n kind.Reboot)) (not (nat_lt k m.nodes)) false false (not (not (w.is_up k))) false none).1
+  is-down k none up = sym (ap (λ b. not (not b)) up) ∙ (none-of (not (has_kind n kind.Reboot)) (not (nat_lt k m.nodes)) false false (not (not (w.is_up k))) false (keeps_order n && false) none).1
 
   starts : (k : ℕ) (o : Option K) → w.kept k ≡ o → k < 9 → refusal_of n m w (step.Reboot k) ≡ None → KnowsFlights (record f { up = slice_set f.up k true }) (rebooted r w k o)
   starts k (Some kept) e below none =

@@ -1,7 +1,8 @@
 -- Numbered handlers send as many packets as the handlers within, to the same nodes, and use up as many numbers.
-use Rattle.std.specs.Prelude.{◌≡◌, ℕ, ◌+◌, ◌<◌, Bool, true, false, List, [], ◌∷◌, length, cond, refl, IsTrue}
+use Rattle.std.specs.Prelude.{◌≡◌, ℕ, ◌+◌, ◌<◌, ◌≤◌, Bool, true, false, List, [], ◌∷◌, length, cond, refl, IsTrue}
 use Rattle.std.proofs.Common.{ap, arith, suc}
 use Rattle.handler_trait.specs.Handling.{Meaning, Effect, IsModest, AreSentBelow}
+use Rattle.handler_trait.specs.declared.handlers.TheConstants.{MAX_SENDS}
 use Rattle.vst_base.specs.declared.seq.SeqMsg.{SeqMsg}
 use Rattle.seqnum_xform.specs.Numbered.{Numbered, Seen, has_seen}
 use Rattle.seqnum_xform.specs.Numbering.{numbered_from, numbered, nothing, sequence_numbered, numbered_sound, numbered_spent}
@@ -14,19 +15,19 @@ below-numbered_from : {M : Type 0} (nodes n : ℕ) (ps : List (ℕ × M)) → Ar
 below-numbered_from nodes n [] below = tt
 below-numbered_from nodes n (p ∷ ps) below = (below.0, below-numbered_from nodes (n + 1) ps below.1)
 
-module _ {H S I O M : Type 0} (meaning : H → Meaning S I O M) (sound : H → ℕ → S → Type 0) (spent : H → S → ℕ) where
+module _ {H S I O M : Type 0} (meaning : H → Meaning S I O M) (sound : H → ℕ → S → Type 0) (spent : H → S → ℕ) (sends : ℕ) (few_sends : sends ≤ MAX_SENDS) where
   abbrev IsModestFrom : H → ℕ → S → Effect S O M → Type 0
-  IsModestFrom h n s e = IsModest (meaning h).nodes (sound h n) (spent h) s e
+  IsModestFrom h n s e = IsModest (meaning h).nodes sends (sound h n) (spent h) s e
 
   abbrev IsModestNumbered : H → ℕ → Numbered S → Effect (Numbered S) O (SeqMsg M) → Type 0
-  IsModestNumbered h n s e = IsModest (meaning h).nodes (numbered_sound sound h n) (numbered_spent spent h) s e
+  IsModestNumbered h n s e = IsModest (meaning h).nodes sends (numbered_sound sound h n) (numbered_spent spent h) s e
 
   modest-numbered : (h : H) (n : ℕ) (s : Numbered S) (seen : Seen) (e : Effect S O M) → IsModestFrom h n s.inner e → IsModestNumbered h n s (numbered s.next seen e)
   modest-numbered h n s seen e modest = record {
     few = omega (arith, length-numbered_from s.next e.sends, modest.few);
     to_nodes = below-numbered_from (meaning h).nodes s.next e.sends modest.to_nodes;
-    cheap = omega (arith, modest.cheap, modest.few);
-    few_outputs = modest.few_outputs;
+    cheap = omega (arith, modest.cheap, modest.few, few_sends);
+    few_outputs = λ after. omega (arith, modest.few_outputs after);
   }
 
   modest-nothing : (h : H) (n : ℕ) (s : Numbered S) → IsModestNumbered h n s (nothing s)

@@ -7,7 +7,7 @@ ghost use Rattle.seqnum_xform.specs.NumberingLaws.{fresh, modest_input, modest_m
 
 use crate::hand_on::hand_on;
 use crate::{SeenNumbers, SeqState};
-use handler_trait::{Effects, Handlers, MAX_SENDS};
+use handler_trait::{Effects, Handlers};
 use std::alloc::{AllocError, Global};
 use std::marker::Model;
 use vst_base::{Node, SeqMsg};
@@ -48,6 +48,10 @@ impl<H: Handlers> Handlers for SeqNum<H> {
 
     ghost spent = { numbered_spent H.spent };
 
+    const SENDS: usize = H::SENDS;
+
+    ghost SENDS = { H.SENDS };
+
     fn nodes(&self) -> u8 {
         self.inner.nodes()
     }
@@ -58,6 +62,18 @@ impl<H: Handlers> Handlers for SeqNum<H> {
 
     fn copy_input(&self, alloc: Global, input: &H::Input) -> Result<H::Input, AllocError> {
         self.inner.copy_input(alloc, input)
+    }
+
+    fn copy_msg(
+        &self,
+        alloc: Global,
+        message: &SeqMsg<H::Msg>,
+    ) -> Result<SeqMsg<H::Msg>, AllocError> {
+        let inner = self.inner.copy_msg(alloc, &message.inner)?;
+        Ok(SeqMsg {
+            number: message.number,
+            inner,
+        })
     }
 
     fn init(&self, alloc: Global, node: Node) -> Result<SeqState<H::State>, AllocError> {
@@ -77,7 +93,7 @@ impl<H: Handlers> Handlers for SeqNum<H> {
         input: &H::Input,
         effects: &mut Effects<H::Output, SeqMsg<H::Msg>>,
     ) -> Result<(), AllocError> {
-        let mut within = effects.lend_outputs(alloc, MAX_SENDS)?;
+        let mut within = effects.lend_outputs(alloc, H::SENDS)?;
         self.inner
             .input(alloc, node, &mut state.inner, input, &mut within)?;
         hand_on(within, &mut state.next, effects);
@@ -97,7 +113,7 @@ impl<H: Handlers> Handlers for SeqNum<H> {
         requires from { from < (H.meaning self.now).nodes }
         requires sound { numbered_sound H.sound self.now node state.old }
         requires budget { numbered_spent H.spent self.now state.old + STEP_COST ≤ SPENT_MAX }
-        requires room { MAX_SENDS ≤ effects.old.send_places }
+        requires room { H.SENDS ≤ effects.old.send_places }
         ensures does { OnOk result (Does ((sequence_numbered (H.meaning self.now)).message node state.old from message.now) state.new
             effects.old effects.new) }
         ensures sound { OnOk result (numbered_sound H.sound self.now node state.new) }
@@ -108,7 +124,7 @@ impl<H: Handlers> Handlers for SeqNum<H> {
             return Ok(());
         }
         state.seen.add(alloc, from, message.number)?;
-        let mut within = effects.lend_outputs(alloc, MAX_SENDS)?;
+        let mut within = effects.lend_outputs(alloc, H::SENDS)?;
         self.inner.message(
             alloc,
             node,
@@ -128,18 +144,20 @@ impl<H: Handlers> Handlers for SeqNum<H> {
         state: &mut SeqState<H::State>,
         effects: &mut Effects<H::Output, SeqMsg<H::Msg>>,
     ) -> Result<(), AllocError> {
-        let mut within = effects.lend_outputs(alloc, MAX_SENDS)?;
+        let mut within = effects.lend_outputs(alloc, H::SENDS)?;
         self.inner
             .timeout(alloc, node, &mut state.inner, &mut within)?;
         hand_on(within, &mut state.next, effects);
         Ok(())
     }
 
-    ghost fresh = { fresh H.meaning H.sound H.spent H.fresh };
+    ghost few_sends = { H.few_sends };
 
-    ghost modest_input = { modest_input H.meaning H.sound H.spent H.modest_input };
+    ghost fresh = { fresh H.meaning H.sound H.spent H.SENDS H.few_sends H.fresh };
 
-    ghost modest_message = { modest_message H.meaning H.sound H.spent H.modest_message };
+    ghost modest_input = { modest_input H.meaning H.sound H.spent H.SENDS H.few_sends H.modest_input };
 
-    ghost modest_timeout = { modest_timeout H.meaning H.sound H.spent H.modest_timeout };
+    ghost modest_message = { modest_message H.meaning H.sound H.spent H.SENDS H.few_sends H.modest_message };
+
+    ghost modest_timeout = { modest_timeout H.meaning H.sound H.spent H.SENDS H.few_sends H.modest_timeout };
 }

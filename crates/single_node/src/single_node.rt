@@ -37,11 +37,17 @@ impl<M: Machine> Handlers for SingleNode<M> {
 
     type Msg = ();
 
+    ghost use Rattle.std.proofs.Common.{arith};
+
     ghost meaning = { λ s. single_node (M.meaning s) };
 
     ghost sound = { λ _ _ _. Unit {0} };
 
     ghost spent = { λ _ _. 0 };
+
+    const SENDS: usize = 1;
+
+    ghost SENDS = { 1 };
 
     fn nodes(&self) -> u8 {
         1
@@ -53,6 +59,10 @@ impl<M: Machine> Handlers for SingleNode<M> {
 
     fn copy_input(&self, alloc: Global, input: &M::Cmd) -> Result<M::Cmd, AllocError> {
         self.machine.copy_cmd(alloc, input)
+    }
+
+    fn copy_msg(&self, _alloc: Global, _message: &()) -> Result<(), AllocError> {
+        Ok(())
     }
 
     fn init(&self, alloc: Global, _node: Node) -> Result<M::State, AllocError> {
@@ -92,6 +102,8 @@ impl<M: Machine> Handlers for SingleNode<M> {
     ) -> Result<(), AllocError> {
         Ok(())
     }
+
+    ghost few_sends = { omega arith };
 
     ghost fresh = { λ s n below. refl };
 

@@ -1,7 +1,8 @@
-ghost use Rattle.std.specs.Prelude.{◌≡◌, ◌≢◌, ◌≤◌, ◌+◌, ℕ, IfOk, Some, length};
+ghost use Rattle.std.specs.Prelude.{◌≡◌, ◌≢◌, ◌≤◌, ◌+◌, ℕ, IfOk, IsTrue, Some, length};
 ghost use Rattle.check_text.specs.ImageLines.{IsHeaded};
 ghost use Rattle.stacks.specs.Kinds.{IsItsRun, header_on, numbered, own_verdict, plain};
 ghost use Rattle.stacks.specs.Stack.{texts_of};
+ghost use Rattle.vst_base.specs.Nets.{stops_no_node};
 ghost use Rattle.vst_base.specs.Stacks.{row_of};
 ghost use Rattle.vst_base.specs.declared.net.Net.TheVariants as net;
 ghost use Rattle.vst_base.specs.declared.stack.StackId.{StackId as SpecId};
@@ -39,7 +40,7 @@ pub trait OwnStack: Handlers {
     /// Which stack they are.
     fn own() -> StackId
         ensures own { result ≡ own }
-        ensures stays_up { (row_of own).net ≢ net.Fail }
+        ensures stays_up { IsTrue (stops_no_node (row_of own).net) }
         ensures sends { (row_of own).net ≢ net.One };
 
     /// The handlers of so many nodes.

@@ -30,8 +30,8 @@ module _ (nodes : ℕ) where
   any_sent n [] below = tt
   any_sent n (p ∷ ps) below = ((below.0, tt), any_sent n ps below.1)
 
-  goes_on : (n : ℕ) (s : LockState) (e : LockEffect) → IsSound nodes n e.state → IsModest nodes (IsSound nodes n) (λ _. 0) s e → GoesOn Any nodes (IsSound nodes n) n e
-  goes_on n s e sound modest = record { state = sound; few = modest.few; sends = any_sent n e.sends modest.to_nodes }
+  goes_on : (n : ℕ) (s : LockState) (e : LockEffect) → IsSound nodes n e.state → IsModest nodes 1 (IsSound nodes n) (λ _. 0) s e → GoesOn Any nodes (IsSound nodes n) n e
+  goes_on n s e sound modest = record { state = sound; few = omega (arith, modest.few); sends = any_sent n e.sends modest.to_nodes }
 
   sound_first : (n : ℕ) → IsSound nodes n (first_state n)
   sound_first zero = (refl, All-nil (λ client. client < nodes))

@@ -1,10 +1,11 @@
 -- Packets as bytes stand where the packets that they are of stand.
-use Rattle.std.specs.Prelude.{◌≡◌, ℕ, zero, suc, List, [], ◌∷◌, ◌++◌, map, Option, None, Some, option_map, slice_get, refl}
+use Rattle.std.specs.Prelude.{◌≡◌, ℕ, zero, suc, ◌==◌, nat_lt, not, ◌&&◌, ◌||◌, List, [], ◌∷◌, ◌++◌, map, take, Option, None, Some, option_map, slice_get, refl}
 use Rattle.std.specs.List.{All}
 use Rattle.std.proofs.Common.{ap, ◌∙◌, sym, subst}
 use Rattle.std.proofs.lemmas.List.{map-append}
 use Rattle.std.proofs.lemmas.List.Elements.{All-cons, All-head, All-nil, All-tail}
 use Rattle.std.proofs.lemmas.Option.{slice_get-map}
+use Rattle.net_semantics.specs.Steps.{comes_first, flies_among, is_first}
 use Rattle.net_semantics.specs.Worlds.{Packet, World, change_at, copies, copies_of, ends, ends_of, one_less, one_more, sent_by}
 use Rattle.vst_base.specs.declared.stack.StackId.{StackId}
 use Rattle.wire_fields.specs.Formats.{Format}
@@ -56,6 +57,11 @@ module _ {M : Type 0} (f : Format M) (stack : StackId) (name : List ℕ) where
   pub spelled_more : (k : ℕ) (ps : List (Packet M)) → All (IsSpelledPacket f stack name) (change_at one_more k ps) → All (IsSpelledPacket f stack name) ps
   spelled_more k ps all = all_before (IsSpelledPacket f stack name) one_more (λ p h. h) k ps all
 
+  among_in_bytes : (e : ℕ × ℕ) (k : ℕ) (ps : List (Packet M)) → flies_among e (take k (map bytes ps)) ≡ flies_among e (take k ps)
+  among_in_bytes e zero ps = refl
+  among_in_bytes e (suc k) [] = refl
+  among_in_bytes e (suc k) (p ∷ ps) = ap (λ b. ((p.source == e.0) && ((p.destination == e.1) && nat_lt 0 p.copies)) || b) (among_in_bytes e k ps)
+
   pub there_in_bytes : (ps : List (Packet M)) (k : ℕ) → slice_get (map bytes ps) k ≡ option_map bytes (slice_get ps k)
   there_in_bytes ps k = slice_get-map bytes ps k
 
@@ -73,3 +79,10 @@ module _ {M : Type 0} (f : Format M) (stack : StackId) (name : List ℕ) where
 
     pub ends_in_bytes : (k : ℕ) → ends (world_in_bytes f stack name w) k ≡ ends w k
     ends_in_bytes k = ap ends_of (there_in_bytes w.packets k) ∙ same_ends (slice_get w.packets k)
+
+    same_first : (o : Option (ℕ × ℕ)) (k : ℕ) → comes_first o (take k (world_in_bytes f stack name w).packets) ≡ comes_first o (take k w.packets)
+    same_first None k = refl
+    same_first (Some e) k = ap not (among_in_bytes e k w.packets)
+
+    pub first_in_bytes : (k : ℕ) → is_first (world_in_bytes f stack name w) k ≡ is_first w k
+    first_in_bytes k = ap (λ o. comes_first o (take k (world_in_bytes f stack name w).packets)) (ends_in_bytes k) ∙ same_first (ends w k) k

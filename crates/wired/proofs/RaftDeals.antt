@@ -34,7 +34,7 @@ module _ {S C O : Type 0} (stack : StackId) (f : Format C) (label : List ℕ) (n
   all_sent n [] below fit = tt
   all_sent n (p ∷ ps) below fit = ((below.0, fit.0), all_sent n ps below.1 fit.1)
 
-  goes_on : (t n : ℕ) (s : RaftView S C O) (e : RaftEffect S C O) → IsSoundNode nodes n e.state → Fine f e → IsModest nodes (IsSoundNode nodes n) (λ _. 0) s e → GoesOn (HasRaft f) nodes (GoodRaft f nodes t n) n e
+  goes_on : (t n : ℕ) (s : RaftView S C O) (e : RaftEffect S C O) → IsSoundNode nodes n e.state → Fine f e → IsModest nodes 8 (IsSoundNode nodes n) (λ _. 0) s e → GoesOn (HasRaft f) nodes (GoodRaft f nodes t n) n e
   goes_on t n s e sound fine modest = record { state = (sound, fine.log); few = modest.few; sends = all_sent n e.sends modest.to_nodes fine.sends }
 
   kept_fits : (n : ℕ) (s : RaftView S C O) → n < nodes → IsSoundNode nodes n s → LogFits f s.log → (raft_saving stack f nodes label).Fits n ((raft_recovery m).keep s)

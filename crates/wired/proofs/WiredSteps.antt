@@ -15,7 +15,7 @@ use Rattle.wired.specs.WiredRuns.{IsSpelledPacket, WiredRunsAreTheSame, packet_i
 use Rattle.wired.specs.Wiring.{after_message, in_bytes, wired}
 use Rattle.wired.proofs.Alike.{EachStepsTheSame, runs}
 use Rattle.wired.proofs.HeardBack.{heard_back}
-use Rattle.wired.proofs.Packets.{all_at, all_front, copies_in_bytes, ends_in_bytes, joined_in_bytes, less_in_bytes, more_in_bytes, spelled_less, spelled_more, there_in_bytes}
+use Rattle.wired.proofs.Packets.{all_at, all_front, copies_in_bytes, ends_in_bytes, first_in_bytes, joined_in_bytes, less_in_bytes, more_in_bytes, spelled_less, spelled_more, there_in_bytes}
 
 module _ {M : Type 0} (f : Format M) (is_f : IsFormat f) (stack : StackId) (name : List ℕ) where
   abbrev AreSpelled : List (Packet M) → Type 0
@@ -37,9 +37,9 @@ module _ {M : Type 0} (f : Format M) (is_f : IsFormat f) (stack : StackId) (name
     same_refusal net w (step.Tick n) = refl
     same_refusal net w (step.Crash n) = refl
     same_refusal net w (step.Reboot n) = refl
-    same_refusal net w (step.Deliver k) = let there = copies_in_bytes f stack name w k in let ends = ends_in_bytes f stack name w k in rw (there, ends) refl
-    same_refusal net w (step.Dup k) = let there = copies_in_bytes f stack name w k in rw there refl
-    same_refusal net w (step.Lose k) = let there = copies_in_bytes f stack name w k in rw there refl
+    same_refusal net w (step.Deliver k) = let first = first_in_bytes f stack name w k in let there = copies_in_bytes f stack name w k in let ends = ends_in_bytes f stack name w k in rw (first, there, ends) refl
+    same_refusal net w (step.Dup k) = let first = first_in_bytes f stack name w k in let there = copies_in_bytes f stack name w k in rw (first, there) refl
+    same_refusal net w (step.Lose k) = let first = first_in_bytes f stack name w k in let there = copies_in_bytes f stack name w k in rw (first, there) refl
 
     -- an event in bytes
     abbrev event_in_bytes : Event S I O M → Event S I O (List ℕ)

@@ -3,12 +3,12 @@ use Rattle.std.specs.Prelude.{◌≡◌, ℕ, ◌<◌, List, Option, None, Some,
 use Rattle.handler_trait.specs.Handling.{Effect, IsModest, Meaning, Recovery}
 use Rattle.wired.specs.Saving.{Labelled, Saving, Seated, saved, saved_sound, saved_spent, seated, started}
 
-module _ {H S I O M : Type 0} (meaning : H → Meaning S I O M) (sound : H → ℕ → S → Type 0) (spent : H → S → ℕ) where
+module _ {H S I O M : Type 0} (meaning : H → Meaning S I O M) (sound : H → ℕ → S → Type 0) (spent : H → S → ℕ) (sends : ℕ) where
   abbrev IsModestWithin : H → ℕ → S → Effect S O M → Type 0
-  IsModestWithin h n s e = IsModest (meaning h).nodes (sound h n) (spent h) s e
+  IsModestWithin h n s e = IsModest (meaning h).nodes sends (sound h n) (spent h) s e
 
   abbrev IsModestSaved : Labelled H → ℕ → Seated S → Effect (Seated S) O M → Type 0
-  IsModestSaved w n s e = IsModest (meaning w.inner).nodes (saved_sound sound w n) (saved_spent spent w) s e
+  IsModestSaved w n s e = IsModest (meaning w.inner).nodes sends (saved_sound sound w n) (saved_spent spent w) s e
 
   modest_seated : (w : Labelled H) (n : ℕ) (s : Seated S) (e : Effect S O M) → IsModestWithin w.inner n s.inner e → IsModestSaved w n s (seated n e)
   modest_seated w n s e modest = record {

@@ -20,12 +20,12 @@ module _ {H S I O M : Type 0} (meaning : H → Meaning S I O M) (spent : H → S
       → (w : Named H) (n : ℕ) → n < (meaning w.inner).nodes → spent w.inner ((meaning w.inner).init n) ≡ 0
   fresh inner w n below = inner w.inner n below
 
-module _ {H S I O M : Type 0} (f : Format M) (meaning : H → Meaning S I O M) (sound : H → ℕ → S → Type 0) (spent : H → S → ℕ) where
+module _ {H S I O M : Type 0} (f : Format M) (meaning : H → Meaning S I O M) (sound : H → ℕ → S → Type 0) (spent : H → S → ℕ) (sends : ℕ) where
   abbrev IsModestWithin : H → ℕ → S → Effect S O M → Type 0
-  IsModestWithin h n s e = IsModest (meaning h).nodes (sound h n) (spent h) s e
+  IsModestWithin h n s e = IsModest (meaning h).nodes sends (sound h n) (spent h) s e
 
   abbrev IsModestWired : Named H → ℕ → S → Effect S O (List ℕ) → Type 0
-  IsModestWired w n s e = IsModest (meaning w.inner).nodes (sound w.inner n) (spent w.inner) s e
+  IsModestWired w n s e = IsModest (meaning w.inner).nodes sends (sound w.inner n) (spent w.inner) s e
 
   modest_in_bytes : (w : Named H) (n : ℕ) (s : S) (e : Effect S O M) → IsModestWithin w.inner n s e → IsModestWired w n s (in_bytes f w.stack w.name n e)
   modest_in_bytes w n s e modest = record {

@@ -40,6 +40,14 @@ impl Packet {
         &self.bytes
     }
 
+    /// An equal packet.
+    pub fn copy(&self, alloc: Global) -> Result<Self, AllocError>
+        ensures { IfOk result (λ copy. copy ≡ self.now) }
+    {
+        let bytes = self.bytes.to_vec(alloc)?;
+        Ok(Packet { bytes })
+    }
+
     /// The datagram of a message from one node to another.
     pub fn of_message<M: Wire>(
         alloc: Global,

@@ -57,6 +57,10 @@ impl<H: Saves> Handlers for Saved<H> {
 
     ghost spent = { saved_spent H.spent };
 
+    const SENDS: usize = H::SENDS;
+
+    ghost SENDS = { H.SENDS };
+
     fn nodes(&self) -> u8 {
         self.inner.nodes()
     }
@@ -67,6 +71,10 @@ impl<H: Saves> Handlers for Saved<H> {
 
     fn copy_input(&self, alloc: Global, input: &H::Input) -> Result<H::Input, AllocError> {
         self.inner.copy_input(alloc, input)
+    }
+
+    fn copy_msg(&self, alloc: Global, message: &H::Msg) -> Result<H::Msg, AllocError> {
+        self.inner.copy_msg(alloc, message)
     }
 
     fn init(&self, alloc: Global, node: Node) -> Result<SeatState<H::State>, AllocError> {
@@ -109,13 +117,15 @@ impl<H: Saves> Handlers for Saved<H> {
         self.inner.timeout(alloc, node, &mut state.inner, effects)
     }
 
-    ghost fresh = { fresh H.meaning H.sound H.spent H.fresh };
+    ghost few_sends = { H.few_sends };
 
-    ghost modest_input = { modest_input H.meaning H.sound H.spent H.modest_input };
+    ghost fresh = { fresh H.meaning H.sound H.spent H.SENDS H.fresh };
 
-    ghost modest_message = { modest_message H.meaning H.sound H.spent H.modest_message };
+    ghost modest_input = { modest_input H.meaning H.sound H.spent H.SENDS H.modest_input };
 
-    ghost modest_timeout = { modest_timeout H.meaning H.sound H.spent H.modest_timeout };
+    ghost modest_message = { modest_message H.meaning H.sound H.spent H.SENDS H.modest_message };
+
+    ghost modest_timeout = { modest_timeout H.meaning H.sound H.spent H.SENDS H.modest_timeout };
 }
 
 impl<H: Saves> Rebootable for Saved<H> {
@@ -144,6 +154,6 @@ impl<H: Saves> Rebootable for Saved<H> {
         Ok(SeatState { me: node, inner })
     }
 
-    ghost rebooted_fresh = { λ w n bytes below fits. rebooted_fresh H.meaning H.sound H.spent H.recovery H.fits H.saving H.fresh
+    ghost rebooted_fresh = { λ w n bytes below fits. rebooted_fresh H.meaning H.sound H.spent H.SENDS H.recovery H.fits H.saving H.fresh
         H.rebooted_fresh H.found_fits w n bytes below };
 }

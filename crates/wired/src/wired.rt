@@ -3,7 +3,7 @@ ghost use Rattle.wired.specs.WiringLaws.{fresh, modest_input, modest_message, mo
 
 use crate::hand_on::hand_on;
 use crate::{Cluster, Packet, hear};
-use handler_trait::{Effects, Handlers, MAX_SENDS, Rebootable};
+use handler_trait::{Effects, Handlers, Rebootable};
 use std::alloc::{AllocError, Global};
 use std::marker::Model;
 use vst_base::Node;
@@ -61,6 +61,10 @@ where
 
     ghost spent = { λ w. H.spent w.inner };
 
+    const SENDS: usize = H::SENDS;
+
+    ghost SENDS = { H.SENDS };
+
     fn nodes(&self) -> u8 {
         self.inner.nodes()
     }
@@ -71,6 +75,10 @@ where
 
     fn copy_input(&self, alloc: Global, input: &H::Input) -> Result<H::Input, AllocError> {
         self.inner.copy_input(alloc, input)
+    }
+
+    fn copy_msg(&self, alloc: Global, message: &Packet) -> Result<Packet, AllocError> {
+        message.copy(alloc)
     }
 
     fn init(&self, alloc: Global, node: Node) -> Result<H::State, AllocError> {
@@ -85,7 +93,7 @@ where
         input: &H::Input,
         effects: &mut Effects<H::Output, Packet>,
     ) -> Result<(), AllocError> {
-        let mut within = effects.lend_outputs(alloc, MAX_SENDS)?;
+        let mut within = effects.lend_outputs(alloc, H::SENDS)?;
         self.inner.input(alloc, node, state, input, &mut within)?;
         hand_on(alloc, &self.cluster, node, within, effects)
     }
@@ -102,7 +110,7 @@ where
         let Some(heard) = hear::<H::Msg>(alloc, &self.cluster, from, node, message)? else {
             return Ok(());
         };
-        let mut within = effects.lend_outputs(alloc, MAX_SENDS)?;
+        let mut within = effects.lend_outputs(alloc, H::SENDS)?;
         self.inner
             .message(alloc, node, state, from, &heard, &mut within)?;
         hand_on(alloc, &self.cluster, node, within, effects)
@@ -115,18 +123,20 @@ where
         state: &mut H::State,
         effects: &mut Effects<H::Output, Packet>,
     ) -> Result<(), AllocError> {
-        let mut within = effects.lend_outputs(alloc, MAX_SENDS)?;
+        let mut within = effects.lend_outputs(alloc, H::SENDS)?;
         self.inner.timeout(alloc, node, state, &mut within)?;
         hand_on(alloc, &self.cluster, node, within, effects)
     }
 
+    ghost few_sends = { H.few_sends };
+
     ghost fresh = { fresh H.meaning H.spent H.fresh };
 
-    ghost modest_input = { modest_input H.Msg.format H.meaning H.sound H.spent H.modest_input };
+    ghost modest_input = { modest_input H.Msg.format H.meaning H.sound H.spent H.SENDS H.modest_input };
 
-    ghost modest_message = { modest_message H.Msg.format H.meaning H.sound H.spent H.modest_message };
+    ghost modest_message = { modest_message H.Msg.format H.meaning H.sound H.spent H.SENDS H.modest_message };
 
-    ghost modest_timeout = { modest_timeout H.Msg.format H.meaning H.sound H.spent H.modest_timeout };
+    ghost modest_timeout = { modest_timeout H.Msg.format H.meaning H.sound H.spent H.SENDS H.modest_timeout };
 }
 
 impl<H: Rebootable> Rebootable for Wired<H>

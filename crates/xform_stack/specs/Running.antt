@@ -1,11 +1,10 @@
 -- What a running schedule stands for.
-use Rattle.std.specs.Prelude.{◌≡◌, ◌≢◌, ℕ, List, ◌++◌, length, Option, Some, None, Result, Ok, Err}
+use Rattle.std.specs.Prelude.{◌≡◌, ℕ, List, ◌++◌, length, Option, Some, None, Result, Ok, Err}
 use Rattle.handler_trait.specs.Handling.{Meaning, Recovery}
 use Rattle.vst_base.specs.declared.net.Net.{Net}
 use Rattle.vst_base.specs.declared.step.Step.{Step}
 use Rattle.vst_base.specs.declared.step.Item.{Item}
 use Rattle.vst_base.specs.declared.step.StepRefusal.{StepRefusal}
-use Rattle.vst_base.specs.declared.step.StepRefusal.TheVariants as refusal
 use Rattle.net_semantics.specs.Runs.{run, trace, first_refused, no_recovery}
 use Rattle.net_semantics.specs.Shown.{WorldView, Shows}
 use Rattle.net_semantics.specs.Worlds.{World}
@@ -46,11 +45,6 @@ abbrev pub IsRunAnswer : {A : Type 0} → Result A RunFault → Option StepRefus
 IsRunAnswer (Ok x) first taken = first ≡ None
 IsRunAnswer (Err (fault.Step why place)) first taken = (first ≡ Some why) × (place ≡ taken)
 IsRunAnswer (Err fault.Memory) first taken = first ≡ None
-
--- a step is refused for no want of memory: that is a fault of its own
-abbrev pub IsRefusal : RunFault → Type 0
-IsRefusal (fault.Step why place) = why ≢ refusal.Memory
-IsRefusal fault.Memory = Unit {0}
 
 -- a fault names the first refused step of a schedule, or is want of memory
 abbrev pub IsRunRefusal : RunFault → Option (ℕ × StepRefusal) → Type 0

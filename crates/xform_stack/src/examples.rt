@@ -1,5 +1,5 @@
 ghost use Rattle.std.specs.Prelude.{Err, None, Ok, Some};
-ghost use Rattle.xform_stack.specs.Running.{IsRefusal, IsRunAnswer, IsRunRefusal};
+ghost use Rattle.xform_stack.specs.Running.{IsRunAnswer, IsRunRefusal};
 
 use crate::RunFault;
 use vst_base::StepRefusal;
@@ -17,5 +17,4 @@ pub fn worked_faults()
     ensures taken { IsRunAnswer {A = Unit {0}} (Ok tt) None 2 }
     ensures taken_though_refused { IsRunAnswer {A = Unit {0}} (Ok tt) (Some StepRefusal.NoCopy) 2 → ⊥ }
     ensures wanted_though_refused { IsRunAnswer {A = Unit {0}} (Err RunFault.Memory) (Some StepRefusal.NoCopy) 2 → ⊥ }
-    ensures no_step_is_refused_for_memory { IsRefusal (RunFault.Step StepRefusal.Memory 2) → ⊥ }
 {}

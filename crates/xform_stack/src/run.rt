@@ -1,8 +1,9 @@
-ghost use Rattle.std.specs.Prelude.{◌≡◌, ◌≢◌, ◌≤◌, [], length, None, OnOk, IfOk, IfErr};
+ghost use Rattle.std.specs.Prelude.{◌≡◌, ◌≤◌, [], length, IsTrue, None, OnOk, IfOk, IfErr};
 ghost use Rattle.net_semantics.specs.Once.{once};
 ghost use Rattle.net_semantics.specs.Runs.{IsAllowed, first_refused, trace, no_recovery};
 ghost use Rattle.seqnum_xform.specs.Numbering.{sequence_numbered};
 ghost use Rattle.xform_stack.specs.Running.{HasRun, IsRunRefusal};
+ghost use Rattle.vst_base.specs.Nets.{stops_no_node};
 ghost use Rattle.vst_base.specs.declared.step.TheConstants.{MAX_STEPS};
 
 use crate::{Ran, RunFault, Running, Runs};
@@ -41,7 +42,7 @@ pub fn run_mapped<H: Handlers, T: TraceMap<H>>(
     net: Net,
     steps: &[Step<H::Input>],
 ) -> Result<Ran<H::Input, H::Output, Step<H::Input>>, RunFault>
-    requires net { net ≢ Net.Fail }
+    requires net { IsTrue (stops_no_node net) }
     requires alone { net ≡ Net.One → (H.meaning handlers).nodes ≡ 1 }
     requires few { length steps.now ≤ MAX_STEPS }
     ensures allowed { OnOk result (first_refused net (H.meaning handlers) no_recovery steps.now ≡ None) }

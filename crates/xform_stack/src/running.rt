@@ -1,8 +1,9 @@
-ghost use Rattle.std.specs.Prelude.{◌≡◌, ◌≢◌, ℕ, ◌≤◌, drop, List, [], ◌∷◌, ◌++◌, length, IfOk, OnOk};
+ghost use Rattle.std.specs.Prelude.{◌≡◌, ℕ, ◌≤◌, drop, List, [], ◌∷◌, ◌++◌, length, IsTrue, IfOk, OnOk};
 ghost use Rattle.handler_trait.specs.Handling.{Meaning};
 ghost use Rattle.net_semantics.specs.Steps.{items_of};
 ghost use Rattle.net_semantics.specs.Runs.{run, no_recovery};
 ghost use Rattle.net_semantics.specs.Shown.{IsSoundBy};
+ghost use Rattle.vst_base.specs.Nets.{stops_no_node};
 ghost use Rattle.vst_base.specs.declared.step.Step.{Step};
 ghost use Rattle.xform_stack.specs.Running.{HasFollowed, system_of};
 
@@ -57,7 +58,7 @@ pub fn follow_map<H: Handlers, T: TraceMap<H>>(
 impl<H: Handlers, T: TraceMap<H>> Running<H, T> {
     /// No step yet of these handlers, on a network that stops no node. Where a network has inputs alone there is one node.
     pub fn new(alloc: Global, handlers: H, net: Net) -> Result<Self, AllocError>
-        requires net { net ≢ Net.Fail }
+        requires net { IsTrue (stops_no_node net) }
         requires alone { net ≡ Net.One → (H.meaning handlers).nodes ≡ 1 }
         ensures handlers { IfOk result (λ running. running.world.handlers ≡ handlers) }
         ensures net { IfOk result (λ running. running.world.net ≡ net) }

@@ -4,7 +4,7 @@ ghost use Rattle.net_semantics.specs.Steps.{refusal_of};
 ghost use Rattle.net_semantics.specs.Taking.{GrowsBy};
 ghost use Rattle.vst_base.specs.declared.step.Item.{Item};
 ghost use Rattle.vst_base.specs.declared.step.Step.{Step};
-ghost use Rattle.xform_stack.specs.Running.{HasRun, IsRefusal, IsRunAnswer, Progress, System};
+ghost use Rattle.xform_stack.specs.Running.{HasRun, IsRunAnswer, Progress, System};
 ghost use Rattle.vst_base.specs.declared.step.TheConstants.{MAX_STEPS};
 
 use crate::{Ran, RunFault};
@@ -47,7 +47,6 @@ pub trait Runs: Drop {
             → HasRun (system self.old) follows progress ss gone self.old
             → IsRunAnswer result (refusal_of (system self.old).net (system self.old).meaning
             (run (system self.old).meaning (system self.old).recovery ss) step.now) (length ss) }
-        ensures refusal { IfErr result IsRefusal }
         ensures unchanged { IfErr result (λ why. why ≢ RunFault.Memory → self.new ≡ self.old) }
         ensures next { OnOk result ((ss : List (Step Self.Input)) (gone : List (Item Self.Input Self.Output))
             → HasRun (system self.old) follows progress ss gone self.old

@@ -1,4 +1,4 @@
-use Rattle.std.proofs.Common.{sym, subst, refl, Ok, ◌<◌, ◌≡◌}
+use Rattle.std.proofs.Common.{sym, subst, refl, Ok, ◌<◌}
 use Rattle.std.specs.Prelude.{slice_get}
 use Rattle.handler_trait.specs.Facts.{reboot_promises_of, rebootable_facts}
 use Rattle.vst_base.specs.declared.step.TheConstants.{MAX_STEPS}
@@ -8,7 +8,7 @@ use Rattle.net_semantics.specs.ShownFail.{IsSoundFailBy, ShowsFailBy}
 use Rattle.net_semantics.specs.TakingFail.{AnswersFailBy}
 use Rattle.net_semantics.proofs.Eventful.{if_some_given}
 use Rattle.net_semantics.proofs.FailShowing.{fail_view}
-use Rattle.net_semantics.proofs.FailTaken.{answers_crash, exists_node, from_memory}
+use Rattle.net_semantics.proofs.FailTaken.{answers_crash, exists_node}
 use Rattle.net_semantics.proofs.fail_world.FailWorld.take_crash.Goals as goal
 
 pub keep-requires : goal.keep-requires
@@ -28,11 +28,11 @@ returns g c =
     let was : IsSoundFailBy facts (fail_view u kept) = subst (IsSoundFailBy facts) (sym c.self.view_is) c.requires.sound in
     let found = exists_node c.args.n (facts.meaning u.handlers).nodes c.in_ok-node.node (Ok c.in_ok-node.node) refl (rw c.handlers.ensures at c.in_ok-node.ensures) in
     let k = c.in_ok-kept.kept in let s = c.held_state-state.result.now in
-    let keeps = rw c.handlers-2.ensures at (from_memory (λ x. x ≡ (facts.recovery c.handlers-2.result.now).keep s) c.keep.result c.or_memory.result k c.in_ok-kept.was c.or_memory.ensures c.keep.ensures.keeps) in
-    let fit = rw c.handlers-2.ensures at (from_memory (facts.fits c.handlers-2.result.now) c.keep.result c.or_memory.result k c.in_ok-kept.was c.or_memory.ensures c.keep.ensures.fits) in
+    let keeps = rw c.handlers-2.ensures at c.in_ok-kept.ensures.keeps in
+    let fit = rw c.handlers-2.ensures at c.in_ok-kept.ensures.fits in
     subst (λ v. AnswersFailBy facts (step.Crash c.args.n) v (fail_view c.count_step.new.self c.stop.new.self) (Ok (tt {0}))) c.self.view_is
     (subst (λ n. AnswersFailBy facts (step.Crash n) (fail_view u kept) (fail_view c.count_step.new.self c.stop.new.self) (Ok (tt {0}))) found.0
-    (answers_crash (reboot_promises_of facts u.handlers) u kept was
+    (answers_crash (reboot_promises_of facts u.handlers) u kept c.self.invariant was
     c.in_ok-node.node found.1 k s c.held_state-state.ensures keeps fit (subst (λ v. v.taken < MAX_STEPS) (sym c.self.view_is) c.requires.steps)
     tt c.count_step.new.self c.stop.new.self c.count_step.ensures c.stop.ensures
     (λ w sh. c.in_ok-up.ensures.up w (subst (λ v. ShowsFailBy facts v w) c.self.view_is sh))))

@@ -1,11 +1,13 @@
-use Rattle.std.proofs.Common.{◌≡◌, ◌+◌, Some, ap, refl}
+use Rattle.std.proofs.Common.{◌≡◌, ◌∙◌, ◌+◌, Some, ap, refl, subst, sym}
 use Rattle.std.specs.Prelude.{slice_get}
 use Rattle.handler_trait.specs.Facts.{promises_of}
 use Rattle.net_semantics.specs.Shown.{IsSoundPacket}
-use Rattle.net_semantics.specs.Held.{held_copies}
+use Rattle.net_semantics.specs.Held.{held_copies, held_less}
+use Rattle.net_semantics.specs.Order.{LanesFollow, all_ends}
 use Rattle.net_semantics.proofs.Eventful.{if_some_given}
 use Rattle.net_semantics.proofs.Keeping.{parcel_of}
-use Rattle.net_semantics.proofs.Taken.{ready_there, takes_deliver}
+use Rattle.net_semantics.proofs.Ordering.{all_ends-change_at, order-less}
+use Rattle.net_semantics.proofs.Taken.{modest_most, ready_there, takes_deliver}
 use Rattle.net_semantics.proofs.world.World.deliver.Goals as goal
 
 pub message_event-requires-clause-ready : goal.message_event-requires-clause-ready
@@ -37,9 +39,23 @@ returns-clause-takes g c =
       happens = rw (handlers, states) at c.in_ok-message_event.ensures.happens;
       kept = rw handlers at c.in_ok-message_event.ensures.sound;
       modest =
-          λ s ok. g.met.H.Handlers.modest_message now.handlers r.destination s r.source r.content.now sound.destination
-          sound.source ok;
+          λ s ok. modest_most g.met.H.Handlers.few_sends (g.met.H.Handlers.modest_message now.handlers r.destination s r.source r.content.now sound.destination
+          sound.source ok);
       packets = rw (c.take_copy.ensures, packets) at c.in_ok-publish.ensures.packets;
       trace = rw trace at c.in_ok-publish.ensures.trace;
       taken = ap (λ v. v.taken + 1) c.self.view_is;
+      same_net = ap (λ v. v.net) c.self.view_is;
+      in_order = λ keeps. order-less now.packets c.args.k (c.requires.first keeps) (c.requires.sound.in_order keeps);
     })
+
+pub invariant_of-self-in_err-publish : goal.invariant_of-self-in_err-publish
+invariant_of-self-in_err-publish g c =
+    let i = c.self.inside in
+    let less = ap all_ends c.take_copy.ensures ∙ all_ends-change_at held_less (λ p. refl) (λ p. refl) c.args.k i.packets in
+    (c.self.invariant.0, c.publish.ensures.kept ∙ c.self.invariant.1, c.publish.ensures.follow (subst (LanesFollow i.lanes) (sym less) c.self.invariant.2))
+
+pub invariant_of-self-2 : goal.invariant_of-self-2
+invariant_of-self-2 g c =
+    let i = c.self.inside in
+    let less = ap all_ends c.take_copy.ensures ∙ all_ends-change_at held_less (λ p. refl) (λ p. refl) c.args.k i.packets in
+    (c.self.invariant.0, c.publish.ensures.kept ∙ c.self.invariant.1, c.publish.ensures.follow (subst (LanesFollow i.lanes) (sym less) c.self.invariant.2))

@@ -1,7 +1,7 @@
 use Rattle.std.proofs.Common.{◌≡◌, ◌+◌, ap, map}
 use Rattle.handler_trait.specs.Facts.{promises_of}
 use Rattle.vst_base.specs.declared.step.Item.TheVariants as item
-use Rattle.net_semantics.proofs.Taken.{ready_there, takes_in, trace_in}
+use Rattle.net_semantics.proofs.Taken.{modest_most, ready_there, takes_in, trace_in}
 use Rattle.net_semantics.proofs.world.World.input_and_show.Goals as goal
 
 pub input_event-requires-clause-ready : goal.input_event-requires-clause-ready
@@ -23,8 +23,10 @@ returns-clause-takes g c =
       node = c.requires.node;
       happens = rw (handlers, states) at c.in_ok-input_event.ensures.happens;
       kept = rw handlers at c.in_ok-input_event.ensures.sound;
-      modest = λ s ok. g.met.H.Handlers.modest_input c.args.self.now.handlers c.args.node s c.args.input.now c.requires.node c.requires.takes ok;
+      modest = λ s ok. modest_most g.met.H.Handlers.few_sends (g.met.H.Handlers.modest_input c.args.self.now.handlers c.args.node s c.args.input.now c.requires.node c.requires.takes ok);
       packets = rw packets at c.in_ok-publish.ensures.packets;
       trace = trace_in c.args.node c.args.input.now c.args.copy c.args.self.now.trace c.self.inside.trace c.push.new.self c.publish.new.trace (map (λ o. item.Output c.args.node o) c.input_event.new.effects.outputs) c.in_ok-publish.ensures.trace c.in_ok-push.ensures.added c.requires.copy trace;
       taken = ap (λ v. v.taken + 1) c.self.view_is;
+      same_net = ap (λ v. v.net) c.self.view_is;
+      in_order = c.requires.sound.in_order;
     })

@@ -1,6 +1,6 @@
 use Rattle.std.proofs.Common.{◌≡◌, ◌+◌, ap}
 use Rattle.handler_trait.specs.Facts.{promises_of}
-use Rattle.net_semantics.proofs.Taken.{ready_there, takes_tick}
+use Rattle.net_semantics.proofs.Taken.{modest_most, ready_there, takes_tick}
 use Rattle.net_semantics.proofs.world.World.tick.Goals as goal
 
 pub timeout_event-requires-clause-ready : goal.timeout_event-requires-clause-ready
@@ -22,8 +22,10 @@ returns-clause-takes g c =
       node = c.requires.node;
       happens = rw (handlers, states) at c.in_ok-timeout_event.ensures.happens;
       kept = rw handlers at c.in_ok-timeout_event.ensures.sound;
-      modest = λ s ok. g.met.H.Handlers.modest_timeout c.args.self.now.handlers c.args.node s c.requires.node ok;
+      modest = λ s ok. modest_most g.met.H.Handlers.few_sends (g.met.H.Handlers.modest_timeout c.args.self.now.handlers c.args.node s c.requires.node ok);
       packets = rw packets at c.in_ok-publish.ensures.packets;
       trace = rw trace at c.in_ok-publish.ensures.trace;
       taken = ap (λ v. v.taken + 1) c.self.view_is;
+      same_net = ap (λ v. v.net) c.self.view_is;
+      in_order = c.requires.sound.in_order;
     })
