@@ -2,7 +2,7 @@ use crate::machines::{answer, text, token};
 use kv_machine::{KvCmd, KvMachine, KvState};
 use std::alloc::Global;
 use std::test::Fail;
-use vst_base::Machine;
+use vst_base::{Machine, Queries};
 
 fn put(alloc: Global, k: &[u8], v: &[u8]) -> Result<KvCmd, Fail> {
     Ok(KvCmd::Put(token(alloc, k)?, token(alloc, v)?))
@@ -62,6 +62,24 @@ fn commands_are_answered_in_turn(rt: HostRuntime) -> Result<(), Fail> {
     ] {
         assert!(rt;
             tells(alloc, &mut state, place, key, after, before)?,
+            "command {place}"
+        );
+    }
+    Ok(())
+}
+
+#[test]
+fn a_get_alone_reads(rt: HostRuntime) -> Result<(), Fail> {
+    for (place, reads) in [
+        (0, false),
+        (1, false),
+        (2, false),
+        (3, false),
+        (4, false),
+        (5, true),
+    ] {
+        assert!(rt;
+            KvMachine.is_read(&command(rt.alloc(), place)?) == reads,
             "command {place}"
         );
     }

@@ -9,6 +9,8 @@ mod flight_index_tests;
 #[cfg(test)]
 mod kv_machine_tests;
 #[cfg(test)]
+mod lanes_tests;
+#[cfg(test)]
 mod line_reader_tests;
 #[cfg(test)]
 mod lock_table_tests;
@@ -22,6 +24,8 @@ mod outside_mem_tests;
 mod outside_real_tests;
 #[cfg(test)]
 mod outside_tests;
+#[cfg(test)]
+mod schedule_text_tests;
 #[cfg(test)]
 mod vst_base_entry_tests;
 #[cfg(test)]

@@ -1,4 +1,4 @@
-use line_reader::{LineFault, Reader, Why, next_line};
+use line_reader::{ReadFault, Reader, Why, next_line};
 use outside_mem::MemorySource;
 use std::alloc::{AllocError, Global};
 use std::test::Fail;
@@ -26,7 +26,7 @@ fn read_lines(
     reader: &mut Reader,
     source: &mut MemorySource,
     lines: &mut Vec<u8>,
-) -> Result<LineFault, Fail> {
+) -> Result<ReadFault, Fail> {
     for _ in 0..10 {
         if let Err(fault) = next_line(reader, source) {
             return Ok(fault);
@@ -42,7 +42,7 @@ fn reads(
     source: &mut MemorySource,
     mut lines: Vec<u8>,
     wanted: &[u8],
-    why: LineFault,
+    why: ReadFault,
 ) -> Result<bool, Fail> {
     let fault = read_lines(&mut reader, source, &mut lines)?;
     Ok(lines.as_slice() == wanted && fault == why)
@@ -52,7 +52,7 @@ fn reads(
 fn has_lines(alloc: Global, text: &[u8], most: usize, wanted: &[u8]) -> Result<bool, Fail> {
     let mut source = source(alloc, text, most, Vec::new(alloc))?;
     let reader = Reader::new(alloc, 2_000_000)?;
-    let are_read = reads(reader, &mut source, Vec::new(alloc), wanted, LineFault::End)?;
+    let are_read = reads(reader, &mut source, Vec::new(alloc), wanted, ReadFault::End)?;
     Ok(are_read && source.left().is_empty())
 }
 
@@ -83,7 +83,7 @@ fn read_long(
     alloc: Global,
     size: usize,
     most: usize,
-) -> Result<(Result<(), LineFault>, usize, u32), AllocError> {
+) -> Result<(Result<(), ReadFault>, usize, u32), AllocError> {
     let text = long_line(alloc, size)?;
     let mut source = source(alloc, &text, most, Vec::new(alloc))?;
     let mut reader = Reader::new(alloc, 2_000_000)?;
@@ -93,7 +93,7 @@ fn read_long(
 
 #[test]
 fn a_line_has_at_most_4096_bytes(rt: HostRuntime) -> Result<(), Fail> {
-    let refused = LineFault::Refused {
+    let refused = ReadFault::Refused {
         line: 1,
         why: Why::LineTooLong,
     };
@@ -111,7 +111,7 @@ fn a_line_past_the_greatest_number_is_refused(rt: HostRuntime) -> Result<(), Fai
     let alloc = rt.alloc();
     let mut source = source(alloc, b"a\nb\nc\n", 100, Vec::new(alloc))?;
     let reader = Reader::new(alloc, 2)?;
-    let refused = LineFault::Refused {
+    let refused = ReadFault::Refused {
         line: 3,
         why: Why::TooManyEvents,
     };
@@ -128,7 +128,7 @@ fn has_lines_before(alloc: Global, call: u64, wanted: &[u8]) -> Result<bool, Fai
         &mut source,
         Vec::new(alloc),
         wanted,
-        LineFault::Read,
+        ReadFault::Read,
     )
 }
 
@@ -149,6 +149,6 @@ fn nothing_is_read_after_the_end(rt: HostRuntime) -> Result<(), Fail> {
     let calls = source.calls();
     assert!(rt; (first, calls) == (Ok(()), 2));
     let second = next_line(&mut reader, &mut source);
-    assert!(rt; (second, source.calls()) == (Err(LineFault::End), 2));
+    assert!(rt; (second, source.calls()) == (Err(ReadFault::End), 2));
     Ok(())
 }

@@ -2,7 +2,7 @@ use crate::machines::{answer, text, token};
 use lock_table::{TableCmd, TableMachine, TableState};
 use std::alloc::Global;
 use std::test::Fail;
-use vst_base::Machine;
+use vst_base::{Machine, Queries};
 
 fn acquire(alloc: Global, name: &[u8], owner: &[u8]) -> Result<TableCmd, Fail> {
     Ok(TableCmd::Acquire(token(alloc, name)?, token(alloc, owner)?))
@@ -58,6 +58,17 @@ fn commands_are_answered_in_turn(rt: HostRuntime) -> Result<(), Fail> {
     ] {
         assert!(rt;
             tells(alloc, &mut state, place, name, holder, yes)?,
+            "command {place}"
+        );
+    }
+    Ok(())
+}
+
+#[test]
+fn a_question_alone_reads(rt: HostRuntime) -> Result<(), Fail> {
+    for (place, reads) in [(0, false), (3, false), (4, true)] {
+        assert!(rt;
+            TableMachine.is_read(&command(rt.alloc(), place)?) == reads,
             "command {place}"
         );
     }

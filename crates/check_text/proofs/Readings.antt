@@ -4,8 +4,8 @@ use Rattle.std.proofs.Common.{ap, ◌∙◌, sym, append_assoc, arith, length-ap
 use Rattle.vst_base.specs.Firsts.{first_of}
 use Rattle.line_reader.specs.declared.why.Why.{Why}
 use Rattle.line_reader.specs.declared.why.Why.TheVariants as why
-use Rattle.line_reader.specs.declared.fault.LineFault.{LineFault}
-use Rattle.line_reader.specs.declared.fault.LineFault.TheVariants as fault
+use Rattle.line_reader.specs.declared.read_fault.ReadFault.{ReadFault}
+use Rattle.line_reader.specs.declared.read_fault.ReadFault.TheVariants as fault
 use Rattle.line_reader.specs.Limits.{line_refusals}
 use Rattle.line_reader.specs.Lines.{decided, lines_of, whole_lines}
 use Rattle.line_reader.specs.Readers.{ReaderView, fresh}
@@ -109,15 +109,14 @@ module _ {I O X : Type 0} (f : Form I O X) where
     claim-short none still finishes =
         ap refusal_of (of-rest ∙ (ap (λ xs. comes_to f d (mid.number + 1) (lines_of xs)) none ∙ finishes (mid.number + 1))) ∙ ap (λ n. Some (n + 1, why.Header)) (sym still)
 
-    claim-ends : (r : Result (Claim I O X) LineFault) → s.uses.rest' ≡ [] → EndsAll new left' → new.number ≡ mid.number → EndsClaim f d new.number r → ReadsClaim f left' bytes r
+    claim-ends : (r : Result (Claim I O X) ReadFault) → s.uses.rest' ≡ [] → EndsAll new left' → new.number ≡ mid.number → EndsClaim f d new.number r → ReadsClaim f left' bytes r
     claim-ends (Ok c) none ends still is = claim-whole c none ends is
     claim-ends (Err found) none ends still is = rw is.0 (claim-short none still is.1)
 
-    pub claim-ended : (A : Type 0) (found : LineFault) (r : Result (Claim I O X) LineFault) (f0 f' : ℕ) → mid.most ≡ most_lines → HasReadCause mid f0 f' found → ReadsLine {A = A} mid new left' s.uses.rest' (Err found)
+    pub claim-ended : (A : Type 0) (found : ReadFault) (r : Result (Claim I O X) ReadFault) (f0 f' : ℕ) → mid.most ≡ most_lines → HasReadCause mid f0 f' found → ReadsLine {A = A} mid new left' s.uses.rest' (Err found)
         → new.number ≡ mid.number → EndsBy f d new.number found r → ReadsClaim f left' bytes r
     claim-ended A fault.End r f0 f' most cause reads still is = claim-ends r reads.1 reads.0 still is
     claim-ended A fault.Read r f0 f' most cause (part, breaks, none) still is = rw is (line-broke cause.1 part breaks none)
-    claim-ended A fault.Write r f0 f' most cause reads still is = absurd reads
     claim-ended A fault.Memory r f0 f' most cause reads still is = rw is tt
     claim-ended A (fault.Refused n w) r f0 f' most cause (stands, there, l, ls, first, refused) still is = rw is (line-stopped n w l ls most there first refused)
 
@@ -125,37 +124,34 @@ module _ {I O X : Type 0} (f : Form I O X) where
     pub ahead-refused : (w : Why) → StandsAt mid new left' s.uses.rest' new.number → LooksAhead left' bytes (fault.Refused new.number w)
     ahead-refused w stands = given-of new left' bytes new.number w (stands-after (fresh most_lines) mid new left left' bytes s.used new.number s.uses stands)
 
-    ahead-ends : (r : Result (Claim I O X) LineFault) → s.uses.rest' ≡ [] → EndsAll new left' → new.number ≡ mid.number → EndsClaim f d new.number r → IfErr r (LooksAhead left' bytes)
+    ahead-ends : (r : Result (Claim I O X) ReadFault) → s.uses.rest' ≡ [] → EndsAll new left' → new.number ≡ mid.number → EndsClaim f d new.number r → IfErr r (LooksAhead left' bytes)
     ahead-ends (Ok c) none ends still is = tt
     ahead-ends (Err found) none ends still is =
         rw is.0 (given-of new left' bytes (new.number + 1) why.Header (stands-at-end (fresh most_lines) mid new left left' bytes s.used s.uses (new.number + 1) none ends.left (ap (λ n. n + 1) still)))
 
-    pub ahead-ended : (A : Type 0) (found : LineFault) (r : Result (Claim I O X) LineFault) → ReadsLine {A = A} mid new left' s.uses.rest' (Err found) → new.number ≡ mid.number → EndsBy f d new.number found r
+    pub ahead-ended : (A : Type 0) (found : ReadFault) (r : Result (Claim I O X) ReadFault) → ReadsLine {A = A} mid new left' s.uses.rest' (Err found) → new.number ≡ mid.number → EndsBy f d new.number found r
         → IfErr r (LooksAhead left' bytes)
     ahead-ended A fault.End r reads still is = ahead-ends r reads.1 reads.0 still is
     ahead-ended A fault.Read r reads still is = rw is tt
-    ahead-ended A fault.Write r reads still is = absurd reads
     ahead-ended A fault.Memory r reads still is = rw is tt
     ahead-ended A (fault.Refused n w) r reads still is =
         rw is (given-of new left' bytes n w (stands-after (fresh most_lines) mid new left left' bytes s.used n s.uses reads.0))
 
 -- the cause of a fault
-ends-quiet : {I O X : Type 0} (f : Form I O X) (d : Draft I O X) (n f0 f' : ℕ) (r : Result (Claim I O X) LineFault) → EndsClaim f d n r → IfErr r (HasReadFault f0 f')
+ends-quiet : {I O X : Type 0} (f : Form I O X) (d : Draft I O X) (n f0 f' : ℕ) (r : Result (Claim I O X) ReadFault) → EndsClaim f d n r → IfErr r (HasReadFault f0 f')
 ends-quiet f d n f0 f' (Ok c) is = tt
 ends-quiet f d n f0 f' (Err found) is = rw is.0 tt
 
-pub ends-cause : {I O X : Type 0} (f : Form I O X) (d : Draft I O X) (n : ℕ) (old : ReaderView) (f0 f1 f' : ℕ) (found : LineFault) (r : Result (Claim I O X) LineFault) → f0 ≤ f1 → HasReadCause old f1 f' found
+pub ends-cause : {I O X : Type 0} (f : Form I O X) (d : Draft I O X) (n : ℕ) (old : ReaderView) (f0 f1 f' : ℕ) (found : ReadFault) (r : Result (Claim I O X) ReadFault) → f0 ≤ f1 → HasReadCause old f1 f' found
     → EndsBy f d n found r → IfErr r (HasReadFault f0 f')
 ends-cause f d n old f0 f1 f' fault.End r grew cause is = ends-quiet f d n f0 f' r is
 ends-cause f d n old f0 f1 f' fault.Read r grew cause is = rw is (omega (arith, grew, cause.0))
-ends-cause f d n old f0 f1 f' fault.Write r grew cause is = absurd cause
 ends-cause f d n old f0 f1 f' fault.Memory r grew cause is = rw is tt
 ends-cause f d n old f0 f1 f' (fault.Refused k w) r grew cause is = rw is tt
 
 -- a failed read is told
-pub ends-failed : {I O X : Type 0} (f : Form I O X) (d : Draft I O X) (n : ℕ) (found : LineFault) (r : Result (Claim I O X) LineFault) → EndsBy f d n found r → found ≡ fault.Read → r ≡ Err fault.Read
+pub ends-failed : {I O X : Type 0} (f : Form I O X) (d : Draft I O X) (n : ℕ) (found : ReadFault) (r : Result (Claim I O X) ReadFault) → EndsBy f d n found r → found ≡ fault.Read → r ≡ Err fault.Read
 ends-failed f d n fault.Read r is e = is
 ends-failed f d n fault.End r is e = cc
-ends-failed f d n fault.Write r is e = cc
 ends-failed f d n fault.Memory r is e = cc
 ends-failed f d n (fault.Refused k w) r is e = cc

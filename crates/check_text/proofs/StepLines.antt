@@ -1,16 +1,17 @@
--- A line of an image that is a schedule says what a line of a schedule says, but that none is skipped.
-use Rattle.std.specs.Prelude.{◌≡◌, ℕ, Bool, true, false, is_none, List, [], ◌∷◌, Option, Some, None, cond, refl}
-use Rattle.std.proofs.Common.{ap, ◌∙◌, eqb-true}
+-- A line of an image that is a schedule says what a line of a schedule says, but that none is skipped, and none is an act or a stop.
+use Rattle.std.specs.Prelude.{◌≡◌, ℕ, Bool, true, false, List, [], ◌∷◌, Option, Some, None, Result, Ok, Err, cond, refl}
+use Rattle.std.proofs.Common.{ap, ◌∙◌, sym, eqb-true}
 use Rattle.vst_base.specs.declared.step.Step.{Step}
+use Rattle.line_reader.specs.declared.why.Why.{Why}
 use Rattle.line_reader.specs.declared.why.Why.TheVariants as why
 use Rattle.schedule_text.specs.declared.line.Line.{Line}
 use Rattle.schedule_text.specs.declared.line.Line.TheVariants as line
 use Rattle.schedule_text.specs.Lines.{is_skipped}
-use Rattle.schedule_text.specs.Reading.{Parts, line_says, number_in, parts_of, step_of, step_or_refusal}
+use Rattle.schedule_text.specs.Reading.{line_of, line_says, said_of, step_or_refusal}
 use Rattle.schedule_text.specs.Words.{cut}
 use Rattle.check_text.specs.declared.image_line.ImageLine.{ImageLine}
 use Rattle.check_text.specs.declared.image_line.ImageLine.TheVariants as image
-use Rattle.check_text.specs.ImageLines.{said_or_refused, step_says}
+use Rattle.check_text.specs.ImageLines.{begins_as_act, said_or_refused, step_says}
 
 -- what a line of a schedule is as one of an image
 abbrev pub of_line : {I : Type 0} → Line I → ImageLine (Step I)
@@ -18,32 +19,26 @@ of_line line.Skipped = image.Refused why.UnknownWord
 of_line (line.IsStep s) = image.Says s
 of_line (line.Refused w) = image.Refused w
 
--- a line that is skipped has no parts: its first word names no kind of step
-no-parts-after : (bs : List ℕ) (o : Option (List ℕ × List ℕ)) → cut bs ≡ o → parts_of (35 ∷ bs) ≡ None
-no-parts-after bs None e = rw e refl
-no-parts-after bs (Some p) e = rw e refl
+-- a line that is skipped has none of the words
+no-word-after : (bs : List ℕ) (o : Option (List ℕ × List ℕ)) → cut bs ≡ o → said_of (35 ∷ bs) ≡ Err why.UnknownWord
+no-word-after bs None e = rw e refl
+no-word-after bs (Some p) e = rw e refl
 
-no-parts : (l : List ℕ) → is_skipped l ≡ true → parts_of l ≡ None
-no-parts [] e = refl
-no-parts (b ∷ bs) e = ap (λ n. parts_of (n ∷ bs)) (eqb-true b 35 e) ∙ no-parts-after bs (cut bs) refl
+no-word : (l : List ℕ) → is_skipped l ≡ true → said_of l ≡ Err why.UnknownWord
+no-word [] e = refl
+no-word (b ∷ bs) e = ap (λ n. said_of (n ∷ bs)) (eqb-true b 35 e) ∙ no-word-after bs (cut bs) refl
 
-skipped-is : {I : Type 0} (p : Option Parts) (o : Option (Step I)) (b c : Bool) → p ≡ None
-    → image.Refused why.UnknownWord ≡ said_or_refused (cond (is_none p) (Some why.UnknownWord) (cond b (Some why.Number) (cond c (Some why.Text) None))) o
-skipped-is None o b c e = refl
-skipped-is (Some p) o b c e = cc
+skipped-is : {I : Type 0} (f : List ℕ → Option I) (l : List ℕ) → said_of l ≡ Err why.UnknownWord → image.Refused why.UnknownWord ≡ said_or_refused (step_or_refusal f 0 l)
+skipped-is f l e = rw e refl
 
-says-by : {I : Type 0} (a b : Bool) (o : Option (Step I))
-    → of_line (step_or_refusal (cond a (Some why.UnknownWord) (cond b (Some why.Number) (cond (is_none o) (Some why.Text) None))) o)
-    ≡ said_or_refused (cond a (Some why.UnknownWord) (cond b (Some why.Number) (cond (is_none o) (Some why.Text) None))) o
-says-by true b o = refl
-says-by false true o = refl
-says-by false false None = refl
-says-by false false (Some s) = refl
+of-both : {I : Type 0} (r : Result (Step I) Why) → of_line (line_of r) ≡ said_or_refused r
+of-both (Ok s) = refl
+of-both (Err w) = refl
 
-by-skip : {I : Type 0} (f : List ℕ → Option I) (l : List ℕ) (t : Bool) → is_skipped l ≡ t
-    → of_line (cond t line.Skipped (step_or_refusal (cond (is_none (parts_of l)) (Some why.UnknownWord) (cond (is_none (number_in l)) (Some why.Number) (cond (is_none (step_of f l)) (Some why.Text) None))) (step_of f l))) ≡ step_says f l
-by-skip f l true e = skipped-is (parts_of l) (step_of f l) (is_none (number_in l)) (is_none (step_of f l)) (no-parts l e)
-by-skip f l false e = says-by (is_none (parts_of l)) (is_none (number_in l)) (step_of f l)
+by-skip : {I : Type 0} (f : List ℕ → Option I) (l : List ℕ) (t : Bool) → is_skipped l ≡ t → of_line (cond t line.Skipped (line_of (step_or_refusal f 0 l))) ≡ said_or_refused (step_or_refusal f 0 l)
+by-skip f l true e = skipped-is f l (no-word l e)
+by-skip f l false e = of-both (step_or_refusal f 0 l)
 
-pub step-said : {I : Type 0} (f : List ℕ → Option I) (l : List ℕ) → of_line (line_says f 0 l) ≡ step_says f l
-step-said f l = by-skip f l (is_skipped l) refl
+pub step-said : {I : Type 0} (f : List ℕ → Option I) (l : List ℕ) → begins_as_act l ≡ false → of_line (line_says f 0 l) ≡ step_says f l
+step-said f l other =
+    by-skip f l (is_skipped l) refl ∙ sym (ap (λ t. cond t (image.Refused why.UnknownWord) (said_or_refused (step_or_refusal f 0 l))) other)

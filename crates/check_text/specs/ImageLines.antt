@@ -1,5 +1,5 @@
 -- What a line of an image says, and why it may be refused.
-use Rattle.std.specs.Prelude.{◌≡◌, ℕ, Bool, true, false, nat_le, List, [], ◌∷◌, Option, Some, None, is_none, option_and_then, if◌then◌else◌, codes}
+use Rattle.std.specs.Prelude.{◌≡◌, ℕ, Bool, true, false, ◌||◌, nat_le, List, [], ◌∷◌, Option, Some, None, ok_or, option_and_then, Result, Ok, Err, if◌then◌else◌, codes}
 use Rattle.vst_base.specs.Firsts.{first_of}
 use Rattle.vst_base.specs.declared.stack.StackId.{StackId}
 use Rattle.vst_base.specs.Stacks.{stack_word}
@@ -10,10 +10,10 @@ use Rattle.line_reader.specs.Limits.{line_refusals}
 use Rattle.schedule_text.specs.declared.header.Header.{Header}
 use Rattle.schedule_text.specs.Headers.{IsHeader, header_of}
 use Rattle.schedule_text.specs.Words.{cut, is_text}
-use Rattle.schedule_text.specs.Reading.{number_in, parts_of, step_of}
+use Rattle.schedule_text.specs.Reading.{and_then, step_or_refusal}
 use Rattle.check_text.specs.declared.image_line.ImageLine.{ImageLine}
 use Rattle.check_text.specs.declared.image_line.ImageLine.TheVariants.{Says, Refused}
-use Rattle.check_text.specs.TraceLines.{most_lines}
+use Rattle.check_text.specs.TraceLines.{first_word, most_lines}
 use Rattle.vst_base.specs.declared.step.TheConstants.{MAX_STEPS}
 
 -- an image has a header where it is a schedule of some stack
@@ -39,29 +39,25 @@ IsHeaded None o = Unit {0}
 IsHeaded (Some s) None = ⊥
 IsHeaded (Some s) (Some h) = IsHeader h × (h.stack ≡ s)
 
-module _ {X : Type 0} where
-  abbrev pub said_or_refused : Option Why → Option X → ImageLine X
-  said_or_refused (Some w) x = Refused w
-  said_or_refused None (Some x) = Says x
-  said_or_refused None None = Refused why.Text
+abbrev pub said_or_refused : {X : Type 0} → Result X Why → ImageLine X
+said_or_refused (Ok x) = Says x
+said_or_refused (Err w) = Refused w
 
--- a line of a schedule: its refusals in the order in which they are tried. Its numbers name what they like
+-- the words of acts and stops, which no image has
+abbrev pub begins_as_act : List ℕ → Bool
+begins_as_act line = is_text (first_word line) (codes "act") || is_text (first_word line) (codes "stop")
+
+-- a line of a schedule, by its refusals in the order in which they are tried there. Its numbers name what they like
 abbrev pub step_says : {I : Type 0} → (List ℕ → Option I) → List ℕ → ImageLine (Step I)
-step_says input_of line =
-    said_or_refused
-    (first_of ((why.UnknownWord, is_none (parts_of line)) ∷ (why.Number, is_none (number_in line)) ∷ (why.Text, is_none (step_of input_of line)) ∷ []))
-    (step_of input_of line)
+step_says input_of line = if begins_as_act line then Refused why.UnknownWord else said_or_refused (step_or_refusal input_of 0 line)
 
 -- a line of an order: the word `order`, and a request
 abbrev pub after_order : List ℕ → Option (List ℕ)
 after_order line = option_and_then (λ p. if is_text p.0 (codes "order") then Some p.1 else None) (cut line)
 
-abbrev pub order_of : {I : Type 0} → (List ℕ → Option I) → List ℕ → Option I
-order_of input_of line = option_and_then input_of (after_order line)
-
 abbrev pub order_says : {I : Type 0} → (List ℕ → Option I) → List ℕ → ImageLine I
 order_says input_of line =
-    said_or_refused (first_of ((why.UnknownWord, is_none (after_order line)) ∷ (why.Text, is_none (order_of input_of line)) ∷ [])) (order_of input_of line)
+    said_or_refused (and_then (ok_or (after_order line) why.UnknownWord) (λ text. ok_or (input_of text) why.Text))
 
 module _ {X : Type 0} where
   abbrev pub image_unless : Option Why → ImageLine X → ImageLine X

@@ -39,6 +39,9 @@ pub fn worked_image_lines()
     ensures one_too_many_whatever_it_holds { line_of_image (step_says input_of) 1 1000000 (codes "# nothing") ≡ image.Refused Why.TooManyEvents }
     ensures nodes_are_not_tried { line_of_image (step_says input_of) 1 0 (codes "in 77 lock") ≡ image.Says (step.In 77 LockInput.Lock) }
     ensures comment { line_of_image (step_says input_of) 1 0 (codes "# nothing") ≡ image.Refused Why.UnknownWord }
+    ensures acts_are_unknown { (line_of_image (step_says input_of) 1 0 (codes "act 0") ≡ image.Refused Why.UnknownWord) × (line_of_image (step_says input_of) 1 0 (codes "act x") ≡ image.Refused Why.UnknownWord) × (line_of_image (step_says input_of) 1 0 (codes "act") ≡ image.Refused Why.UnknownWord) }
+    ensures stops_are_unknown { (line_of_image (step_says input_of) 1 0 (codes "stop 0 1") ≡ image.Refused Why.UnknownWord) × (line_of_image (step_says input_of) 1 0 (codes "stop x 1") ≡ image.Refused Why.UnknownWord) × (line_of_image (step_says input_of) 1 0 (codes "stop 0") ≡ image.Refused Why.UnknownWord) }
+    ensures acts_are_counted { (line_of_image (step_says input_of) 1 1000000 (codes "act 0") ≡ image.Refused Why.TooManyEvents) × (line_of_image (step_says input_of) 1 999999 (codes "act 0") ≡ image.Refused Why.UnknownWord) }
     ensures number_before_text { line_of_image (step_says input_of) 1 0 (codes "in x grab") ≡ image.Refused Why.Number }
     ensures order { line_of_image (order_says input_of) 1 0 (codes "order lock") ≡ image.Says LockInput.Lock }
     ensures other_word { line_of_image (order_says input_of) 1 0 (codes "orders lock") ≡ image.Refused Why.UnknownWord }

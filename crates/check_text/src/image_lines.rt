@@ -1,7 +1,8 @@
 ghost use Rattle.std.specs.Prelude.{◌≡◌, IfOk, IfSome, Some};
-ghost use Rattle.check_text.specs.ImageLines.{IsHeaded, after_order, counted_line, heads, image_header, order_says, step_says};
+ghost use Rattle.check_text.specs.ImageLines.{IsHeaded, after_order, begins_as_act, counted_line, heads, image_header, order_says, step_says};
 ghost use Rattle.line_reader.specs.Slices.{one};
 
+use crate::trace_lines::first_word;
 use crate::{ImageLine, ImageText};
 use app_text::{AppText, TextFault};
 use line_reader::cut_at;
@@ -20,12 +21,23 @@ pub struct Orders<A> {
     texts: PhantomData<A>,
 }
 
+// Whether a line has the word of an act or of a stop.
+fn begins_as_act(line: &[u8]) -> bool
+    ensures { result ≡ begins_as_act line.now }
+{
+    let word = first_word(line);
+    word == b"act".as_slice() || word == b"stop".as_slice()
+}
+
 impl<A: AppText> ImageText for Steps<A> {
     type Line = Step<A::Input>;
 
     ghost says = { step_says A.input_of };
 
     fn read_line(alloc: Global, line: &[u8]) -> Result<ImageLine<Step<A::Input>>, AllocError> {
+        if begins_as_act(line) {
+            return Ok(ImageLine::Refused(Why::UnknownWord));
+        }
         match line_says::<A>(alloc, 0, line)? {
             Line::IsStep(step) => Ok(ImageLine::Says(step)),
             Line::Refused(why) => Ok(ImageLine::Refused(why)),

@@ -12,7 +12,7 @@ use crate::trace_line::TraceLine;
 use crate::trace_lines::counted_says;
 use crate::{Claim, ImageLine, ImageText};
 use app_text::AppText;
-use schedule_text::{LineFault, Reader, Why};
+use schedule_text::{ReadFault, Reader, Why};
 use std::alloc::{AllocError, Global};
 use vst_base::StackId;
 
@@ -141,8 +141,8 @@ fn finish<A: AppText, G: ImageText>(
 pub(crate) fn end_claim<A: AppText, G: ImageText>(
     draft: Draft<A::Input, A::Output, G::Line>,
     reader: &Reader,
-    fault: LineFault,
-) -> Result<Claim<A::Input, A::Output, G::Line>, LineFault>
+    fault: ReadFault,
+) -> Result<Claim<A::Input, A::Output, G::Line>, ReadFault>
     ensures ends { (nodes : ℕ) (below : Option SpecId) → EndsBy (form_of nodes A.input_of A.output_of below G.says) draft
         reader.now.number fault result }
     ensures lines { IfOk result (λ claim. length claim.trace + length claim.image ≡ lines_of draft) }
@@ -150,7 +150,7 @@ pub(crate) fn end_claim<A: AppText, G: ImageText>(
     ensures header { IfOk result (λ claim. (claim.header ≡ draft.header) × (draft.stage ≡ Stage.Image)) }
 {
     match fault {
-        LineFault::End => match finish::<A, G>(draft) {
+        ReadFault::End => match finish::<A, G>(draft) {
             Some(claim) => Ok(claim),
             None => Err(reader.refuse_next(Why::Header)),
         },

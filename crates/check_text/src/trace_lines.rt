@@ -12,7 +12,7 @@ use std::alloc::{AllocError, Global};
 use vst_base::{Item, MAX_STEPS, Node};
 
 // What stands before the first space, or the whole line.
-fn first_word(line: &[u8]) -> &[u8]
+pub(crate) fn first_word(line: &[u8]) -> &[u8]
     ensures { result.now ≡ first_word line.now }
 {
     match cut_at(line, SPACE) {

@@ -1,5 +1,5 @@
 -- How many steps a script has, and how many inputs and lines of an image they come to.
-use Rattle.std.specs.Prelude.{◌≡◌, ℕ, zero, suc, ◌+◌, ◌<◌, ◌≤◌, Bool, false, ◌==◌, nat_le, is_none, List, [], ◌∷◌, ◌++◌, length, map, take, count_by, Option, Some, None, cond, refl}
+use Rattle.std.specs.Prelude.{◌≡◌, ℕ, zero, suc, ◌+◌, ◌<◌, ◌≤◌, Bool, true, false, ◌==◌, nat_le, List, [], ◌∷◌, ◌++◌, length, map, take, count_by, Option, Some, None, Result, Ok, Err, IfOk, cond, refl}
 use Rattle.std.proofs.Common.{arith}
 use Rattle.std.proofs.lemmas.Bool.Decides.{nat_tests}
 use Rattle.std.proofs.lemmas.List.Sums.{sum_by-append, sum_by-cons}
@@ -20,11 +20,10 @@ use Rattle.net_semantics.specs.Worlds.{World}
 use Rattle.schedule_text.specs.declared.line.Line.{Line}
 use Rattle.schedule_text.specs.declared.line.Line.TheVariants.{Skipped, IsStep, Refused}
 use Rattle.schedule_text.specs.Lines.{is_skipped}
-use Rattle.schedule_text.specs.Reading.{line_unless, number_in, parts_of, read_line, step_of, step_or_refusal, step_refusals}
+use Rattle.schedule_text.specs.Reading.{and_then, line_of, line_unless, read_line, said_of, step_or_refusal, step_said}
 use Rattle.schedule_text.specs.Schedules.{Script, script, script_line}
 use Rattle.schedule_replay.specs.Replaying.{is_input, steps_of}
 use Rattle.permitted_claims.proofs.Eaches.{either}
-use Rattle.permitted_claims.proofs.Runs.{no-refusal}
 
 -- a script has a million steps at most
 module _ {I : Type 0} (f : List ℕ → Option I) where
@@ -33,10 +32,9 @@ module _ {I : Type 0} (f : List ℕ → Option I) where
   IsFewLine events (IsStep s) = events < 1000000
   IsFewLine events (Refused w) = Unit {0}
 
-  few-step : (events : ℕ) (o : Option Why) (x : Option (Step I)) → (o ≡ None → events < 1000000) → IsFewLine events (step_or_refusal o x)
-  few-step events (Some w) x few = tt
-  few-step events None None few = tt
-  few-step events None (Some s) few = few refl
+  few-read : (events : ℕ) (r : Result (Step I) Why) → IfOk r (λ s. events < 1000000) → IsFewLine events (line_of r)
+  few-read events (Err w) few = tt
+  few-read events (Ok s) few = few
 
   few-unless : (events : ℕ) (o : Option Why) (l : Line I) → IsFewLine events l → IsFewLine events (line_unless o l)
   few-unless events (Some w) l few = tt
@@ -45,17 +43,20 @@ module _ {I : Type 0} (f : List ℕ → Option I) where
   below-million : (events : ℕ) → nat_le 1000000 events ≡ false → events < 1000000
   below-million events e = grind (arith, nat_tests)
 
-  room-left : (events : ℕ) (l : List ℕ) → first_of (step_refusals f events l) ≡ None → events < 1000000
-  room-left events l none =
-      let first = no-refusal (is_none (parts_of l)) why.UnknownWord _ none in
-      let second = no-refusal (is_none (number_in l)) why.Number _ first.1 in
-      below-million events (no-refusal (nat_le 1000000 events) why.TooManyEvents _ second.1).0
+  few-room : (events : ℕ) (b : Bool) → nat_le 1000000 events ≡ b → (r : Result (Step I) Why) → IfOk (cond b (Err why.TooManyEvents) r) (λ s. events < 1000000)
+  few-room events true is r = tt
+  few-room events false is (Err w) = tt
+  few-room events false is (Ok s) = below-million events is
+
+  few-said : {X : Type 0} (says : X → Result (Step I) Why) (events : ℕ) (r : Result X Why) → IfOk (and_then r (λ x. cond (nat_le 1000000 events) (Err why.TooManyEvents) (says x))) (λ s. events < 1000000)
+  few-said says events (Err w) = tt
+  few-said says events (Ok x) = few-room events (nat_le 1000000 events) refl (says x)
 
   few-line : (most number events : ℕ) (l : List ℕ) → IsFewLine events (read_line most f number events l)
   few-line most number events l =
-      few-unless events (first_of (line_refusals most number l)) (cond (is_skipped l) Skipped (step_or_refusal (first_of (step_refusals f events l)) (step_of f l)))
-      (either (IsFewLine events) (is_skipped l) Skipped (step_or_refusal (first_of (step_refusals f events l)) (step_of f l)) tt
-      (few-step events (first_of (step_refusals f events l)) (step_of f l) (room-left events l)))
+      let says = line_of (step_or_refusal f events l) in
+      few-unless events (first_of (line_refusals most number l)) (cond (is_skipped l) Skipped says)
+      (either (IsFewLine events) (is_skipped l) Skipped says tt (few-read events (step_or_refusal f events l) (few-said (step_said f) events (said_of l))))
 
   line-count : (l : Line I) (number events : ℕ) (rest : ℕ → Script I) → IsFewLine events l → events ≤ 1000000 → ((e : ℕ) → e ≤ 1000000 → e + length (steps_of (rest e)) ≤ 1000000)
       → events + length (steps_of (script_line l number events rest)) ≤ 1000000

@@ -1,5 +1,5 @@
 -- The lines of an image that is an order of requests.
-use Rattle.std.specs.Prelude.{◌≡◌, ℕ, ◌+◌, is_none, List, [], ◌∷◌, map, Option, Some, None, cond, codes, refl}
+use Rattle.std.specs.Prelude.{◌≡◌, ℕ, ◌+◌, List, [], ◌∷◌, map, Option, Some, None, ok_or, codes, refl}
 use Rattle.std.proofs.Common.{ap, ◌∙◌, arith}
 use Rattle.app_text.specs.Spelling.{IsSpelling}
 use Rattle.line_reader.specs.declared.why.Why.TheVariants as why
@@ -10,18 +10,18 @@ use Rattle.raft_types.specs.declared.client.RaftInput.{RaftInput}
 use Rattle.schedule_text.proofs.PrintedLaws.{plain-text}
 use Rattle.check_text.specs.Claims.{only_image}
 use Rattle.check_text.specs.Forms.{Form, after_below, image_from}
-use Rattle.check_text.specs.ImageLines.{order_of, order_says, said_or_refused}
+use Rattle.check_text.specs.ImageLines.{order_says, said_or_refused}
 use Rattle.check_text.specs.Reading.{read_map}
 use Rattle.check_text.specs.declared.image_line.ImageLine.TheVariants as line
 use Rattle.checked_replays.proofs.ImageReading.{IsHeadedBy}
 use Rattle.checked_replays.proofs.PlainLines.{IsPlain}
 
-order-by : {X : Type 0} (x : Option X) (y : X) → x ≡ Some y → said_or_refused (cond (is_none x) (Some why.Text) None) x ≡ line.Says y
+order-by : {X : Type 0} (x : Option X) (y : X) → x ≡ Some y → said_or_refused (ok_or x why.Text) ≡ line.Says y
 order-by x y e = rw e refl
 
 module _ {C : Type 0} (HasIn : C → Type 0) (command_of : List ℕ → Option C) (command_text : C → List ℕ) (spelled : IsSpelling (IsRaftInput HasIn) (raft_input_of command_of) (raft_input_text command_text)) where
   order-said : (q : RaftInput C) → IsRaftInput HasIn q → order_says (raft_input_of command_of) (order_text command_text q) ≡ line.Says q
-  order-said q has = order-by (order_of (raft_input_of command_of) (order_text command_text q)) q (spelled.reads_back q has)
+  order-said q has = order-by (raft_input_of command_of (raft_input_text command_text q)) q (spelled.reads_back q has)
 
   pub orders-said : (order : List (RaftInput C)) → Each (IsRaftInput HasIn) order → Each (λ q. order_says (raft_input_of command_of) (order_text command_text q) ≡ line.Says q) order
   orders-said [] has = tt

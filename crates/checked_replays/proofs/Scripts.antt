@@ -1,5 +1,5 @@
 -- The steps of a script have lines: each was read from one.
-use Rattle.std.specs.Prelude.{◌≡◌, ℕ, Bool, ◌+◌, ◌≤◌, List, [], ◌∷◌, length, Option, Some, None, cond}
+use Rattle.std.specs.Prelude.{◌≡◌, ℕ, Bool, ◌+◌, ◌≤◌, List, [], ◌∷◌, length, Option, Some, None, Result, Ok, Err, IfOk, cond}
 use Rattle.std.proofs.Common.{subst}
 use Rattle.vst_base.specs.Firsts.{first_of}
 use Rattle.vst_base.specs.declared.step.Step.{Step}
@@ -10,14 +10,14 @@ use Rattle.net_semantics.specs.Once.{delivered_after, is_repeat, once_from}
 use Rattle.schedule_text.specs.declared.line.Line.{Line}
 use Rattle.schedule_text.specs.declared.line.Line.TheVariants.{Skipped, IsStep, Refused}
 use Rattle.schedule_text.specs.Lines.{is_skipped}
-use Rattle.schedule_text.specs.Reading.{line_unless, read_line, step_of, step_or_refusal, step_refusals}
+use Rattle.schedule_text.specs.Reading.{line_of, line_unless, read_line, step_or_refusal}
 use Rattle.schedule_text.specs.Schedules.{Script, script, script_line}
 use Rattle.schedule_text.specs.Spellable.{IsSpellable}
 use Rattle.schedule_replay.specs.Replaying.{steps_of}
 use Rattle.schedule_replay.specs.Replays.{most_lines}
 use Rattle.checked_replays.proofs.Counts.{steps-few}
-use Rattle.permitted_claims.proofs.Eaches.{IfThere, either}
-use Rattle.permitted_claims.proofs.ReadSteps.{step-spellable}
+use Rattle.permitted_claims.proofs.Eaches.{either}
+use Rattle.schedule_text.proofs.SpellableLaws.{step-spellable}
 
 module _ {I : Type 0} (f : List ℕ → Option I) (HasIn : I → Type 0) (has_text : (bs : List ℕ) (i : I) → f bs ≡ Some i → HasIn i) where
   abbrev IsReadLine : Line I → Type 0
@@ -25,10 +25,9 @@ module _ {I : Type 0} (f : List ℕ → Option I) (HasIn : I → Type 0) (has_te
   IsReadLine (IsStep s) = IsSpellable HasIn s
   IsReadLine (Refused w) = Unit {0}
 
-  step-line : (w : Option Why) (o : Option (Step I)) → IfThere (IsSpellable HasIn) o → IsReadLine (step_or_refusal w o)
-  step-line (Some w) o has = tt
-  step-line None None has = tt
-  step-line None (Some s) has = has
+  step-line : (r : Result (Step I) Why) → IfOk r (IsSpellable HasIn) → IsReadLine (line_of r)
+  step-line (Err w) has = tt
+  step-line (Ok s) has = has
 
   unless-line : (w : Option Why) (l : Line I) → IsReadLine l → IsReadLine (line_unless w l)
   unless-line (Some w) l has = tt
@@ -36,9 +35,9 @@ module _ {I : Type 0} (f : List ℕ → Option I) (HasIn : I → Type 0) (has_te
 
   line-spellable : (most number events : ℕ) (l : List ℕ) → IsReadLine (read_line most f number events l)
   line-spellable most number events l =
-      let says = step_or_refusal (first_of (step_refusals f events l)) (step_of f l) in
+      let says = line_of (step_or_refusal f events l) in
       unless-line (first_of (line_refusals most number l)) (cond (is_skipped l) Skipped says)
-      (either IsReadLine (is_skipped l) Skipped says tt (step-line (first_of (step_refusals f events l)) (step_of f l) (step-spellable f HasIn has_text l)))
+      (either IsReadLine (is_skipped l) Skipped says tt (step-line (step_or_refusal f events l) (step-spellable f HasIn has_text events l)))
 
   line-steps : (l : Line I) (number events : ℕ) (rest : ℕ → Script I) → IsReadLine l → ((e : ℕ) → Each (IsSpellable HasIn) (steps_of (rest e))) → Each (IsSpellable HasIn) (steps_of (script_line l number events rest))
   line-steps Skipped number events rest has more = more events

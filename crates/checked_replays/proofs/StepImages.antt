@@ -1,34 +1,41 @@
 -- The lines of an image that is a schedule.
-use Rattle.std.specs.Prelude.{◌≡◌, ℕ, Bool, false, is_none, List, [], ◌∷◌, map, Option, Some, None, cond, refl}
+use Rattle.std.specs.Prelude.{◌≡◌, ℕ, Bool, false, List, [], ◌∷◌, map, Option, Some, Result, Ok, cond, refl}
 use Rattle.std.proofs.Common.{◌∙◌, arith}
 use Rattle.app_text.specs.Spelling.{IsSpelling}
+use Rattle.line_reader.specs.declared.why.Why.{Why}
 use Rattle.line_reader.specs.declared.why.Why.TheVariants as why
 use Rattle.linearizability.specs.Linearizable.{Each}
 use Rattle.schedule_text.specs.declared.header.Header.{Header}
 use Rattle.schedule_text.specs.Headers.{header_text}
 use Rattle.schedule_text.specs.Printing.{step_text}
-use Rattle.schedule_text.specs.Reading.{number_in, parts_of, step_of}
+use Rattle.schedule_text.specs.Reading.{step_or_refusal}
 use Rattle.schedule_text.specs.Spellable.{IsSpellable}
-use Rattle.schedule_text.proofs.PrintedLaws.{parts-some, plain-step}
-use Rattle.schedule_text.proofs.ReadBackLaws.{step-reads-back}
+use Rattle.schedule_text.proofs.PrintedLaws.{plain-step}
+use Rattle.schedule_text.proofs.ReadBackLaws.{line-reads-back}
 use Rattle.check_text.specs.Forms.{Form, after_below, with_header}
-use Rattle.check_text.specs.ImageLines.{image_header, said_or_refused, step_says}
+use Rattle.check_text.specs.ImageLines.{begins_as_act, image_header, said_or_refused, step_says}
 use Rattle.check_text.specs.declared.image_line.ImageLine.TheVariants as line
 use Rattle.vst_base.specs.declared.step.Step.{Step}
+use Rattle.vst_base.specs.declared.step.Step.TheVariants as step
 use Rattle.checked_replays.proofs.ImageReading.{IsHeadedBy, headed-read}
 use Rattle.checked_replays.proofs.PlainLines.{IsPlain}
 
 -- a step that is printed says the step
-said-by : {I : Type 0} (a b : Bool) (x : Option (Step I)) (s : Step I) → a ≡ false → b ≡ false → x ≡ Some s
-    → said_or_refused (cond a (Some why.UnknownWord) (cond b (Some why.Number) (cond (is_none x) (Some why.Text) None))) x ≡ line.Says s
-said-by a b x s e1 e2 e3 = rw (e1, e2, e3) refl
+said-by : {I : Type 0} (b : Bool) (r : Result (Step I) Why) (s : Step I) → b ≡ false → r ≡ Ok s → cond b (line.Refused why.UnknownWord) (said_or_refused r) ≡ line.Says s
+said-by b r s e1 e2 = rw (e1, e2) refl
+
+no-act : {I : Type 0} (t : I → List ℕ) (s : Step I) → begins_as_act (step_text t s) ≡ false
+no-act t (step.In n i) = refl
+no-act t (step.Deliver k) = refl
+no-act t (step.Tick n) = refl
+no-act t (step.Dup k) = refl
+no-act t (step.Lose k) = refl
+no-act t (step.Crash n) = refl
+no-act t (step.Reboot n) = refl
 
 step-said : {I : Type 0} (f : List ℕ → Option I) (t : I → List ℕ) (HasIn : I → Type 0) (spelled : IsSpelling HasIn f t) (s : Step I) → IsSpellable HasIn s → step_says f (step_text t s) ≡ line.Says s
 step-said f t HasIn spelled s has =
-    let l = step_text t s in
-    let is = step-reads-back f t HasIn spelled.reads_back s has in
-    let parts = parts-some f t HasIn spelled.reads_back spelled.one_line (parts_of l) s is in
-    said-by (is_none (parts_of l)) (is_none (number_in l)) (step_of f l) s parts.0 parts.1 is
+    let l = step_text t s in said-by (begins_as_act l) (step_or_refusal f 0 l) s (no-act t s) (line-reads-back f t HasIn spelled.reads_back 0 s has refl)
 
 pub steps-said : {I : Type 0} (f : List ℕ → Option I) (t : I → List ℕ) (HasIn : I → Type 0) (spelled : IsSpelling HasIn f t) (ss : List (Step I)) → Each (IsSpellable HasIn) ss
     → Each (λ s. step_says f (step_text t s) ≡ line.Says s) ss

@@ -12,8 +12,8 @@ use Rattle.line_reader.specs.Outcomes.{ReadsLine, EndsLine, LineIsNear, TakesPie
 use Rattle.line_reader.specs.declared.why.Why.{Why}
 use Rattle.line_reader.specs.declared.why.Why.TheVariants as why
 use Rattle.line_reader.specs.declared.piece.Piece.TheVariants as piece
-use Rattle.line_reader.specs.declared.fault.LineFault.{LineFault}
-use Rattle.line_reader.specs.declared.fault.LineFault.TheVariants as fault
+use Rattle.line_reader.specs.declared.read_fault.ReadFault.{ReadFault}
+use Rattle.line_reader.specs.declared.read_fault.ReadFault.TheVariants as fault
 use Rattle.line_reader.proofs.Cutting.{cut-parts, none-append, none-take}
 use Rattle.line_reader.proofs.Lining.{split-plain, whole-plain, lines-plain, lines-line, split-line, size-plain, drop-front}
 
@@ -87,7 +87,7 @@ refuses-long : (most number : ℕ) (line : List ℕ) → 4096 < length line → 
 refuses-long most number line long = too-long (nat_lt 4096 (length line)) _ (grind (arith, nat_tests))
 
 -- a line was taken whole, and then ended
-ends-line : (A : Type 0) (old r new : ReaderView) (left' : Option (List ℕ)) (rest used rest' : List ℕ) (result : Result A LineFault)
+ends-line : (A : Type 0) (old r new : ReaderView) (left' : Option (List ℕ)) (rest used rest' : List ℕ) (result : Result A ReadFault)
     → OneLine rest r.line used rest' → HasRest r left' rest' → (r.ended ≡ false → (split_lines used).1 ≡ []) → length r.line ≤ 4096 → length used ≤ 4097
     → (old.ended ≡ true → r.ended ≡ true) → r.number ≡ old.number → r.most ≡ old.most → EndsLine {A = A} r new result → ReadsLine old new left' rest result
 ends-line A old r new left' rest used rest' (Ok x) one left closed short fits stays number most ended =
@@ -124,7 +124,7 @@ ends-line A old r new left' rest used rest' (Err found) one left closed short fi
     let is = ended.0 in
     let same : new ≡ r = ended.1 in
     let next : r.number + 1 ≡ old.number + 1 = ap (λ n. n + 1) number in
-    subst (λ (f : LineFault). ReadsLine {A = A} old new left' rest (Err f)) (sym is) (
+    subst (λ (f : ReadFault). ReadsLine {A = A} old new left' rest (Err f)) (sym is) (
       record {
         rest' = rest';
         left = subst (λ (v : ReaderView). HasRest v left' rest') (sym same) left;
@@ -150,7 +150,7 @@ not-nothing [] ys y e = cc
 not-nothing (x ∷ xs) ys y e = cc
 
 -- a line that its newline ended
-pub by-newline : (A : Type 0) (old r r' new : ReaderView) (left' : Option (List ℕ)) (rest : List ℕ) (result : Result A LineFault)
+pub by-newline : (A : Type 0) (old r r' new : ReaderView) (left' : Option (List ℕ)) (rest : List ℕ) (result : Result A ReadFault)
     → Begun r left' rest → cut_at 10 r.line ≡ None → TakesPiece r r' piece.Newline → length r'.line ≤ 4096
     → r'.ended ≡ r.ended → (old.ended ≡ true → r.ended ≡ true) → r'.number ≡ old.number → r'.most ≡ old.most → EndsLine {A = A} r' new result → ReadsLine old new left' rest result
 by-newline A old r r' new left' rest result begun plain (part, taken, plain_part, line) short ended stays number most ends =
@@ -168,7 +168,7 @@ by-newline A old r r' new left' rest result begun plain (part, taken, plain_part
     (λ is. ended ∙ stays is) number most ends
 
 -- a line that the end of the source ended
-pub by-end : (A : Type 0) (old r new : ReaderView) (left' : Option (List ℕ)) (rest : List ℕ) (result : Result A LineFault)
+pub by-end : (A : Type 0) (old r new : ReaderView) (left' : Option (List ℕ)) (rest : List ℕ) (result : Result A ReadFault)
     → Begun r left' rest → cut_at 10 r.line ≡ None → length r.line ≤ 4096 → 0 < length r.line → r.ended ≡ true
     → r.number ≡ old.number → r.most ≡ old.most → EndsLine {A = A} r new result → ReadsLine old new left' rest result
 by-end A old r new left' rest result begun plain short some over number most ends =

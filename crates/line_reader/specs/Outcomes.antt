@@ -9,8 +9,8 @@ use Rattle.line_reader.specs.Readers.{ReaderView, HasRest}
 use Rattle.line_reader.specs.declared.why.Why.TheVariants as why
 use Rattle.line_reader.specs.declared.piece.Piece.{Piece}
 use Rattle.line_reader.specs.declared.piece.Piece.TheVariants as piece
-use Rattle.line_reader.specs.declared.fault.LineFault.{LineFault}
-use Rattle.line_reader.specs.declared.fault.LineFault.TheVariants as fault
+use Rattle.line_reader.specs.declared.read_fault.ReadFault.{ReadFault}
+use Rattle.line_reader.specs.declared.read_fault.ReadFault.TheVariants as fault
 
 -- some lines of the rest were used: it is these bytes and what is left of it. Each of their lines has its newline, unless
 -- the end was met, and they are counted
@@ -60,7 +60,7 @@ abbrev pub LineIsNear : Option (List ℕ) → List ℕ → Type 0
 LineIsNear left' rest = (early : List ℕ) × ReadsPast left' rest early × (whole_lines early ≡ [])
 
 -- what the next line of a rest is
-abbrev pub ReadsLine : {A : Type 0} → ReaderView → ReaderView → Option (List ℕ) → List ℕ → Result A LineFault → Type 0
+abbrev pub ReadsLine : {A : Type 0} → ReaderView → ReaderView → Option (List ℕ) → List ℕ → Result A ReadFault → Type 0
 ReadsLine old new left' rest (Ok x) =
     (used : List ℕ) × Uses old new left' rest used × StandsAt old new left' rest new.number × (lines_of used ≡ new.line ∷ [])
     × (first_of (line_refusals new.most new.number new.line) ≡ None)
@@ -69,13 +69,11 @@ ReadsLine old new left' rest (Err (fault.Refused number w)) =
     StandsAt old new left' rest number × (number ≡ old.number + 1)
     × (l : List ℕ) × (ls : List (List ℕ)) × (lines_of rest ≡ l ∷ ls) × (first_of (line_refusals old.most number l) ≡ Some w)
 ReadsLine old new left' rest (Err fault.Read) = (part : List ℕ) × BreaksOff left' rest part × (whole_lines part ≡ [])
-ReadsLine old new left' rest (Err fault.Write) = ⊥
 ReadsLine old new left' rest (Err fault.Memory) = Unit {0}
 
--- a failed read has its fault, and does not come once the end was met. Nothing is written
-abbrev pub HasReadCause : ReaderView → ℕ → ℕ → LineFault → Type 0
+-- a failed read has its fault, and does not come once the end was met
+abbrev pub HasReadCause : ReaderView → ℕ → ℕ → ReadFault → Type 0
 HasReadCause old faults faults' fault.Read = Rose faults faults' × (old.ended ≡ false)
-HasReadCause old faults faults' fault.Write = ⊥
 HasReadCause old faults faults' fault.End = Unit {0}
 HasReadCause old faults faults' fault.Memory = Unit {0}
 HasReadCause old faults faults' (fault.Refused number w) = Unit {0}
@@ -83,15 +81,14 @@ HasReadCause old faults faults' (fault.Refused number w) = Unit {0}
 -- where a reader stops that has no line. At the end nothing is ahead, and the end was met. At a failed read nothing is ahead,
 -- the end was not met, and the line is what came of the one that broke off. At a refusal at most 4,096 bytes are ahead, and
 -- at most as many in the line
-abbrev pub StopsAt : ReaderView → LineFault → Type 0
+abbrev pub StopsAt : ReaderView → ReadFault → Type 0
 StopsAt new fault.End = (new.line ≡ []) × (new.ahead ≡ []) × (new.ended ≡ true)
 StopsAt new fault.Read = (cut_at 10 new.line ≡ None) × (length new.line ≤ 4096) × (new.ahead ≡ []) × (new.ended ≡ false)
 StopsAt new (fault.Refused number w) = (length new.line ≤ 4096) × (length new.ahead ≤ 4096)
-StopsAt new fault.Write = ⊥
 StopsAt new fault.Memory = Unit {0}
 
 -- the only fault of a read by itself
-abbrev pub CannotRead : ReaderView → ReaderView → ℕ → ℕ → LineFault → Type 0
+abbrev pub CannotRead : ReaderView → ReaderView → ℕ → ℕ → ReadFault → Type 0
 CannotRead old new faults faults' found =
     (found ≡ fault.Read) × Rose faults faults' × (old.ended ≡ false) × (new.ahead ≡ []) × (new.ended ≡ false)
 
@@ -104,7 +101,7 @@ TakesPiece old new piece.TooLong =
     (part : List ℕ) × (old.ahead ≡ part ++ new.ahead) × (cut_at 10 part ≡ None) × (length old.line + length part ≡ 4097)
 
 -- a line was ended, or its number is too great
-abbrev pub EndsLine : {A : Type 0} → ReaderView → ReaderView → Result A LineFault → Type 0
+abbrev pub EndsLine : {A : Type 0} → ReaderView → ReaderView → Result A ReadFault → Type 0
 EndsLine old new (Ok x) = (new ≡ record old { number = old.number + 1 }) × (new.number ≤ new.most) × (length new.ahead ≤ 4096)
 EndsLine old new (Err found) =
     (found ≡ fault.Refused (old.number + 1) why.TooManyEvents) × (new ≡ old) × (old.number ≡ old.most) × (length old.ahead ≤ 4096)

@@ -3,6 +3,7 @@ ghost use Rattle.vst_base.specs.Firsts.{first_of};
 ghost use Rattle.line_reader.specs.Cuts.{LastEnds, cut_at, has_cut};
 ghost use Rattle.line_reader.specs.Lines.{after_lines, decided, lines_of, whole_lines};
 ghost use Rattle.line_reader.specs.Limits.{line_refusals};
+ghost use Rattle.line_reader.specs.Whys.{why_text};
 
 use crate::Why;
 
@@ -24,6 +25,7 @@ pub fn worked()
     ensures last { first_of (line_refusals 2000000 2000000 []) ≡ None }
     ensures too_many { first_of (line_refusals 2000000 2000001 []) ≡ Some Why.TooManyEvents }
     ensures length_first { first_of (line_refusals 2000000 2000001 (replicate 4097 35)) ≡ Some Why.LineTooLong }
+    ensures words { (why_text Why.NotFirst ≡ codes "not first") × (why_text Why.NodeBusy ≡ codes "node busy") × (why_text Why.NodeIdle ≡ codes "node idle") }
 {}
 
 /// Where the last newline of some bytes ends, on examples.

@@ -5,18 +5,20 @@
 mod ahead;
 mod cuts;
 mod examples;
-mod fault;
 mod next;
 mod piece;
+mod read_fault;
 mod reader;
 mod reading_examples;
 mod why;
 mod why_words;
+mod write_fault;
 
 pub use cuts::{NEWLINE, cut_at};
 pub use examples::{worked, worked_ends};
-pub use fault::LineFault;
 pub use next::next_line;
+pub use read_fault::ReadFault;
 pub use reader::{MAX_LINE, Reader};
 pub use reading_examples::{worked_nearness, worked_reading, worked_stopping};
 pub use why::Why;
+pub use write_fault::WriteFault;

@@ -4,7 +4,7 @@ ghost use Rattle.line_reader.specs.Outcomes.{HasReadCause, LineIsNear, ReadsLine
 ghost use Rattle.line_reader.specs.Readers.{HasRest};
 
 use crate::piece::Piece;
-use crate::{LineFault, Reader, Why};
+use crate::{ReadFault, Reader, Why};
 use outside::Source;
 
 /// Reads the next line: up to its newline, or to the end of the source where that comes first. `End` comes exactly where
@@ -12,11 +12,11 @@ use outside::Source;
 /// greatest once it was read. A line that a failed read breaks off is given up. A read failed only where `Read` is
 /// answered, and never where the newline of the line was read ahead: then the source is left as it is. Whatever comes, at most
 /// 4,096 bytes were read past bytes of the line without its newline.
-pub fn next_line<S: Source>(reader: &mut Reader, source: &mut S) -> Result<(), LineFault>
+pub fn next_line<S: Source>(reader: &mut Reader, source: &mut S) -> Result<(), ReadFault>
     ensures told { (rest : List ℕ) → HasRest reader.old (S.left source.old) rest
         → ReadsLine reader.old reader.new (S.left source.new) rest result }
     ensures ahead { (cut : List ℕ × List ℕ) → cut_at 10 reader.old.ahead ≡ Some cut
-        → (result ≢ Err LineFault.Read) × OnOk result (reader.new.line ≡ cut.0) }
+        → (result ≢ Err ReadFault.Read) × OnOk result (reader.new.line ≡ cut.0) }
     ensures near { (rest : List ℕ) → HasRest reader.old (S.left source.old) rest → LineIsNear (S.left source.new) rest }
     ensures unread { has_cut 10 reader.old.ahead ≡ true → source.new ≡ source.old }
     ensures few { length reader.new.ahead ≤ 4096 }
@@ -27,7 +27,7 @@ pub fn next_line<S: Source>(reader: &mut Reader, source: &mut S) -> Result<(), L
     ensures stays { reader.old.ended ≡ true → reader.new.ended ≡ true }
     ensures after { IfErr result (StopsAt reader.new) }
     ensures fault { IfErr result (HasReadCause reader.old (S.faults source.old) (S.faults source.new)) }
-    ensures quiet { result ≢ Err LineFault.Read → S.faults source.new ≡ S.faults source.old }
+    ensures quiet { result ≢ Err ReadFault.Read → S.faults source.new ≡ S.faults source.old }
     ensures counts { S.faults source.old ≤ S.faults source.new }
 {
     reader.begin_line();
@@ -39,7 +39,7 @@ pub fn next_line<S: Source>(reader: &mut Reader, source: &mut S) -> Result<(), L
         }
     }
     if reader.line().is_empty() {
-        return Err(LineFault::End);
+        return Err(ReadFault::End);
     }
     reader.end_line()
 }

@@ -6,7 +6,7 @@ ghost use Rattle.line_reader.specs.Readers.{HasRest, fresh};
 use crate::ahead::Ahead;
 use crate::cuts::{NEWLINE, cut_at};
 use crate::piece::Piece;
-use crate::{LineFault, Why};
+use crate::{ReadFault, Why};
 use outside::{ReadOutcome, Source};
 use std::alloc::{AllocError, Global};
 use std::marker::Model;
@@ -139,7 +139,7 @@ impl Reader {
     }
 
     // Sees to it that some bytes are read ahead, and answers false where the end of the source was met.
-    pub(crate) fn fill<S: Source>(&mut self, source: &mut S) -> Result<bool, LineFault>
+    pub(crate) fn fill<S: Source>(&mut self, source: &mut S) -> Result<bool, ReadFault>
         ensures told { (rest : List ℕ) → HasRest self.old (S.left source.old) rest → HasRest self.new (S.left source.new) rest }
         ensures kept { self.new ≡ record self.old { ahead = self.new.ahead; ended = self.new.ended } }
         ensures stays { self.old.ended ≡ true → self.new.ended ≡ true }
@@ -149,7 +149,7 @@ impl Reader {
         ensures going { result ≡ Ok true → (0 < length self.new.ahead) × (self.new.ended ≡ self.old.ended) }
         ensures over { result ≡ Ok false → (self.new.ahead ≡ []) × (self.new.ended ≡ true) }
         ensures failed { IfErr result (CannotRead self.old self.new (S.faults source.old) (S.faults source.new)) }
-        ensures quiet { result ≢ Err LineFault.Read → S.faults source.new ≡ S.faults source.old }
+        ensures quiet { result ≢ Err ReadFault.Read → S.faults source.new ≡ S.faults source.old }
         ensures counts { S.faults source.old ≤ S.faults source.new }
     {
         if self.ended {
@@ -164,7 +164,7 @@ impl Reader {
                 Ok(false)
             }
             ReadOutcome::Got(_) => Ok(true),
-            ReadOutcome::Failed => Err(LineFault::Read),
+            ReadOutcome::Failed => Err(ReadFault::Read),
         }
     }
 
@@ -196,7 +196,7 @@ impl Reader {
     }
 
     // Ends a line that is not too long: it has the next number, unless that is over the greatest.
-    pub(crate) fn end_line(&mut self) -> Result<(), LineFault>
+    pub(crate) fn end_line(&mut self) -> Result<(), ReadFault>
         ensures ends { EndsLine self.old self.new result }
     {
         if self.number >= self.most {
@@ -207,21 +207,21 @@ impl Reader {
     }
 
     /// The refusal of the line that was read last.
-    pub fn refuse(&self, why: Why) -> LineFault
-        ensures { result ≡ LineFault.Refused self.now.number why }
+    pub fn refuse(&self, why: Why) -> ReadFault
+        ensures { result ≡ ReadFault.Refused self.now.number why }
     {
-        LineFault::Refused {
+        ReadFault::Refused {
             line: self.number,
             why,
         }
     }
 
     /// The refusal of the line after it.
-    pub fn refuse_next(&self, why: Why) -> LineFault
-        ensures is { result ≡ LineFault.Refused (self.now.number + 1) why }
+    pub fn refuse_next(&self, why: Why) -> ReadFault
+        ensures is { result ≡ ReadFault.Refused (self.now.number + 1) why }
         ensures few { length self.now.ahead ≤ 4096 }
     {
-        LineFault::Refused {
+        ReadFault::Refused {
             line: self.number + 1,
             why,
         }

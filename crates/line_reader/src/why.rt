@@ -25,4 +25,10 @@ pub enum Why {
     NodeUp,
     /// The packet was never sent, or no copy of it is in flight.
     NoCopy,
+    /// An earlier packet of the same source and destination is in flight, on a network that keeps their order.
+    NotFirst,
+    /// The node has not ended what its last event began.
+    NodeBusy,
+    /// The node has no event to go on with.
+    NodeIdle,
 }

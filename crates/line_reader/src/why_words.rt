@@ -21,6 +21,9 @@ impl Why {
             Why::NodeDown => b"node down",
             Why::NodeUp => b"node up",
             Why::NoCopy => b"no copy",
+            Why::NotFirst => b"not first",
+            Why::NodeBusy => b"node busy",
+            Why::NodeIdle => b"node idle",
         }
     }
 }

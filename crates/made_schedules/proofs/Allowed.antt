@@ -1,5 +1,5 @@
 -- Schedules that are made for a stack have as many steps as were asked for, and its network allows them.
-use Rattle.std.specs.Prelude.{◌≡◌, ◌≢◌, ℕ, ◌<◌, None, length, refl}
+use Rattle.std.specs.Prelude.{◌≡◌, ◌≢◌, ℕ, ◌<◌, false, None, length, refl}
 use Rattle.std.proofs.Common.{arith}
 use Rattle.handler_trait.specs.Handling.{Meaning, Recovery}
 use Rattle.kv_machine.specs.Kv.{kv}
@@ -16,6 +16,7 @@ use Rattle.seqnum_xform.specs.Numbering.{sequence_numbered}
 use Rattle.single_node.specs.SingleNode.{single_node}
 use Rattle.stacks.specs.Stack.{IfFound}
 use Rattle.stacks.specs.Table.{stack_at}
+use Rattle.vst_base.specs.Nets.{keeps_order}
 use Rattle.vst_base.specs.Stacks.{row_of}
 use Rattle.vst_base.specs.declared.net.Net.{Net}
 use Rattle.vst_base.specs.declared.net.Net.TheVariants as net
@@ -27,8 +28,8 @@ module _ {S K I O M : Type 0} (on : Net) (m : Meaning S I O M) (r : Recovery S K
   asked : length (made on m r inputs seed steps) ≡ steps
   asked = as-many on m r inputs (first_world m) 0 (generator seed) steps
 
-  taken : on ≢ net.One → 0 < m.nodes → IsAllowed on m r (made on m r inputs seed steps)
-  taken sends some = all-allowed on m r inputs (first_world m) 0 (generator seed) steps (first-has-steps on m r inputs sends some)
+  taken : on ≢ net.One → keeps_order on ≡ false → 0 < m.nodes → IsAllowed on m r (made on m r inputs seed steps)
+  taken sends free some = all-allowed on m r inputs (first_world m) 0 (generator seed) steps (first-has-steps on m r inputs sends free some)
 
 pub as-asked : (i : StackId) (seed steps : ℕ) → IfFound (stack_at (made_header i).net i) (λ e. length ((e.of (made_header i).nodes).stack.made seed steps) ≡ steps)
 as-asked stack.Lock = asked net.Bag (lock_server 4) no_recovery lock_input
@@ -43,12 +44,12 @@ as-asked stack.Table = asked net.One (single_node table) no_recovery table_input
 
 pub allowed : (i : StackId) (seed steps : ℕ) → (row_of i).net ≢ net.One
     → IfFound (stack_at (made_header i).net i) (λ e. (e.of (made_header i).nodes).stack.play.refused ((e.of (made_header i).nodes).stack.made seed steps) ≡ None)
-allowed stack.Lock seed steps sends = taken net.Bag (lock_server 4) no_recovery lock_input seed steps sends (omega arith)
-allowed stack.LockSeq seed steps sends = taken net.Dup (sequence_numbered (lock_server 4)) no_recovery lock_input seed steps sends (omega arith)
-allowed stack.KvPb seed steps sends = taken net.Bag (primary_backup kv) no_recovery kv_input seed steps sends (omega arith)
-allowed stack.KvPbSeq seed steps sends = taken net.Dup (sequence_numbered (primary_backup kv)) no_recovery kv_input seed steps sends (omega arith)
-allowed stack.KvRaft seed steps sends = taken net.Fail (raft 5 kv) (raft_recovery kv) (asked_by_client kv_input) seed steps sends (omega arith)
-allowed stack.TablePbSeq seed steps sends = taken net.Dup (sequence_numbered (primary_backup table)) no_recovery table_input seed steps sends (omega arith)
-allowed stack.TableRaft seed steps sends = taken net.Fail (raft 5 table) (raft_recovery table) (asked_by_client table_input) seed steps sends (omega arith)
+allowed stack.Lock seed steps sends = taken net.Bag (lock_server 4) no_recovery lock_input seed steps sends refl (omega arith)
+allowed stack.LockSeq seed steps sends = taken net.Dup (sequence_numbered (lock_server 4)) no_recovery lock_input seed steps sends refl (omega arith)
+allowed stack.KvPb seed steps sends = taken net.Bag (primary_backup kv) no_recovery kv_input seed steps sends refl (omega arith)
+allowed stack.KvPbSeq seed steps sends = taken net.Dup (sequence_numbered (primary_backup kv)) no_recovery kv_input seed steps sends refl (omega arith)
+allowed stack.KvRaft seed steps sends = taken net.Fail (raft 5 kv) (raft_recovery kv) (asked_by_client kv_input) seed steps sends refl (omega arith)
+allowed stack.TablePbSeq seed steps sends = taken net.Dup (sequence_numbered (primary_backup table)) no_recovery table_input seed steps sends refl (omega arith)
+allowed stack.TableRaft seed steps sends = taken net.Fail (raft 5 table) (raft_recovery table) (asked_by_client table_input) seed steps sends refl (omega arith)
 allowed stack.Kv seed steps sends = absurd (sends refl)
 allowed stack.Table seed steps sends = absurd (sends refl)

@@ -11,8 +11,8 @@ use Rattle.schedule_make.specs.Making.{CanStep, HasMade, MakingView, step_after}
 use Rattle.schedule_text.specs.Printing.{as_line, step_text, steps_text}
 use Rattle.vst_base.specs.declared.step.Step.{Step}
 use Rattle.xform_stack.specs.Running.{Progress, System, world_of}
-use Rattle.line_reader.specs.declared.fault.LineFault.{LineFault}
-use Rattle.line_reader.specs.declared.fault.LineFault.TheVariants as line
+use Rattle.line_reader.specs.declared.write_fault.WriteFault.{WriteFault}
+use Rattle.line_reader.specs.declared.write_fault.WriteFault.TheVariants as line
 use Rattle.schedule_text.specs.Sending.{HasWriteCause}
 use Rattle.stacks.specs.Stack.{Entry, Found, Here, IfFound, Nowhere, found_or, made_of}
 use Rattle.std.proofs.lemmas.Result.{on_err_weaker, on_ok_weaker}
@@ -139,7 +139,7 @@ module _ {R S K I O M G : Type 0} (sys : System S K I O M G) (follows : R → Li
       whole-front (Some held) o a b h = (length a, h ∙ ap (λ bs. Some (held ++ bs)) (sym (take-same a b)))
 
 -- what stands after a text that was written is written after it
-module _ {A : Type 0} (a b : List ℕ) (out mid out' : Option (List ℕ)) (f f1 f2 w w1 w2 : ℕ) (r : Result A LineFault) (first : Gained out mid a) (fs : f1 ≡ f) (ws : w1 ≡ w) where
+module _ {A : Type 0} (a b : List ℕ) (out mid out' : Option (List ℕ)) (f f1 f2 w w1 w2 : ℕ) (r : Result A WriteFault) (first : Gained out mid a) (fs : f1 ≡ f) (ws : w1 ≡ w) where
   both : (x o o' : Option (List ℕ)) → Gained x o a → Gained o o' b → Gained x o' (a ++ b)
   both None o o' h k = tt
   both (Some held) o o' h k = (subst (λ (p : Option (List ℕ)). Gained p o' b) h k) ∙ ap Some (append_assoc held a b)
@@ -167,7 +167,7 @@ module _ {A : Type 0} (a b : List ℕ) (out mid out' : Option (List ℕ)) (f f1 
   }
 
 -- what is said of the stack that was found is said of its text
-pub found-writes : {A : Type 0} (found : Found Entry) (text : Entry → List ℕ) (out out' : Option (List ℕ)) (f f' w w' : ℕ) (r : Result A LineFault)
+pub found-writes : {A : Type 0} (found : Found Entry) (text : Entry → List ℕ) (out out' : Option (List ℕ)) (f f' w w' : ℕ) (r : Result A WriteFault)
     → IfFound found (λ e. WritesText (text e) out out' f f' w w' r) → WritesText (found_or [] text found) out out' f f' w w' r
 found-writes Nowhere text out out' f f' w w' r none = absurd none
 found-writes (Here e) text out out' f f' w w' r is = is
@@ -182,8 +182,8 @@ longer : (a b : List ℕ) (x o : Option (List ℕ)) → GainedFront x o a → Ga
 longer a b None o h = tt
 longer a b (Some held) o h = let t = within a b h.0 in (t.0, h.1 ∙ ap (λ bs. Some (held ++ bs)) t.1)
 
-module _ {A : Type 0} (a b : List ℕ) (out out' : Option (List ℕ)) (f f' w w' : ℕ) (y : LineFault) where
-  pub broken-writes : (r : Result A LineFault) → r ≡ Err y → OnErr r (GainedFront out out' a) → IfErr r (HasWriteCause f f') → (IsErrOf r line.Memory → f' ≡ f) → (IsErrOf r line.Write → w' ≡ w) → f ≤ f'
+module _ {A : Type 0} (a b : List ℕ) (out out' : Option (List ℕ)) (f f' w w' : ℕ) (y : WriteFault) where
+  pub broken-writes : (r : Result A WriteFault) → r ≡ Err y → OnErr r (GainedFront out out' a) → IfErr r (HasWriteCause f f') → (IsErrOf r line.Memory → f' ≡ f) → (IsErrOf r line.Write → w' ≡ w) → f ≤ f'
       → WritesText (a ++ b) out out' f f' w w' r
   broken-writes (Ok x) is err fault unfailed unwanted counts = cc is
   broken-writes (Err z) is err fault unfailed unwanted counts =

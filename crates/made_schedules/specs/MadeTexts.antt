@@ -14,9 +14,10 @@ use Rattle.stacks.specs.Kinds.{header_on}
 use Rattle.stacks.specs.Stack.{AnyStack, Stack, found_or}
 use Rattle.stacks.specs.Table.{stack_at}
 
--- four nodes, five where they crash, so that a majority can outlive two, or as many as the stack can have
+-- four nodes, five where they stop, so that a majority can outlive two, or as many as the stack can have
 abbrev pub wanted_nodes : Net → ℕ
 wanted_nodes net.Fail = 5
+wanted_nodes net.Acts = 5
 wanted_nodes n = 4
 
 abbrev pub made_nodes : StackRow → ℕ

@@ -15,7 +15,7 @@ use crate::writing::Steps;
 use outside::Sink;
 use outside_mem::{SteadySink, SteadySource};
 use schedule_replay::{Done, ReplayFault, replay};
-use schedule_text::{Header, LineFault, print_text};
+use schedule_text::{Header, WriteFault, print_text};
 use stacks::on_stack;
 use std::alloc::{AllocError, Global};
 use vst_base::{Net, StackId, StackRow};
@@ -26,7 +26,8 @@ fn made_nodes(row: &StackRow) -> u8
 {
     let wanted = match row.net {
         Net::Fail => 5,
-        Net::One | Net::Bag | Net::Dup => 4,
+        Net::Acts => 5,
+        Net::One | Net::Bag | Net::Dup | Net::Ord | Net::Loss => 4,
     };
     row.most.min(wanted)
 }
@@ -60,7 +61,7 @@ fn write_schedule<K: Sink>(
     seed: u32,
     steps: u32,
     sink: &mut K,
-) -> Result<(), LineFault>
+) -> Result<(), WriteFault>
     requires sends { (row_of stack).net ≢ net.One }
     requires few { steps ≤ MAX_STEPS }
     ensures { WritesText (made_text stack seed steps) (K.written sink.old) (K.written sink.new) (K.faults sink.old) (K.faults sink.new)
@@ -103,9 +104,8 @@ pub fn make<K: Sink>(
 {
     match write_schedule(alloc, stack, seed, steps, sink) {
         Ok(()) => Ok(()),
-        Err(LineFault::Write) => Err(MakeFault::Write),
-        Err(LineFault::Memory) => Err(MakeFault::Memory),
-        Err(LineFault::Read | LineFault::End | LineFault::Refused { .. }) => unreachable!(),
+        Err(WriteFault::Write) => Err(MakeFault::Write),
+        Err(WriteFault::Memory) => Err(MakeFault::Memory),
     }
 }
 

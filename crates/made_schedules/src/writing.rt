@@ -14,7 +14,7 @@ ghost use Rattle.made_schedules.specs.Making.{WritesText};
 use app_text::AppText;
 use outside::Sink;
 use schedule_make::{MakesInputs, Making};
-use schedule_text::{LineFault, print_step};
+use schedule_text::{WriteFault, print_step};
 use stacks::{OnStack, StackCode};
 use std::alloc::Global;
 use xform_stack::Explores;
@@ -31,7 +31,7 @@ fn write_steps<
     seed: u32,
     steps: u32,
     sink: &mut K,
-) -> Result<(), LineFault>
+) -> Result<(), WriteFault>
     requires made { HasMade (R.system making.old.running) R.follows R.progress [] making.old }
     requires random { making.old.random ≡ generator seed }
     requires sound { R.sound making.old.running }
@@ -45,8 +45,8 @@ fn write_steps<
     ensures err { OnErr result (GainedFront (K.written sink.old) (K.written sink.new)
         (steps_text A.input_text (made_of (R.system making.old.running) T.inputs seed steps))) }
     ensures fault { IfErr result (HasWriteCause (K.faults sink.old) (K.faults sink.new)) }
-    ensures unfailed { IsErrOf result LineFault.Memory → K.faults sink.new ≡ K.faults sink.old }
-    ensures unwanted { IsErrOf result LineFault.Write → K.wants sink.new ≡ K.wants sink.old }
+    ensures unfailed { IsErrOf result WriteFault.Memory → K.faults sink.new ≡ K.faults sink.old }
+    ensures unwanted { IsErrOf result WriteFault.Write → K.wants sink.new ≡ K.wants sink.old }
     ensures quiet { OnOk result ((K.faults sink.new ≡ K.faults sink.old) × (K.wants sink.new ≡ K.wants sink.old)) }
     ensures counts { K.faults sink.old ≤ K.faults sink.new }
 {
@@ -66,7 +66,7 @@ pub(crate) struct Steps {
 }
 
 impl<K: Sink> OnStack<K, (), ()> for Steps {
-    type Said = Result<(), LineFault>;
+    type Said = Result<(), WriteFault>;
 
     ghost ready = { λ s a _ _ _. (s.steps ≤ MAX_STEPS) × (a.stack.play.refused (a.stack.made s.seed s.steps) ≡ None) };
 
@@ -79,7 +79,7 @@ impl<K: Sink> OnStack<K, (), ()> for Steps {
         sink: &mut K,
         _: &mut (),
         _: &mut (),
-    ) -> Result<(), LineFault> {
+    ) -> Result<(), WriteFault> {
         let running = S::start(self.alloc, nodes)?;
         let mut making = Making::new(self.alloc, running, self.seed);
         write_steps::<S::Running, S::Inputs, S::Text, K>(

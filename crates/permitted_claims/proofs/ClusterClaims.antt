@@ -1,7 +1,7 @@
 -- What a claim on a machine on a cluster holds has texts, where the claim was read.
-use Rattle.std.specs.Prelude.{◌≡◌, ℕ, List, [], ◌∷◌, map, Option, Some, None, is_none, option_and_then, refl}
+use Rattle.std.specs.Prelude.{◌≡◌, ℕ, List, [], ◌∷◌, map, Option, Some, None, ok_or, IfOk, refl}
 use Rattle.check_text.specs.Forms.{Form, claim_of, form_of}
-use Rattle.check_text.specs.ImageLines.{after_order, order_of, order_says}
+use Rattle.check_text.specs.ImageLines.{after_order, order_says}
 use Rattle.check_text.specs.Reading.{Whole}
 use Rattle.claim_verdicts.specs.Clusters.{ClusterClaim}
 use Rattle.claim_verdicts.specs.Laws.{AreSpelled, IsSpelledItem}
@@ -13,13 +13,13 @@ use Rattle.raft_text.specs.RaftTextLaws.{raft_inputs_are_spelled, raft_outputs_a
 use Rattle.raft_types.specs.declared.client.RaftInput.{RaftInput}
 use Rattle.raft_types.specs.declared.client.RaftOut.{RaftOut}
 use Rattle.raft_types.specs.declared.client.RaftOut.TheVariants as told
+use Rattle.schedule_text.specs.Reading.{and_then}
 use Rattle.stacks.specs.Kinds.{Application, clustered}
 use Rattle.stacks.specs.Stack.{Texts}
-use Rattle.vst_base.specs.Firsts.{first_of}
 use Rattle.vst_base.specs.declared.step.Item.{Item}
 use Rattle.vst_base.specs.declared.step.Item.TheVariants as item
 use Rattle.permitted_claims.specs.Spelled.{HasInputText, HasOutputText, IsSpelledMachine, IsTextItem}
-use Rattle.permitted_claims.proofs.Eaches.{IfThere, each-weaker}
+use Rattle.permitted_claims.proofs.Eaches.{each-weaker}
 use Rattle.permitted_claims.proofs.ReadClaims.{AreApart, IfSays, read-whole, said-there}
 use Rattle.permitted_claims.proofs.Verdicts.{IsDecided}
 
@@ -35,17 +35,16 @@ item-spelled nodes HasIn HasOut (item.Output n (told.Full client request)) has =
 
 -- a line of an order
 module _ {I : Type 0} (f : List ℕ → Option I) (HasIn : I → Type 0) (has_text : (bs : List ℕ) (i : I) → f bs ≡ Some i → HasIn i) where
-  text-there : (bs : List ℕ) (o : Option I) → f bs ≡ o → IfThere HasIn o
+  text-there : (bs : List ℕ) (o : Option I) → f bs ≡ o → IfOk (ok_or o why.Text) HasIn
   text-there bs None is = tt
   text-there bs (Some i) is = has_text bs i is
 
-  rest-there : (o : Option (List ℕ)) → IfThere HasIn (option_and_then f o)
+  rest-there : (o : Option (List ℕ)) → IfOk (and_then (ok_or o why.UnknownWord) (λ text. ok_or (f text) why.Text)) HasIn
   rest-there None = tt
   rest-there (Some bs) = text-there bs (f bs) refl
 
   order-text : (l : List ℕ) → IfSays HasIn (order_says f l)
-  order-text l =
-      said-there HasIn (first_of ((why.UnknownWord, is_none (after_order l)) ∷ (why.Text, is_none (order_of f l)) ∷ [])) (order_of f l) (rest-there (after_order l))
+  order-text l = said-there HasIn (and_then (ok_or (after_order l) why.UnknownWord) (λ text. ok_or (f text) why.Text)) (rest-there (after_order l))
 
 -- how a claim is spelled whose image is an order of requests
 abbrev pub order_form : {C O : Type 0} → ℕ → Texts C O → Form (RaftInput C) (RaftOut O) (RaftInput C)

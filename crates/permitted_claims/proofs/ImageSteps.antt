@@ -1,17 +1,18 @@
 -- The steps of an image that was read have lines, and lines tell such steps apart.
-use Rattle.std.specs.Prelude.{◌≡◌, ℕ, List, [], ◌∷◌, map, Option, Some, is_none, refl}
+use Rattle.std.specs.Prelude.{◌≡◌, ℕ, Bool, true, false, cond, List, [], ◌∷◌, map, Option, Some, refl}
 use Rattle.std.proofs.Common.{ap, ◌∙◌, sym}
 use Rattle.app_text.specs.Spelling.{IsSpelling}
-use Rattle.check_text.specs.ImageLines.{step_says}
+use Rattle.check_text.specs.ImageLines.{begins_as_act, said_or_refused, step_says}
+use Rattle.check_text.specs.declared.image_line.ImageLine.{ImageLine}
+use Rattle.check_text.specs.declared.image_line.ImageLine.TheVariants as line
 use Rattle.line_reader.specs.declared.why.Why.TheVariants as why
 use Rattle.linearizability.specs.Linearizable.{Each}
 use Rattle.schedule_text.specs.Printing.{step_text}
-use Rattle.schedule_text.specs.Reading.{number_in, parts_of, step_of}
+use Rattle.schedule_text.specs.Reading.{step_of, step_or_refusal}
 use Rattle.schedule_text.specs.Spellable.{IsSpellable}
 use Rattle.schedule_text.proofs.ReadBackLaws.{step-reads-back}
-use Rattle.vst_base.specs.Firsts.{first_of}
 use Rattle.vst_base.specs.declared.step.Step.{Step}
-use Rattle.permitted_claims.proofs.ReadSteps.{step-spellable}
+use Rattle.schedule_text.proofs.SpellableLaws.{step-spellable}
 use Rattle.permitted_claims.proofs.ReadClaims.{IfSays, said-there}
 
 -- lists of which each element has a text of its own are the same where their texts are
@@ -24,14 +25,16 @@ same-by P text apart (x ∷ xs) (y ∷ ys) some others e =
     let tails : map text xs ≡ map text ys = cc in
     ap (λ a. a ∷ xs) (apart x y some.0 others.0 heads) ∙ ap (λ zs. y ∷ zs) (same-by P text apart xs ys some.1 others.1 tails)
 
+unless-act : {X : Type 0} (P : X → Type 0) (b : Bool) (l : ImageLine X) → IfSays P l → IfSays P (cond b (line.Refused why.UnknownWord) l)
+unless-act P true l has = tt
+unless-act P false l has = has
+
 some-same : {A : Type 0} (a b : A) → Some a ≡ Some b → a ≡ b
 some-same a b e = cc
 
 module _ {I : Type 0} (f : List ℕ → Option I) (t : I → List ℕ) (HasIn : I → Type 0) (spelled : IsSpelling HasIn f t) where
   pub step-text : (l : List ℕ) → IfSays (IsSpellable HasIn) (step_says f l)
-  step-text l =
-      said-there (IsSpellable HasIn) (first_of ((why.UnknownWord, is_none (parts_of l)) ∷ (why.Number, is_none (number_in l)) ∷ (why.Text, is_none (step_of f l)) ∷ []))
-      (step_of f l) (step-spellable f HasIn spelled.has_text l)
+  step-text l = unless-act (IsSpellable HasIn) (begins_as_act l) (said_or_refused (step_or_refusal f 0 l)) (said-there (IsSpellable HasIn) (step_or_refusal f 0 l) (step-spellable f HasIn spelled.has_text 0 l))
 
   step-apart : (a b : Step I) → IsSpellable HasIn a → IsSpellable HasIn b → step_text t a ≡ step_text t b → a ≡ b
   step-apart a b one two e = some-same a b (sym (step-reads-back f t HasIn spelled.reads_back a one) ∙ (ap (step_of f) e ∙ step-reads-back f t HasIn spelled.reads_back b two))

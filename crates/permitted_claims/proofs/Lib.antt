@@ -1,6 +1,5 @@
 pub mod Eaches
 pub mod TextItems
-pub mod ReadSteps
 pub mod Runs
 pub mod Outputs
 pub mod Machines

@@ -1,5 +1,5 @@
 -- What holds of each value that a text is read as holds of the claims that are read.
-use Rattle.std.specs.Prelude.{◌≡◌, ℕ, Bool, true, false, ◌+◌, not, ◌&&◌, nat_lt, nat_le, is_none, List, [], ◌∷◌, Option, Some, None, option_map, option_and_then, cond, codes, refl}
+use Rattle.std.specs.Prelude.{◌≡◌, ℕ, Bool, true, false, ◌+◌, not, ◌&&◌, nat_lt, nat_le, is_none, List, [], ◌∷◌, Option, Some, None, option_map, option_and_then, cond, codes, refl, Result, Ok, Err, IfOk}
 use Rattle.std.specs.Str.{bytes_eq}
 use Rattle.std.proofs.Common.{subst, sym}
 use Rattle.std.proofs.lemmas.Bool.{ltb-true}
@@ -43,10 +43,9 @@ abbrev pub IfSays : {X : Type 0} → (X → Type 0) → ImageLine X → Type 0
 IfSays P (line.Says x) = P x
 IfSays P (line.Refused w) = Unit {0}
 
-pub said-there : {X : Type 0} (P : X → Type 0) (w : Option Why) (o : Option X) → IfThere P o → IfSays P (said_or_refused w o)
-said-there P (Some w) o has = tt
-said-there P None None has = tt
-said-there P None (Some x) has = has
+pub said-there : {X : Type 0} (P : X → Type 0) (r : Result X Why) → IfOk r P → IfSays P (said_or_refused r)
+said-there P (Err w) has = tt
+said-there P (Ok x) has = has
 
 -- no two stacks have one word
 abbrev pub AreApart : Type 0

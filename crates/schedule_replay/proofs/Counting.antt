@@ -1,4 +1,4 @@
--- The counts of a trace never pass 64 bits: a step adds at most an input and its outputs.
+-- The counts of a trace never pass 64 bits: a step adds at most what clients see of one event.
 use Rattle.std.specs.Prelude.{◌≡◌, ◌⊎◌, ℕ, ◌+◌, ◌≤◌, Bool, true, List, [], length, Option}
 use Rattle.std.proofs.Common.{inl, inr, ap, arith}
 use Rattle.std.proofs.lemmas.List.Sums.{count_by-le-length}

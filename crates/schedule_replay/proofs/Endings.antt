@@ -11,10 +11,10 @@ use Rattle.line_reader.specs.declared.why.Why.{Why}
 use Rattle.line_reader.specs.Lines.{lines_of, whole_lines, decided}
 use Rattle.line_reader.specs.Readers.{ReaderView, HasRest}
 use Rattle.line_reader.specs.Outcomes.{StandsAt}
-use Rattle.line_reader.specs.declared.fault.LineFault.{LineFault}
-use Rattle.line_reader.specs.declared.fault.LineFault.TheVariants as line
+use Rattle.line_reader.specs.declared.write_fault.WriteFault.{WriteFault}
+use Rattle.line_reader.specs.declared.write_fault.WriteFault.TheVariants as line
 use Rattle.schedule_text.specs.Sending.{HasWriteCause}
-use Rattle.schedule_replay.specs.Faults.{replay_fault}
+use Rattle.schedule_replay.specs.Faults.{write_fault}
 use Rattle.schedule_text.specs.Schedules.{Script, script}
 use Rattle.xform_stack.specs.Running.{Progress, System}
 use Rattle.schedule_replay.specs.declared.done.Done.{Done}
@@ -133,17 +133,11 @@ module _ {R S K I O M G : Type 0} (sys : System S K I O M G) (follows : R → Li
           }
 
 -- a write that failed, or want of memory
-pub rest-fails : (whole so_far : List ℕ → Replayed) (before : ℕ) (rest : List ℕ) (left' out out' : Option (List ℕ)) (f f' : ℕ) (found : LineFault) → HasWriteCause f f' found → GainedFront out out' (whole rest).out
-    → ComesTo whole so_far before rest left' out out' (Err (replay_fault found))
+pub rest-fails : (whole so_far : List ℕ → Replayed) (before : ℕ) (rest : List ℕ) (left' out out' : Option (List ℕ)) (f f' : ℕ) (found : WriteFault) → HasWriteCause f f' found → GainedFront out out' (whole rest).out
+    → ComesTo whole so_far before rest left' out out' (Err (write_fault found))
 rest-fails whole so_far before rest left' out out' f f' line.Write cause front = front
 rest-fails whole so_far before rest left' out out' f f' line.Memory cause front = front
-rest-fails whole so_far before rest left' out out' f f' line.End cause front = absurd cause
-rest-fails whole so_far before rest left' out out' f f' line.Read cause front = absurd cause
-rest-fails whole so_far before rest left' out out' f f' (line.Refused n w) cause front = absurd cause
 
-pub fails-cause : (ended : Bool) (read read' f0 f f' : ℕ) (found : LineFault) → f0 ≤ f → HasWriteCause f f' found → HasCause ended read read' f0 f' (replay_fault found)
+pub fails-cause : (ended : Bool) (read read' f0 f f' : ℕ) (found : WriteFault) → f0 ≤ f → HasWriteCause f f' found → HasCause ended read read' f0 f' (write_fault found)
 fails-cause ended read read' f0 f f' line.Write grew cause = (omega (arith, cause, grew), λ e. cc)
 fails-cause ended read read' f0 f f' line.Memory grew cause = (tt, λ e. cc)
-fails-cause ended read read' f0 f f' line.End grew cause = absurd cause
-fails-cause ended read read' f0 f f' line.Read grew cause = absurd cause
-fails-cause ended read read' f0 f f' (line.Refused n w) grew cause = absurd cause

@@ -4,8 +4,8 @@ use Rattle.std.proofs.Common.{inl, inr, ap, ◌∙◌, sym, subst, append_assoc,
 use Rattle.outside.specs.Wholes.{Gained, GainedFront}
 use Rattle.outside.proofs.Wholes.{gained-nothing}
 use Rattle.line_reader.specs.declared.why.Why.{Why}
-use Rattle.line_reader.specs.declared.fault.LineFault.{LineFault}
-use Rattle.line_reader.specs.declared.fault.LineFault.TheVariants as line
+use Rattle.line_reader.specs.declared.read_fault.ReadFault.{ReadFault}
+use Rattle.line_reader.specs.declared.read_fault.ReadFault.TheVariants as line
 use Rattle.line_reader.specs.Lines.{lines_of, whole_lines, decided}
 use Rattle.line_reader.specs.Readers.{ReaderView, HasRest, fresh}
 use Rattle.line_reader.specs.Outcomes.{Uses, HasReadCause, ReadsPast}
@@ -19,7 +19,7 @@ use Rattle.schedule_text.proofs.Skipping.{past-after}
 use Rattle.schedule_replay.specs.declared.done.Done.{Done}
 use Rattle.schedule_replay.specs.declared.fault.ReplayFault.{ReplayFault}
 use Rattle.schedule_replay.specs.declared.fault.ReplayFault.TheVariants as fault
-use Rattle.schedule_replay.specs.Faults.{replay_fault}
+use Rattle.schedule_replay.specs.Faults.{IsHeaderFault}
 use Rattle.schedule_replay.specs.Replaying.{Replayed, refused_at}
 use Rattle.schedule_replay.specs.Replays.{most_lines, replayed_by, replayed_header, replayed_opening, replayed, replayed_so_far, rest_whole, rest_so_far}
 use Rattle.stacks.specs.Stack.{Entry, Found, Here, IfFound, ImageTexts, Nowhere, Play, Texts, found_or, play_of}
@@ -41,37 +41,35 @@ gained-none : (out : Option (List ℕ)) (text : List ℕ) → text ≡ [] → Ga
 gained-none out text none = rw none (gained-nothing out)
 
 -- no header was read
-pub header-comes : (new : ReaderView) (left' out : Option (List ℕ)) (bytes : List ℕ) (found : LineFault) → ReadsHeader (fresh most_lines) new left' bytes (Err found)
-    → ComesTo replayed replayed_so_far 0 bytes left' out out (Err (replay_fault found))
-header-comes new left' out bytes line.Read (part, breaks, n, none) = record {
+pub header-comes : (new : ReaderView) (left' out : Option (List ℕ)) (bytes : List ℕ) (found : ReadFault) (answer : ReplayFault) → IsHeaderFault found answer → ReadsHeader (fresh most_lines) new left' bytes (Err found)
+    → ComesTo replayed replayed_so_far 0 bytes left' out out (Err answer)
+header-comes new left' out bytes line.Read answer is (part, breaks, n, none) = rw is (record {
   given = part;
   gave = record { others = breaks.rest'; whole = breaks.whole; left_is = breaks.left_is };
   short = breaks.short;
   taken = ap (λ (o : Opening). (replayed_opening false o).refused) none;
   written = gained-none out (replayed_so_far part).out (ap (λ (o : Opening). (replayed_opening false o).out) none);
   front = front-none out (replayed bytes).out;
-}
-header-comes new left' out bytes (line.Refused n w) (stands, refused) =
+})
+header-comes new left' out bytes (line.Refused n w) answer is (stands, refused) =
     let both = refused-opening (opening most_lines 1 (lines_of bytes)) (n, w) refused in
     let gave = given-of (fresh most_lines) new left' bytes n stands in
-    record {
+    rw is (record {
       refused = both.0;
       written = gained-none out (replayed bytes).out both.1;
       given = gave.0;
       gave = gave.1;
       later = stands.later;
       ahead = gave.2;
-    }
-header-comes new left' out bytes line.Memory reads = front-none out (replayed bytes).out
-header-comes new left' out bytes line.Write reads = absurd reads
-header-comes new left' out bytes line.End reads = absurd reads
+    })
+header-comes new left' out bytes line.Memory answer is reads = rw is (front-none out (replayed bytes).out)
+header-comes new left' out bytes line.End answer is reads = absurd reads
 
-pub header-fault : (old : ReaderView) (f f' w w' : ℕ) (found : LineFault) → HasReadCause old f f' found → HasFault f f' w w' (replay_fault found)
-header-fault old f f' w w' line.Read cause = cause.0
-header-fault old f f' w w' line.Write cause = absurd cause
-header-fault old f f' w w' line.End cause = tt
-header-fault old f f' w w' line.Memory cause = tt
-header-fault old f f' w w' (line.Refused n x) cause = tt
+pub header-fault : (old : ReaderView) (f f' w w' : ℕ) (found : ReadFault) (answer : ReplayFault) → IsHeaderFault found answer → HasReadCause old f f' found → HasFault f f' w w' answer
+header-fault old f f' w w' line.Read answer is cause = rw is cause.0
+header-fault old f f' w w' line.End answer is cause = absurd is
+header-fault old f f' w w' line.Memory answer is cause = rw is tt
+header-fault old f f' w w' (line.Refused n x) answer is cause = rw is tt
 
 -- nothing was written of a text that was read up to its header
 pub kept-header : (left out : Option (List ℕ)) (bytes : List ℕ) → HeaderIsNear (fresh most_lines) left bytes → KeptUp replayed_so_far bytes left out out

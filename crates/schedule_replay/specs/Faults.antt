@@ -1,12 +1,19 @@
--- A fault of a line as a fault of a replay. The end of a text is none, and never comes here.
-use Rattle.line_reader.specs.declared.fault.LineFault.{LineFault}
-use Rattle.line_reader.specs.declared.fault.LineFault.TheVariants as fault
+-- The faults of reads and of writes as faults of a replay.
+use Rattle.std.specs.Prelude.{◌≡◌}
+use Rattle.line_reader.specs.declared.read_fault.ReadFault.{ReadFault}
+use Rattle.line_reader.specs.declared.read_fault.ReadFault.TheVariants as read
+use Rattle.line_reader.specs.declared.write_fault.WriteFault.{WriteFault}
+use Rattle.line_reader.specs.declared.write_fault.WriteFault.TheVariants as write
 use Rattle.schedule_replay.specs.declared.fault.ReplayFault.{ReplayFault}
 use Rattle.schedule_replay.specs.declared.fault.ReplayFault.TheVariants as replay
 
-abbrev pub replay_fault : LineFault → ReplayFault
-replay_fault fault.Read = replay.Read
-replay_fault fault.Write = replay.Write
-replay_fault (fault.Refused line why) = replay.Refused line why
-replay_fault fault.Memory = replay.Memory
-replay_fault fault.End = replay.Memory
+abbrev pub write_fault : WriteFault → ReplayFault
+write_fault write.Write = replay.Write
+write_fault write.Memory = replay.Memory
+
+-- what a replay answers where its header is not read; the end of a text is never the reason
+abbrev pub IsHeaderFault : ReadFault → ReplayFault → Type 0
+IsHeaderFault read.Read answer = answer ≡ replay.Read
+IsHeaderFault read.Memory answer = answer ≡ replay.Memory
+IsHeaderFault (read.Refused line why) answer = answer ≡ replay.Refused line why
+IsHeaderFault read.End answer = ⊥

@@ -7,7 +7,7 @@ use Rattle.net_semantics.specs.Steps.{refusal_of}
 use Rattle.net_semantics.specs.Runs.{run}
 use Rattle.outside.specs.Wholes.{Gained}
 use Rattle.line_reader.specs.declared.why.Why.{Why}
-use Rattle.line_reader.specs.declared.fault.LineFault.TheVariants as fault
+use Rattle.line_reader.specs.declared.read_fault.ReadFault.TheVariants as fault
 use Rattle.line_reader.specs.Lines.{lines_of, whole_lines}
 use Rattle.line_reader.specs.Readers.{ReaderView, HasRest}
 use Rattle.line_reader.specs.Outcomes.{StandsAt, BreaksOff}

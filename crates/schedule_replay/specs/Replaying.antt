@@ -18,7 +18,7 @@ use Rattle.schedule_replay.specs.declared.done.Done.{Done}
 use Rattle.stacks.specs.ClaimTexts.{image_text}
 use Rattle.stacks.specs.Stack.{Play}
 
--- a world's refusal as a line's. Want of memory is no refusal, and never stands here
+-- a world's refusal as a line's
 abbrev pub why_of : StepRefusal → Why
 why_of refusal.NotThisNet = why.NotThisNet
 why_of refusal.NoSuchNode = why.NoSuchNode
@@ -26,7 +26,9 @@ why_of refusal.NoInputHere = why.NoInputHere
 why_of refusal.NodeDown = why.NodeDown
 why_of refusal.NodeUp = why.NodeUp
 why_of refusal.NoCopy = why.NoCopy
-why_of refusal.Memory = why.NoCopy
+why_of refusal.NotFirst = why.NotFirst
+why_of refusal.NodeBusy = why.NodeBusy
+why_of refusal.NodeIdle = why.NodeIdle
 
 -- the line of the step at a place
 abbrev pub line_at : {I : Type 0} → ℕ → List (ℕ × Step I) → ℕ

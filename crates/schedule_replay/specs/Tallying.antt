@@ -1,6 +1,6 @@
 -- How many inputs, outputs and replies were written.
 use Rattle.std.specs.Prelude.{ℕ, ◌+◌, ◌*◌, ◌^◌, ◌<◌, ◌≤◌, Bool, List, count_by}
-use Rattle.handler_trait.specs.declared.handlers.TheConstants.{MAX_OUTPUTS}
+use Rattle.net_semantics.specs.Taking.{MOST_SEEN}
 use Rattle.vst_base.specs.declared.step.Item.{Item}
 use Rattle.schedule_replay.specs.declared.tally.Tally.{Tally}
 use Rattle.schedule_replay.specs.Replaying.{is_input, is_output, is_reply_by}
@@ -18,9 +18,8 @@ pub record HasRoom (tally : Tally) (more : ℕ) : Type 0 where
   pub outputs : tally.outputs + more < 2 ^ 64
   pub replies : tally.replies + more < 2 ^ 64
 
--- with so many items that are not counted yet, no count is greater than so many steps can make it: clients see at most an input and
--- its outputs of each
+-- with so many items that are not counted yet, no count is greater than so many steps can make it
 pub record IsOfSteps (steps more : ℕ) (tally : Tally) : Type 0 where
-  pub inputs : tally.inputs + more ≤ steps * (MAX_OUTPUTS + 1)
-  pub outputs : tally.outputs + more ≤ steps * (MAX_OUTPUTS + 1)
-  pub replies : tally.replies + more ≤ steps * (MAX_OUTPUTS + 1)
+  pub inputs : tally.inputs + more ≤ steps * MOST_SEEN
+  pub outputs : tally.outputs + more ≤ steps * MOST_SEEN
+  pub replies : tally.replies + more ≤ steps * MOST_SEEN

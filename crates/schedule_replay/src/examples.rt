@@ -25,6 +25,8 @@ pub fn worked()
     ensures nothing_to_read { (replayed []).refused ≡ Some (1, Header) }
     ensures leading_zero { (replayed (codes "schedule 1 bag lock 2\ndeliver 01\n")).refused ≡ Some (2, Number) }
     ensures no_such_input { (replayed (codes "schedule 1 bag lock 2\nin 1 grab\n")).refused ≡ Some (2, Text) }
+    ensures no_acts_on_a_bag { (replayed (codes "schedule 1 bag lock 2\nact 1\n")).refused ≡ Some (2, NotThisNet) }
+    ensures no_stops_on_a_cluster { (replayed (codes "schedule 1 fail kv/raft 1\ntick 0\nstop 0 1\n")).refused ≡ Some (3, NotThisNet) }
     ensures no_copies_on_a_bag { (replayed (codes "schedule 1 bag lock 2\nin 1 lock\ndup 0\n")).refused ≡ Some (3, NotThisNet) }
     ensures word_cut_short { (replayed (codes "schedule 1 bag lock 2\ni 1 lock\n")).refused ≡ Some (2, UnknownWord) }
     ensures word_too_long { (replayed (codes "schedule 1 bag lock 2\nticks 0\n")).refused ≡ Some (2, UnknownWord) }

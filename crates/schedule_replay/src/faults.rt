@@ -1,9 +1,9 @@
 ghost use Rattle.std.specs.Prelude.{◌≡◌, ◌≢◌};
-ghost use Rattle.schedule_replay.specs.Faults.{replay_fault};
+ghost use Rattle.schedule_replay.specs.Faults.{IsHeaderFault, write_fault};
 ghost use Rattle.schedule_replay.specs.declared.fault.ReplayFault.TheVariants.{Memory};
 
 use crate::ReplayFault;
-use schedule_text::LineFault;
+use schedule_text::{ReadFault, WriteFault};
 use std::alloc::AllocError;
 
 impl From<AllocError> for ReplayFault {
@@ -14,16 +14,25 @@ impl From<AllocError> for ReplayFault {
     }
 }
 
-// A fault of a line as a fault of a replay. The end of a text is none.
-pub(crate) fn replay_fault(fault: LineFault) -> ReplayFault
-    requires { fault ≢ LineFault.End }
-    ensures { result ≡ replay_fault fault }
+// A fault of a write as a fault of a replay.
+pub(crate) fn write_fault(fault: WriteFault) -> ReplayFault
+    ensures { result ≡ write_fault fault }
 {
     match fault {
-        LineFault::Read => ReplayFault::Read,
-        LineFault::Write => ReplayFault::Write,
-        LineFault::Refused { line, why } => ReplayFault::Refused { line, why },
-        LineFault::Memory => ReplayFault::Memory,
-        LineFault::End => unreachable!(),
+        WriteFault::Write => ReplayFault::Write,
+        WriteFault::Memory => ReplayFault::Memory,
+    }
+}
+
+// Why a header was not read, as a fault of a replay. A text that ends without one is refused.
+pub(crate) fn replay_fault(fault: ReadFault) -> ReplayFault
+    requires { fault ≢ ReadFault.End }
+    ensures { IsHeaderFault fault result }
+{
+    match fault {
+        ReadFault::Read => ReplayFault::Read,
+        ReadFault::Refused { line, why } => ReplayFault::Refused { line, why },
+        ReadFault::Memory => ReplayFault::Memory,
+        ReadFault::End => unreachable!(),
     }
 }

@@ -8,7 +8,7 @@ use crate::Done;
 use crate::tally::Tally;
 use app_text::AppText;
 use outside::Sink;
-use schedule_text::{Header, LineFault, NEWLINE, Printed, print_lines, print_text};
+use schedule_text::{Header, NEWLINE, Printed, WriteFault, print_lines, print_text};
 use std::alloc::{AllocError, Global};
 
 // The line between a trace and its image, and the image's header, if it has one.
@@ -32,13 +32,13 @@ pub(crate) fn finish<A: AppText, L: Printed<A>, K: Sink>(
     events: u32,
     tally: &Tally,
     sink: &mut K,
-) -> Result<Done, LineFault>
+) -> Result<Done, WriteFault>
     ensures ok { OnOk result (Gained (K.written sink.old) (K.written sink.new) (image_text header L.text image.now)) }
     ensures err { OnErr result (GainedFront (K.written sink.old) (K.written sink.new) (image_text header L.text image.now)) }
     ensures done { IfOk result (λ done. done ≡ counted_done tally.now events image.now) }
     ensures fault { IfErr result (HasWriteCause (K.faults sink.old) (K.faults sink.new)) }
-    ensures unfailed { IsErrOf result LineFault.Memory → K.faults sink.new ≡ K.faults sink.old }
-    ensures unwanted { IsErrOf result LineFault.Write → K.wants sink.new ≡ K.wants sink.old }
+    ensures unfailed { IsErrOf result WriteFault.Memory → K.faults sink.new ≡ K.faults sink.old }
+    ensures unwanted { IsErrOf result WriteFault.Write → K.wants sink.new ≡ K.wants sink.old }
     ensures quiet { OnOk result ((K.faults sink.new ≡ K.faults sink.old) × (K.wants sink.new ≡ K.wants sink.old)) }
     ensures counts { K.faults sink.old ≤ K.faults sink.new }
 {

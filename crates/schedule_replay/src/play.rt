@@ -18,7 +18,7 @@ use crate::tally::Tally;
 use crate::writing::{write_before_reading, write_trace};
 use app_text::AppText;
 use outside::{Sink, Source};
-use schedule_text::{LineFault, Reader};
+use schedule_text::{Reader, WriteFault};
 use std::alloc::Global;
 use xform_stack::Runs;
 
@@ -31,7 +31,7 @@ pub(crate) fn play<R: Runs, A: AppText<Input = R::Input, Output = R::Output>, S:
     reader: &mut Reader,
     source: &mut S,
     sink: &mut K,
-) -> Result<Halt, LineFault>
+) -> Result<Halt, WriteFault>
     requires sound { R.sound running.old }
     requires started { HasRun (R.system running.old) R.follows R.progress [] [] running.old }
     requires tally { tally.old ≡ record { inputs = 0; outputs = 0; replies = 0 } }
@@ -50,8 +50,8 @@ pub(crate) fn play<R: Runs, A: AppText<Input = R::Input, Output = R::Output>, S:
     ensures read { result ≡ Ok Halt.Read → Rose (S.faults source.old) (S.faults source.new) }
     ensures going { result ≡ Ok Halt.Read → reader.old.ended ≡ false }
     ensures reads_quiet { result ≢ Ok Halt.Read → S.faults source.new ≡ S.faults source.old }
-    ensures unfailed { IsErrOf result LineFault.Memory → K.faults sink.new ≡ K.faults sink.old }
-    ensures unwanted { IsErrOf result LineFault.Write → K.wants sink.new ≡ K.wants sink.old }
+    ensures unfailed { IsErrOf result WriteFault.Memory → K.faults sink.new ≡ K.faults sink.old }
+    ensures unwanted { IsErrOf result WriteFault.Write → K.wants sink.new ≡ K.wants sink.old }
     ensures quiet { OnOk result ((K.faults sink.new ≡ K.faults sink.old) × (K.wants sink.new ≡ K.wants sink.old)) }
     ensures reads { S.faults source.old ≤ S.faults source.new }
     ensures writes { K.faults sink.old ≤ K.faults sink.new }

@@ -6,7 +6,7 @@ ghost use Rattle.schedule_replay.specs.Replays.{stack_so_far, stack_whole};
 ghost use Rattle.check_text.specs.declared.image_line.ImageLine.{ImageLine};
 ghost use Rattle.stacks.specs.Stack.{image_of, play_of, texts_of};
 
-use crate::faults::replay_fault;
+use crate::faults::write_fault;
 use crate::finish::finish;
 use crate::halt::Halt;
 use crate::play::play;
@@ -58,14 +58,14 @@ pub(crate) fn replay_rest<
         replies: 0,
     };
     match play::<R, A, S, K>(alloc, &mut running, &mut tally, reader, source, sink) {
-        Err(fault) => Err(replay_fault(fault)),
+        Err(fault) => Err(write_fault(fault)),
         Ok(Halt::Read) => Err(ReplayFault::Read),
         Ok(Halt::Refused(line, why)) => Err(ReplayFault::Refused { line, why }),
         Ok(Halt::End) => {
             let events = running.taken();
             match finish::<A, L, K>(alloc, below, running.image(), events, &tally, sink) {
                 Ok(done) => Ok(done),
-                Err(fault) => Err(replay_fault(fault)),
+                Err(fault) => Err(write_fault(fault)),
             }
         }
     }

@@ -15,14 +15,13 @@ ghost use Rattle.schedule_replay.specs.Replaying.{why_of};
 use crate::halt::Halt;
 use app_text::AppText;
 use outside::Source;
-use schedule_text::{LineFault, Reader, Why, read_step};
+use schedule_text::{ReadFault, Reader, Why, read_step};
 use std::alloc::{AllocError, Global};
 use vst_base::StepRefusal;
 use xform_stack::{RunFault, Runs};
 
-// A world's refusal as a line's. Want of memory is no refusal.
+// A world's refusal as a line's.
 fn why_of(refusal: StepRefusal) -> Why
-    requires { refusal ≢ StepRefusal.Memory }
     ensures { result ≡ why_of refusal }
 {
     match refusal {
@@ -32,7 +31,9 @@ fn why_of(refusal: StepRefusal) -> Why
         StepRefusal::NodeDown => Why::NodeDown,
         StepRefusal::NodeUp => Why::NodeUp,
         StepRefusal::NoCopy => Why::NoCopy,
-        StepRefusal::Memory => unreachable!(),
+        StepRefusal::NotFirst => Why::NotFirst,
+        StepRefusal::NodeBusy => Why::NodeBusy,
+        StepRefusal::NodeIdle => Why::NodeIdle,
     }
 }
 
@@ -75,11 +76,9 @@ pub(crate) fn take_step<R: Runs, A: AppText<Input = R::Input, Output = R::Output
             Err(RunFault::Memory) => Err(AllocError),
             Err(RunFault::Step(why, _)) => Ok(Some(Halt::Refused(reader.number(), why_of(why)))),
         },
-        Err(LineFault::End) => Ok(Some(Halt::End)),
-        Err(LineFault::Read) => Ok(Some(Halt::Read)),
-        Err(LineFault::Refused { line, why }) => Ok(Some(Halt::Refused(line, why))),
-        Err(LineFault::Memory) => Err(AllocError),
-        // Nothing is written here.
-        Err(LineFault::Write) => unreachable!(),
+        Err(ReadFault::End) => Ok(Some(Halt::End)),
+        Err(ReadFault::Read) => Ok(Some(Halt::Read)),
+        Err(ReadFault::Refused { line, why }) => Ok(Some(Halt::Refused(line, why))),
+        Err(ReadFault::Memory) => Err(AllocError),
     }
 }

@@ -9,7 +9,7 @@ ghost use Rattle.schedule_replay.specs.Tallying.{HasRoom};
 use crate::tally::Tally;
 use app_text::AppText;
 use outside::Sink;
-use schedule_text::{LineFault, Reader, is_line_ahead, print_trace};
+use schedule_text::{Reader, WriteFault, is_line_ahead, print_trace};
 use std::alloc::Global;
 use xform_stack::Runs;
 
@@ -19,7 +19,7 @@ pub(crate) fn write_trace<R: Runs, A: AppText<Input = R::Input, Output = R::Outp
     running: &mut R,
     tally: &mut Tally,
     sink: &mut K,
-) -> Result<(), LineFault>
+) -> Result<(), WriteFault>
     requires { HasRoom tally.old (length (R.progress running.old).trace) }
     ensures ok { OnOk result (Writes R.follows R.progress (texts_of A.input_of A.input_text A.output_of A.output_text A.replies)
         running.old running.new tally.old tally.new (K.written sink.old) (K.written sink.new)) }
@@ -28,8 +28,8 @@ pub(crate) fn write_trace<R: Runs, A: AppText<Input = R::Input, Output = R::Outp
     ensures err { OnErr result (GainedFront (K.written sink.old) (K.written sink.new)
         (trace_text A.input_text A.output_text (R.progress running.old).trace)) }
     ensures fault { IfErr result (HasWriteCause (K.faults sink.old) (K.faults sink.new)) }
-    ensures unfailed { IsErrOf result LineFault.Memory → K.faults sink.new ≡ K.faults sink.old }
-    ensures unwanted { IsErrOf result LineFault.Write → K.wants sink.new ≡ K.wants sink.old }
+    ensures unfailed { IsErrOf result WriteFault.Memory → K.faults sink.new ≡ K.faults sink.old }
+    ensures unwanted { IsErrOf result WriteFault.Write → K.wants sink.new ≡ K.wants sink.old }
     ensures quiet { OnOk result ((K.faults sink.new ≡ K.faults sink.old) × (K.wants sink.new ≡ K.wants sink.old)) }
     ensures counts { K.faults sink.old ≤ K.faults sink.new }
 {
@@ -51,7 +51,7 @@ pub(crate) fn write_before_reading<
     tally: &mut Tally,
     reader: &Reader,
     sink: &mut K,
-) -> Result<(), LineFault>
+) -> Result<(), WriteFault>
     requires { HasRoom tally.old (length (R.progress running.old).trace) }
     ensures ok { OnOk result (Waits reader.now running.old running.new tally.old tally.new (K.written sink.old) (K.written sink.new)
         ⊎ Writes R.follows R.progress (texts_of A.input_of A.input_text A.output_of A.output_text A.replies)
@@ -62,8 +62,8 @@ pub(crate) fn write_before_reading<
     ensures err { OnErr result (GainedFront (K.written sink.old) (K.written sink.new)
         (trace_text A.input_text A.output_text (R.progress running.old).trace)) }
     ensures fault { IfErr result (HasWriteCause (K.faults sink.old) (K.faults sink.new)) }
-    ensures unfailed { IsErrOf result LineFault.Memory → K.faults sink.new ≡ K.faults sink.old }
-    ensures unwanted { IsErrOf result LineFault.Write → K.wants sink.new ≡ K.wants sink.old }
+    ensures unfailed { IsErrOf result WriteFault.Memory → K.faults sink.new ≡ K.faults sink.old }
+    ensures unwanted { IsErrOf result WriteFault.Write → K.wants sink.new ≡ K.wants sink.old }
     ensures quiet { OnOk result ((K.faults sink.new ≡ K.faults sink.old) × (K.wants sink.new ≡ K.wants sink.old)) }
     ensures counts { K.faults sink.old ≤ K.faults sink.new }
 {

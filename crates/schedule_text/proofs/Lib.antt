@@ -8,3 +8,4 @@ pub mod Skipping
 pub mod Streaming
 pub mod Sending
 pub mod PrintedLaws
+pub mod SpellableLaws

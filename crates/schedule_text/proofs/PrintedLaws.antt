@@ -1,5 +1,5 @@
 -- The lines that steps are printed as, and what they are read as.
-use Rattle.std.specs.Prelude.{◌≡◌, ℕ, Bool, true, false, ◌==◌, ◌||◌, ◌+◌, ◌<◌, ◌≤◌, nat_le, is_none, List, [], ◌∷◌, length, map, Option, Some, None, option_and_then, cond, refl}
+use Rattle.std.specs.Prelude.{◌≡◌, ℕ, Bool, true, false, ◌==◌, ◌||◌, ◌+◌, ◌<◌, ◌≤◌, nat_le, List, [], ◌∷◌, length, map, Option, Some, None, Result, Ok, cond, refl}
 use Rattle.std.specs.Fmt.{decimal}
 use Rattle.std.specs.List.{list_all, list_any}
 use Rattle.std.proofs.Common.{ap, ◌∙◌, sym, append_assoc, arith}
@@ -10,7 +10,7 @@ use Rattle.vst_base.specs.declared.step.Step.{Step}
 use Rattle.vst_base.specs.declared.step.Step.TheVariants as step
 use Rattle.vst_base.specs.declared.step.StepKind.{StepKind}
 use Rattle.vst_base.specs.declared.step.StepKind.TheVariants as kind
-use Rattle.line_reader.specs.declared.why.Why.TheVariants as why
+use Rattle.line_reader.specs.declared.why.Why.{Why}
 use Rattle.line_reader.specs.Cuts.{cut_at}
 use Rattle.line_reader.specs.Lines.{lines_of}
 use Rattle.line_reader.proofs.Cutting.{none-from, none-append}
@@ -19,12 +19,12 @@ use Rattle.line_reader.proofs.Taking.{allows}
 use Rattle.schedule_text.specs.declared.line.Line.TheVariants as line
 use Rattle.schedule_text.specs.Lines.{is_skipped}
 use Rattle.schedule_text.specs.Words.{word_of, is_digit}
-use Rattle.schedule_text.specs.Reading.{Parts, parts_of, number_in, step_of, step_or_refusal, line_says, number_of, step_with}
+use Rattle.schedule_text.specs.Reading.{line_of, line_says, step_or_refusal}
 use Rattle.schedule_text.specs.Printing.{numbered, step_text, steps_text}
 use Rattle.schedule_text.specs.Schedules.{script, with_step}
 use Rattle.schedule_text.specs.Spellable.{IsSpellable, AreSpellable, numbered_steps}
 use Rattle.schedule_text.proofs.NumeralLaws.{own}
-use Rattle.schedule_text.proofs.ReadBackLaws.{step-reads-back}
+use Rattle.schedule_text.proofs.ReadBackLaws.{line-reads-back}
 use Rattle.schedule_text.proofs.ScheduleLaws.{line-said, script-by}
 
 -- texts without a newline
@@ -84,26 +84,14 @@ module _ {I : Type 0} (f : List ℕ → Option I) (t : I → List ℕ) (HasText 
   not-skipped (step.Crash n) = refl
   not-skipped (step.Reboot n) = refl
 
-  -- a line that spells a step has its parts and its number
-  pub parts-some : (o : Option Parts) (s : Step I) → option_and_then (λ p. option_and_then (λ n. step_with p.kind n (f p.text)) (number_of p.number)) o ≡ Some s
-      → (is_none o ≡ false) × (is_none (option_and_then (λ p. number_of p.number) o) ≡ false)
-  parts-some None s e = cc
-  parts-some (Some p) s e = (refl, number-some (number_of p.number) e) where
-    number-some : (n : Option ℕ) → option_and_then (λ n. step_with p.kind n (f p.text)) n ≡ Some s → is_none n ≡ false
-    number-some None e = cc
-    number-some (Some n) e = refl
-
-  says-by : (t1 a b c : Bool) (o : Option (Step I)) (s : Step I) → t1 ≡ false → a ≡ false → b ≡ false → c ≡ false → o ≡ Some s
-      → cond t1 line.Skipped (step_or_refusal (cond a (Some why.UnknownWord) (cond b (Some why.Number) (cond c (Some why.TooManyEvents) (cond (is_none o) (Some why.Text) None)))) o) ≡ line.IsStep s
-  says-by t1 a b c o s e1 e2 e3 e4 e5 = rw (e1, e2, e3, e4, e5) refl
+  says-by : (t : Bool) (r : Result (Step I) Why) (s : Step I) → t ≡ false → r ≡ Ok s → cond t line.Skipped (line_of r) ≡ line.IsStep s
+  says-by t r s e is = rw (e, is) refl
 
   says-of : (e : ℕ) (s : Step I) → IsSpellable HasText s → e < 1000000 → line_says f e (step_text t s) ≡ line.IsStep s
   says-of e s h few =
       let l = step_text t s in
-      let spelled = step-reads-back f t HasText reads s h in
-      let parts = parts-some (parts_of l) s spelled in
-      let enough : nat_le 1000000 e ≡ false = grind (arith, nat_tests) in
-      says-by (is_skipped l) (is_none (parts_of l)) (is_none (number_in l)) (nat_le 1000000 e) (step_of f l) s (not-skipped s) parts.0 parts.1 enough spelled
+      let room : nat_le 1000000 e ≡ false = grind (arith, nat_tests) in
+      says-by (is_skipped l) (step_or_refusal f e l) s (not-skipped s) (line-reads-back f t HasText reads e s h room)
 
   steps-script : (most n e : ℕ) (ss : List (Step I)) → AreSpellable HasText t ss → n + length ss ≤ most + 1 → e + length ss ≤ 1000000
       → script most f n e (map (λ s. step_text t s) ss) ≡ record { steps = numbered_steps n ss; fault = None }

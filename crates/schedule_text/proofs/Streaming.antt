@@ -1,5 +1,6 @@
 -- What a line that was read after skipped ones makes of the header, or of the next step.
-use Rattle.std.specs.Prelude.{◌≡◌, ℕ, Bool, true, false, ◌+◌, ◌<◌, ◌≤◌, nat_le, is_none, List, [], ◌∷◌, ◌++◌, length, Option, Some, None, Ok, Err, cond, refl}
+use Rattle.std.specs.Prelude.{◌≡◌, ℕ, Bool, true, false, ◌+◌, ◌<◌, ◌≤◌, nat_le, List, [], ◌∷◌, ◌++◌, length, Option, Some, None, Result, Ok, Err, cond, refl}
+use Rattle.std.specs.Result.{result_ok}
 use Rattle.std.proofs.Common.{ap, ◌∙◌, sym, subst, arith, not}
 use Rattle.std.proofs.lemmas.Bool.Decides.{nat_tests}
 use Rattle.std.proofs.lemmas.List.{append-nil}
@@ -7,8 +8,8 @@ use Rattle.vst_base.specs.Firsts.{first_of}
 use Rattle.vst_base.specs.declared.step.Step.{Step}
 use Rattle.line_reader.specs.declared.why.Why.{Why}
 use Rattle.line_reader.specs.declared.why.Why.TheVariants as why
-use Rattle.line_reader.specs.declared.fault.LineFault.{LineFault}
-use Rattle.line_reader.specs.declared.fault.LineFault.TheVariants as fault
+use Rattle.line_reader.specs.declared.read_fault.ReadFault.{ReadFault}
+use Rattle.line_reader.specs.declared.read_fault.ReadFault.TheVariants as fault
 use Rattle.line_reader.specs.Lines.{lines_of}
 use Rattle.line_reader.specs.Limits.{line_refusals}
 use Rattle.line_reader.specs.Readers.{ReaderView, HasRest}
@@ -17,41 +18,39 @@ use Rattle.line_reader.proofs.Using.{uses-more, stands-after, stands-at-end, bre
 use Rattle.schedule_text.specs.declared.header.Header.{Header}
 use Rattle.schedule_text.specs.declared.line.Line.{Line}
 use Rattle.schedule_text.specs.declared.line.Line.TheVariants as line
+use Rattle.schedule_text.specs.declared.said.Said.{Said}
 use Rattle.schedule_text.specs.Lines.{is_skipped, is_told}
 use Rattle.schedule_text.specs.Headers.{header_of}
-use Rattle.schedule_text.specs.Reading.{line_says, number_in, parts_of, step_or_refusal, step_of, step_refusals}
+use Rattle.schedule_text.specs.Reading.{and_then, line_of, line_says, said_of, step_of, step_or_refusal, step_said}
 use Rattle.schedule_text.specs.Schedules.{EndedAt, Opened, opened, opening, opening_refusal, script, script_line, no_steps, with_step, refused_script}
 use Rattle.schedule_text.specs.Streams.{HeaderIsNear, ReadsHeader, ReadsStep, StepIsNear, header_fault}
 use Rattle.schedule_text.proofs.ScheduleLaws.{opening-front, opening-skips, opening-reads, opening-refuses, script-front, line-refused, line-said, script-by}
 use Rattle.schedule_text.proofs.Skipping.{Skipped, goes-on, near-after, skipped-more, of-rest, of-part}
 
 -- the cause of a header's fault is that of the line's
-pub header-cause : (old : ReaderView) (n f f' : ℕ) (found : LineFault) → HasReadCause old f f' found → HasReadCause old f f' (header_fault n found)
+pub header-cause : (old : ReaderView) (n f f' : ℕ) (found : ReadFault) → HasReadCause old f f' found → HasReadCause old f f' (header_fault n found)
 header-cause old n f f' fault.Read cause = cause
-header-cause old n f f' fault.Write cause = cause
 header-cause old n f f' fault.End cause = tt
 header-cause old n f f' fault.Memory cause = tt
 header-cause old n f f' (fault.Refused m w) cause = tt
 
 -- it is never the end
-pub header-no-end : (n : ℕ) (found : LineFault) → ◌≡◌ {A = LineFault} (header_fault n found) fault.End → ⊥
+pub header-no-end : (n : ℕ) (found : ReadFault) → ◌≡◌ {A = ReadFault} (header_fault n found) fault.End → ⊥
 header-no-end n fault.Read e = cc
-header-no-end n fault.Write e = cc
 header-no-end n fault.End e = cc
 header-no-end n fault.Memory e = cc
 header-no-end n (fault.Refused m w) e = cc
 
 -- it is a failed read where the line's is
-pub header-other : (n : ℕ) (found : LineFault) → (◌≡◌ {A = LineFault} (header_fault n found) fault.Read → ⊥) → ◌≡◌ {A = LineFault} found fault.Read → ⊥
+pub header-other : (n : ℕ) (found : ReadFault) → (◌≡◌ {A = ReadFault} (header_fault n found) fault.Read → ⊥) → ◌≡◌ {A = ReadFault} found fault.Read → ⊥
 header-other n found other is = other (ap (header_fault n) is)
 
 -- a cause that was there before the last line is there still
-pub cause-before : (old mid : ReaderView) (f0 f f' : ℕ) (why : LineFault) → (old.ended ≡ true → mid.ended ≡ true) → f0 ≤ f → HasReadCause mid f f' why → HasReadCause old f0 f' why
+pub cause-before : (old mid : ReaderView) (f0 f f' : ℕ) (why : ReadFault) → (old.ended ≡ true → mid.ended ≡ true) → f0 ≤ f → HasReadCause mid f f' why → HasReadCause old f0 f' why
 cause-before old mid f0 f f' fault.Read stays grew cause = (omega (arith, cause.0, grew), by old.ended stays cause.1) where
   by : (t : Bool) → (t ≡ true → mid.ended ≡ true) → mid.ended ≡ false → t ≡ false
   by true h e = let both : ◌≡◌ {A = Bool} true false = sym (h refl) ∙ e in both
   by false h e = refl
-cause-before old mid f0 f f' fault.Write stays grew cause = cause
 cause-before old mid f0 f f' fault.End stays grew cause = tt
 cause-before old mid f0 f f' fault.Memory stays grew cause = tt
 cause-before old mid f0 f f' (fault.Refused n w) stays grew cause = tt
@@ -78,14 +77,13 @@ module _ (old mid new : ReaderView) (left left' : Option (List ℕ)) (rest : Lis
   allowed-there most' n l same there is = ap (λ k. first_of (line_refusals old.most k l)) (sym there) ∙ (ap (λ m. first_of (line_refusals m n l)) (sym same) ∙ is)
 
   module _ (s : Skipped (opening old.most) old mid left rest) where
-    pub header-failed : (A : Type 0) (found : LineFault) (f f' : ℕ) → new.number ≡ mid.number → HasReadCause mid f f' found → ReadsLine {A = A} mid new left' s.uses.rest' (Err found)
+    pub header-failed : (A : Type 0) (found : ReadFault) (f f' : ℕ) → new.number ≡ mid.number → HasReadCause mid f f' found → ReadsLine {A = A} mid new left' s.uses.rest' (Err found)
         → ReadsHeader old new left' rest (Err (header_fault (new.number + 1) found))
     header-failed A fault.End f f' still cause (ends, none) =
         let there = ap (λ n. n + 1) still in (
           stands-at-end old mid new left left' rest s.used s.uses (new.number + 1) none ends.left there,
           ap opening_refusal (of-rest (opening old.most) old mid left rest s ∙ ap (λ xs. opening old.most (mid.number + 1) (lines_of xs)) none) ∙ ap (λ n. Some (n, why.Header)) (sym there),
         )
-    header-failed A fault.Write f f' still cause reads = reads
     header-failed A fault.Memory f f' still cause reads = tt
     header-failed A fault.Read f f' still cause (part, breaks, none) = (
       s.used ++ part,
@@ -138,33 +136,33 @@ module _ (old mid new : ReaderView) (left left' : Option (List ℕ)) (rest : Lis
       header-skips skipped = skipped-more (opening old.most) old mid new left left' rest s used new.line u one there (λ ls. opening-skips old.most (mid.number + 1) new.line ls allows skipped)
 
 -- a line that says a step is one, and few events stand before it
-step-by : {I : Type 0} (t a b c d : Bool) (o : Option (Step I)) (s : Step I)
-    → cond t line.Skipped (step_or_refusal (cond a (Some why.UnknownWord) (cond b (Some why.Number) (cond c (Some why.TooManyEvents) (cond d (Some why.Text) None)))) o) ≡ line.IsStep s
-    → (o ≡ Some s) × (c ≡ false)
-step-by true a b c d o s e = cc
-step-by false true b c d o s e = cc
-step-by false false true c d o s e = cc
-step-by false false false true d o s e = cc
-step-by false false false false true o s e = cc
-step-by false false false false false None s e = cc
-step-by false false false false false (Some x) s e = (cc, refl)
+said-ok : {I : Type 0} (r : Result (Step I) Why) (s : Step I) → line_of r ≡ line.IsStep s → result_ok r ≡ Some s
+said-ok (Ok x) s e = cc
+said-ok (Err w) s e = cc
+
+step-by : {I : Type 0} (f : List ℕ → Option I) (t c : Bool) (r : Result (Said (List ℕ)) Why) (s : Step I)
+    → cond t line.Skipped (line_of (and_then r (λ x. cond c (Err why.TooManyEvents) (step_said f x)))) ≡ line.IsStep s
+    → (result_ok (and_then r (λ x. step_said f x)) ≡ Some s) × (c ≡ false)
+step-by f true c r s e = cc
+step-by f false c (Err w) s e = cc
+step-by f false true (Ok x) s e = cc
+step-by f false false (Ok x) s e = (said-ok (step_said f x) s e, refl)
 
 pub says-step : {I : Type 0} (f : List ℕ → Option I) (e : ℕ) (l : List ℕ) (s : Step I) → line.IsStep s ≡ line_says f e l → (step_of f l ≡ Some s) × (e < 1000000)
 says-step f e l s is =
-    let both = step-by (is_skipped l) (is_none (parts_of l)) (is_none (number_in l)) (nat_le 1000000 e) (is_none (step_of f l)) (step_of f l) s (sym is) in
+    let both = step-by f (is_skipped l) (nat_le 1000000 e) (said_of l) s (sym is) in
     let few = both.1 in
     (both.0, grind (arith, nat_tests))
 
-said-something : {I : Type 0} (w : Option Why) (o : Option (Step I)) → step_or_refusal w o ≡ line.Skipped → ⊥
-said-something (Some w) o e = cc
-said-something None (Some s) e = cc
-said-something None None e = cc
+said-something : {I : Type 0} (r : Result (Step I) Why) → line_of r ≡ line.Skipped → ⊥
+said-something (Ok s) e = cc
+said-something (Err w) e = cc
 
 -- a line that is not skipped says something
 pub not-skips : {I : Type 0} (f : List ℕ → Option I) (e : ℕ) (l : List ℕ) → is_skipped l ≡ false → line.Skipped ≡ line_says f e l → ⊥
 not-skips f e l tells is =
-    let said = step_or_refusal (first_of (step_refusals f e l)) (step_of f l) in
-    said-something (first_of (step_refusals f e l)) (step_of f l) (sym (is ∙ ap (λ t. cond t line.Skipped said) tells))
+    let said = step_or_refusal f e l in
+    said-something said (sym (is ∙ ap (λ t. cond t line.Skipped (line_of said)) tells))
 
 not-true : (t : Bool) → not t ≡ true → t ≡ false
 not-true true e = cc
@@ -177,9 +175,8 @@ told-cut (Some cut) e = (cut, refl, not-true (is_skipped cut.0) e)
 
 module _ {I : Type 0} (f : List ℕ → Option I) (old mid new : ReaderView) (left left' : Option (List ℕ)) (rest : List ℕ) (most : mid.most ≡ old.most) where
   module _ (s : Skipped (λ n ls. script old.most f n old.events ls) old mid left rest) where
-    pub step-failed : (A : Type 0) (found : LineFault) (f0 f' : ℕ) → HasReadCause mid f0 f' found → ReadsLine {A = A} mid new left' s.uses.rest' (Err found) → ReadsStep f old new left' rest (Err found)
+    pub step-failed : (A : Type 0) (found : ReadFault) (f0 f' : ℕ) → HasReadCause mid f0 f' found → ReadsLine {A = A} mid new left' s.uses.rest' (Err found) → ReadsStep f old new left' rest (Err found)
     step-failed A fault.End f0 f' cause reads = (reads.0, of-rest (λ n ls. script old.most f n old.events ls) old mid left rest s ∙ ap (λ xs. script old.most f (mid.number + 1) old.events (lines_of xs)) reads.1)
-    step-failed A fault.Write f0 f' cause reads = reads
     step-failed A fault.Memory f0 f' cause reads = tt
     step-failed A fault.Read f0 f' cause (part, breaks, none) = (
       s.used ++ part,

@@ -2,7 +2,7 @@
 use Rattle.std.specs.Prelude.{ℕ, List, [], Option, Result, codes, false}
 use Rattle.app_text.specs.LockTexts.{input_of}
 use Rattle.line_reader.specs.Readers.{ReaderView, fresh}
-use Rattle.line_reader.specs.declared.fault.LineFault.{LineFault}
+use Rattle.line_reader.specs.declared.read_fault.ReadFault.{ReadFault}
 use Rattle.vst_base.specs.declared.lock.LockInput.{LockInput}
 use Rattle.vst_base.specs.declared.net.Net.TheVariants as net
 use Rattle.vst_base.specs.declared.stack.StackId.TheVariants as stack
@@ -18,10 +18,10 @@ abbrev pub header : Header
 header = record { net = net.Bag; stack = stack.Lock; nodes = 2 }
 
 -- how a text opens, and what the next step after its header is, where the reader is this afterwards and the source has this left
-abbrev pub opens : List ℕ → ReaderView → Option (List ℕ) → Result Header LineFault → Type 0
+abbrev pub opens : List ℕ → ReaderView → Option (List ℕ) → Result Header ReadFault → Type 0
 opens text new left r = ReadsHeader (fresh 2000000) new left text r
 
-abbrev pub steps : List ℕ → ReaderView → Option (List ℕ) → Result (Step LockInput) LineFault → Type 0
+abbrev pub steps : List ℕ → ReaderView → Option (List ℕ) → Result (Step LockInput) ReadFault → Type 0
 steps text new left r = ReadsStep input_of (reader 1 (codes "schedule 1 bag lock 2") 0) new left text r
 
 -- how far was read past skipped lines of a text, before its header and after it

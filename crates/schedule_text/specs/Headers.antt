@@ -15,6 +15,9 @@ net_word net.One = codes "one"
 net_word net.Bag = codes "bag"
 net_word net.Dup = codes "dup"
 net_word net.Fail = codes "fail"
+net_word net.Ord = codes "ord"
+net_word net.Loss = codes "loss"
+net_word net.Acts = codes "acts"
 
 -- a word and the space after it
 abbrev pub spaced : List ℕ → List ℕ

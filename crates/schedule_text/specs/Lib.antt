@@ -6,7 +6,7 @@ pub mod HeaderLaws
 pub mod Schedules
 pub mod Printing
 pub mod Spellable
-pub mod PartViews
+pub mod SaidViews
 pub mod Streams
 pub mod Sending
 pub mod Examples

@@ -2,16 +2,13 @@
 use Rattle.std.specs.Prelude.{◌≡◌, ℕ, List, ◌++◌, Option}
 use Rattle.outside.specs.Counting.{Rose}
 use Rattle.outside.specs.Wholes.{Gained}
-use Rattle.line_reader.specs.declared.fault.LineFault.{LineFault}
-use Rattle.line_reader.specs.declared.fault.LineFault.TheVariants as fault
+use Rattle.line_reader.specs.declared.write_fault.WriteFault.{WriteFault}
+use Rattle.line_reader.specs.declared.write_fault.WriteFault.TheVariants as fault
 
--- a failed write has its fault. Nothing is read
-abbrev pub HasWriteCause : ℕ → ℕ → LineFault → Type 0
+-- a failed write has its fault
+abbrev pub HasWriteCause : ℕ → ℕ → WriteFault → Type 0
 HasWriteCause faults faults' fault.Write = Rose faults faults'
 HasWriteCause faults faults' fault.Memory = Unit {0}
-HasWriteCause faults faults' fault.End = ⊥
-HasWriteCause faults faults' fault.Read = ⊥
-HasWriteCause faults faults' (fault.Refused number w) = ⊥
 
 -- some of the text that was gathered was written, and the rest is gathered still
 abbrev pub Spilled : Option (List ℕ) → Option (List ℕ) → List ℕ → List ℕ → Type 0

@@ -5,6 +5,8 @@ use Rattle.std.specs.Str.{bytes_eq}
 use Rattle.line_reader.specs.Cuts.{cut_at}
 use Rattle.vst_base.specs.declared.step.StepKind.{StepKind}
 use Rattle.vst_base.specs.declared.step.StepKind.TheVariants as kind
+use Rattle.schedule_text.specs.declared.line_word.LineWord.{LineWord}
+use Rattle.schedule_text.specs.declared.line_word.LineWord.TheVariants as word
 
 -- what stands before the first space and after it, if there is one
 abbrev pub cut : List ℕ → Option (List ℕ × List ℕ)
@@ -38,16 +40,24 @@ word_of kind.Lose = codes "lose"
 word_of kind.Crash = codes "crash"
 word_of kind.Reboot = codes "reboot"
 
-abbrev pub kinds : List StepKind
-kinds = kind.In ∷ kind.Deliver ∷ kind.Tick ∷ kind.Dup ∷ kind.Lose ∷ kind.Crash ∷ kind.Reboot ∷ []
-
 abbrev pub is_text : List ℕ → List ℕ → Bool
 is_text a b = bytes_eq a b
 
--- the kind that has this word
-abbrev pub kind_among : List StepKind → List ℕ → Option StepKind
-kind_among [] w = None
-kind_among (k ∷ ks) w = if is_text w (word_of k) then Some k else kind_among ks w
+-- the words of step lines: those of the kinds of step, and of acts of a device and of stops
+abbrev pub line_word : LineWord → List ℕ
+line_word (word.Step k) = word_of k
+line_word word.Act = codes "act"
+line_word word.Stop = codes "stop"
 
-abbrev pub kind_named : List ℕ → Option StepKind
-kind_named w = kind_among kinds w
+abbrev pub line_words : List LineWord
+line_words =
+    word.Step kind.In ∷ word.Step kind.Deliver ∷ word.Step kind.Tick ∷ word.Step kind.Dup ∷ word.Step kind.Lose
+    ∷ word.Step kind.Crash ∷ word.Step kind.Reboot ∷ word.Act ∷ word.Stop ∷ []
+
+-- what has this word, if something has it
+abbrev pub word_among : List LineWord → List ℕ → Option LineWord
+word_among [] bs = None
+word_among (w ∷ ws) bs = if is_text bs (line_word w) then Some w else word_among ws bs
+
+abbrev pub word_named : List ℕ → Option LineWord
+word_named bs = word_among line_words bs

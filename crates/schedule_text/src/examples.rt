@@ -6,8 +6,9 @@ ghost use Rattle.schedule_text.specs.Lines.{tells_next};
 ghost use Rattle.schedule_text.specs.Printing.{item_text, refusal_line, step_text, steps_text, trace_text};
 ghost use Rattle.schedule_text.specs.Reading.{number_of, read_line, step_of};
 ghost use Rattle.schedule_text.specs.Schedules.{opening, script, Opened, RefusedAt, EndedAt};
-ghost use Rattle.schedule_text.specs.Words.{kind_named};
+ghost use Rattle.schedule_text.specs.Words.{word_named};
 
+use crate::line_word::LineWord;
 use crate::{Header, Line};
 use line_reader::Why;
 use vst_base::{Item, LockInput, LockOutput, Net, StackId, Step, StepKind};
@@ -21,10 +22,11 @@ pub fn worked_words()
     ensures too_great { number_of (codes "4294967296") ≡ None }
     ensures signed { number_of (codes "+5") ≡ None }
     ensures two_digits { number_of (codes "12") ≡ Some 12 }
-    ensures front_of_a_word { kind_named (codes "i") ≡ None }
-    ensures no_word { kind_named (codes "inn") ≡ None }
-    ensures longer_word { kind_named (codes "ticks") ≡ None }
-    ensures word { kind_named (codes "in") ≡ Some StepKind.In }
+    ensures front_of_a_word { (word_named (codes "i") ≡ None) × (word_named (codes "sto") ≡ None) }
+    ensures no_word { word_named (codes "inn") ≡ None }
+    ensures longer_word { (word_named (codes "ticks") ≡ None) × (word_named (codes "acts") ≡ None) }
+    ensures word { word_named (codes "in") ≡ Some (LineWord.Step StepKind.In) }
+    ensures words_of_no_step { (word_named (codes "act") ≡ Some LineWord.Act) × (word_named (codes "stop") ≡ Some LineWord.Stop) }
     ensures told_next { tells_next (codes "tick 0\n# more") ≡ true }
     ensures not_to_its_end { tells_next (codes "tick 0") ≡ false }
     ensures a_comment_is_next { tells_next (codes "# more\ntick 0\n") ≡ false }
@@ -62,6 +64,7 @@ pub fn worked_headers()
     ensures table_cluster { header_of (codes "schedule 1 fail table/raft 9") ≡ Some (record { net = Net.Fail; stack = StackId.TableRaft; nodes = 9 }) }
     ensures table_elsewhere { (header_of (codes "schedule 1 bag table/pb/seq 2") ≡ None) × (header_of (codes "schedule 1 bag table/pb 2") ≡ None) }
     ensures other_stacks_failing { (header_of (codes "schedule 1 fail kv/pb 2") ≡ None) × (header_of (codes "schedule 1 fail kv 1") ≡ None) }
+    ensures networks_without_a_stack { (header_of (codes "schedule 1 ord lock 2") ≡ None) × (header_of (codes "schedule 1 loss lock/seq 2") ≡ None) × (header_of (codes "schedule 1 acts kv/raft 1") ≡ None) }
     ensures text { header_text (record { net = Net.Bag; stack = StackId.Lock; nodes = 2 }) ≡ codes "schedule 1 bag lock 2" }
     ensures numbered_text { header_text (record { net = Net.Dup; stack = StackId.LockSeq; nodes = 9 }) ≡ codes "schedule 1 dup lock/seq 9" }
     ensures cluster_text { header_text (record { net = Net.Fail; stack = StackId.KvRaft; nodes = 9 }) ≡ codes "schedule 1 fail kv/raft 9" }
@@ -88,8 +91,14 @@ pub fn worked_steps()
     ensures two_spaces { read_line 2000000 input_of 2 0 (codes "in  1 lock") ≡ Line.Refused Why.Number }
     ensures space_after { read_line 2000000 input_of 2 0 (codes "tick 5 ") ≡ Line.Refused Why.Number }
     ensures no_input { (read_line 2000000 input_of 2 0 (codes "in 1 grab") ≡ Line.Refused Why.Text) × (step_of input_of (codes "in 1 grab") ≡ None) }
+    ensures acts { (read_line 2000000 input_of 2 0 (codes "act 0") ≡ Line.Refused Why.NotThisNet) × (step_of input_of (codes "act 0") ≡ None) }
+    ensures stops { (read_line 2000000 input_of 2 0 (codes "stop 0 1") ≡ Line.Refused Why.NotThisNet) × (read_line 2000000 input_of 2 0 (codes "stop 4294967295 0") ≡ Line.Refused Why.NotThisNet) × (step_of input_of (codes "stop 0 1") ≡ None) }
+    ensures act_without_a_number { (read_line 2000000 input_of 2 0 (codes "act") ≡ Line.Refused Why.UnknownWord) × (read_line 2000000 input_of 2 0 (codes "act x") ≡ Line.Refused Why.Number) × (read_line 2000000 input_of 2 0 (codes "act ") ≡ Line.Refused Why.Number) × (read_line 2000000 input_of 2 0 (codes "act 0 1") ≡ Line.Refused Why.Number) × (read_line 2000000 input_of 2 0 (codes "act 4294967296") ≡ Line.Refused Why.Number) }
+    ensures stop_without_its_spaces { (read_line 2000000 input_of 2 0 (codes "stop") ≡ Line.Refused Why.UnknownWord) × (read_line 2000000 input_of 2 0 (codes "stop 0") ≡ Line.Refused Why.UnknownWord) × (read_line 2000000 input_of 2 0 (codes "stop x") ≡ Line.Refused Why.UnknownWord) }
+    ensures stop_without_its_numbers { (read_line 2000000 input_of 2 0 (codes "stop x 1") ≡ Line.Refused Why.Number) × (read_line 2000000 input_of 2 0 (codes "stop 0 x") ≡ Line.Refused Why.Number) × (read_line 2000000 input_of 2 0 (codes "stop 0 ") ≡ Line.Refused Why.Number) × (read_line 2000000 input_of 2 0 (codes "stop 0 1 2") ≡ Line.Refused Why.Number) × (read_line 2000000 input_of 2 0 (codes "stop  0 1") ≡ Line.Refused Why.Number) }
     ensures several { script 2000000 input_of 2 0 (codes "in 1 lock" ∷ codes "# then" ∷ codes "deliver 0" ∷ []) ≡ record { steps = (2, Step.In 1 LockInput.Lock) ∷ (4, Step.Deliver 0) ∷ []; fault = None } }
     ensures up_to_a_fault { script 2000000 input_of 2 0 (codes "tick 0" ∷ codes "" ∷ codes "tick" ∷ codes "tick 0" ∷ []) ≡ record { steps = (2, Step.Tick 0) ∷ []; fault = Some (4, Why.UnknownWord) } }
+    ensures up_to_an_act { script 2000000 input_of 2 0 (codes "tick 0" ∷ codes "act 0" ∷ codes "tick 0" ∷ []) ≡ record { steps = (2, Step.Tick 0) ∷ []; fault = Some (3, Why.NotThisNet) } }
 {}
 
 /// Which of several refusals a line after a header gets, and the borders of the limits, on examples.
@@ -98,7 +107,10 @@ pub fn worked_limits()
     ensures number_before_text { read_line 2000000 input_of 2 0 (codes "in 01 grab") ≡ Line.Refused Why.Number }
     ensures word_before_events { read_line 2000000 input_of 2 1000000 (codes "foo 1") ≡ Line.Refused Why.UnknownWord }
     ensures number_before_events { read_line 2000000 input_of 2 1000000 (codes "in 01 grab") ≡ Line.Refused Why.Number }
+    ensures act_word_before_events { (read_line 2000000 input_of 2 1000000 (codes "act") ≡ Line.Refused Why.UnknownWord) × (read_line 2000000 input_of 2 1000000 (codes "stop 0") ≡ Line.Refused Why.UnknownWord) }
+    ensures act_number_before_events { (read_line 2000000 input_of 2 1000000 (codes "act x") ≡ Line.Refused Why.Number) × (read_line 2000000 input_of 2 1000000 (codes "stop 0 x") ≡ Line.Refused Why.Number) }
     ensures events_before_text { read_line 2000000 input_of 2 1000000 (codes "in 1 grab") ≡ Line.Refused Why.TooManyEvents }
+    ensures events_before_network { (read_line 2000000 input_of 2 1000000 (codes "act 0") ≡ Line.Refused Why.TooManyEvents) × (read_line 2000000 input_of 2 1000000 (codes "stop 0 1") ≡ Line.Refused Why.TooManyEvents) × (read_line 2000000 input_of 2 999999 (codes "act 0") ≡ Line.Refused Why.NotThisNet) }
     ensures event_too_many { read_line 2000000 input_of 2 1000000 (codes "tick 0") ≡ Line.Refused Why.TooManyEvents }
     ensures last_event { read_line 2000000 input_of 2 999999 (codes "tick 0") ≡ Line.IsStep (Step.Tick 0) }
     ensures skipped_after_events { read_line 2000000 input_of 2 1000000 (codes "#") ≡ Line.Skipped }

@@ -17,6 +17,9 @@ fn net_word(net: Net) -> &'static [u8]
         Net::Bag => b"bag",
         Net::Dup => b"dup",
         Net::Fail => b"fail",
+        Net::Ord => b"ord",
+        Net::Loss => b"loss",
+        Net::Acts => b"acts",
     }
 }
 

@@ -2,8 +2,7 @@ ghost use Rattle.std.specs.Prelude.{◌≡◌, ℕ, ◌∷◌, ◌++◌, List, O
 ghost use Rattle.schedule_text.specs.Printing.{as_line, item_text, numbered, refusal_line, step_text};
 
 use crate::numbers::push_number;
-use crate::parts::SPACE;
-use crate::words::word_of;
+use crate::words::{SPACE, word_of};
 use app_text::AppText;
 use line_reader::{NEWLINE, Why};
 use std::alloc::AllocError;

@@ -1,18 +1,38 @@
 ghost use Rattle.std.specs.Prelude.{◌≡◌, IfOk};
-ghost use Rattle.vst_base.specs.Firsts.{first_of};
-ghost use Rattle.schedule_text.specs.Reading.{line_says, step_of, step_or_refusal, step_refusals};
+ghost use Rattle.schedule_text.specs.Reading.{line_of, line_says, step_or_refusal, step_said};
+ghost use Rattle.schedule_text.specs.SaidViews.{said_view};
 
 use crate::Line;
-use crate::line_parts::parts_of;
+use crate::said::Said;
+use crate::saying::said_of;
 use crate::skips::is_skipped;
-use crate::words::number_of;
 use app_text::{AppText, TextFault};
 use line_reader::Why;
 use std::alloc::{AllocError, Global};
-use vst_base::{MAX_STEPS, Step, StepKind};
+use vst_base::{MAX_STEPS, Step};
 
 /// The greatest number of lines of a schedule.
 pub const MAX_LINES: u32 = 2_000_000;
+
+// The step that is said, once the text of an input is read, or why there is none.
+fn step_said<A: AppText>(alloc: Global, said: Said<&[u8]>) -> Result<Line<A::Input>, AllocError>
+    ensures { IfOk result (λ l. l ≡ line_of (step_said A.input_of (said_view said.entry))) }
+{
+    match said {
+        Said::Step(Step::In(n, text)) => match A::read_input(alloc, text) {
+            Ok(input) => Ok(Line::IsStep(Step::In(n, input))),
+            Err(TextFault::NotText) => Ok(Line::Refused(Why::Text)),
+            Err(TextFault::Memory) => Err(AllocError),
+        },
+        Said::Step(Step::Deliver(k)) => Ok(Line::IsStep(Step::Deliver(k))),
+        Said::Step(Step::Tick(n)) => Ok(Line::IsStep(Step::Tick(n))),
+        Said::Step(Step::Dup(k)) => Ok(Line::IsStep(Step::Dup(k))),
+        Said::Step(Step::Lose(k)) => Ok(Line::IsStep(Step::Lose(k))),
+        Said::Step(Step::Crash(n)) => Ok(Line::IsStep(Step::Crash(n))),
+        Said::Step(Step::Reboot(n)) => Ok(Line::IsStep(Step::Reboot(n))),
+        Said::Act(_) | Said::Stop(_, _) => Ok(Line::Refused(Why::NotThisNet)),
+    }
+}
 
 // A line that is not skipped, after so many events: its step, or why it is refused.
 fn step_line<A: AppText>(
@@ -20,30 +40,16 @@ fn step_line<A: AppText>(
     events: u32,
     line: &[u8],
 ) -> Result<Line<A::Input>, AllocError>
-    ensures { IfOk result (λ l. l ≡ step_or_refusal (first_of (step_refusals A.input_of events line.now)) (step_of A.input_of line.now)) }
+    ensures { IfOk result (λ l. l ≡ line_of (step_or_refusal A.input_of events line.now)) }
 {
-    let Some(parts) = parts_of(line) else {
-        return Ok(Line::Refused(Why::UnknownWord));
-    };
-    let Some(n) = number_of(parts.number) else {
-        return Ok(Line::Refused(Why::Number));
+    let said = match said_of(line) {
+        Ok(said) => said,
+        Err(why) => return Ok(Line::Refused(why)),
     };
     if events >= MAX_STEPS {
         return Ok(Line::Refused(Why::TooManyEvents));
     }
-    match parts.kind {
-        StepKind::In => match A::read_input(alloc, parts.text) {
-            Ok(input) => Ok(Line::IsStep(Step::In(n, input))),
-            Err(TextFault::NotText) => Ok(Line::Refused(Why::Text)),
-            Err(TextFault::Memory) => Err(AllocError),
-        },
-        StepKind::Deliver => Ok(Line::IsStep(Step::Deliver(n))),
-        StepKind::Tick => Ok(Line::IsStep(Step::Tick(n))),
-        StepKind::Dup => Ok(Line::IsStep(Step::Dup(n))),
-        StepKind::Lose => Ok(Line::IsStep(Step::Lose(n))),
-        StepKind::Crash => Ok(Line::IsStep(Step::Crash(n))),
-        StepKind::Reboot => Ok(Line::IsStep(Step::Reboot(n))),
-    }
+    step_said::<A>(alloc, said)
 }
 
 /// What a line after the header says that is neither too long nor one too many, after so many events.

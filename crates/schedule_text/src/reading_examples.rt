@@ -1,16 +1,15 @@
 ghost use Rattle.std.specs.Prelude.{[], ◌++◌, Err, None, Ok, Some, codes, replicate};
 ghost use Rattle.schedule_text.specs.Examples.{header, header_near, opens, reader, step_near, steps};
 
-use line_reader::LineFault;
+use line_reader::ReadFault;
 use vst_base::{LockInput, Step};
 
 /// The header of a text, after a line that is skipped: at its own line, and no other header. A text may end before one, or break off.
 pub fn worked_openings()
     ensures opens { opens (codes "#\nschedule 1 bag lock 2\n") (reader 2 (codes "schedule 1 bag lock 2") 0) (Some []) (Ok header) }
     ensures uncounted { opens (codes "#\nschedule 1 bag lock 2\n") (reader 1 (codes "schedule 1 bag lock 2") 0) (Some []) (Ok header) → ⊥ }
-    ensures broke_off { opens (codes "#\nsched") (reader 1 (codes "s") 0) (Some (codes "ched")) (Err LineFault.Read) }
-    ensures no_end { opens [] (reader 0 [] 0) (Some []) (Err LineFault.End) → ⊥ }
-    ensures nothing_is_written { opens [] (reader 0 [] 0) (Some []) (Err LineFault.Write) → ⊥ }
+    ensures broke_off { opens (codes "#\nsched") (reader 1 (codes "s") 0) (Some (codes "ched")) (Err ReadFault.Read) }
+    ensures no_end { opens [] (reader 0 [] 0) (Some []) (Err ReadFault.End) → ⊥ }
 {}
 
 /// The next step of a text: at its own line, and no other step.
@@ -19,9 +18,8 @@ pub fn worked_nexts()
     ensures after_a_comment { steps (codes "#\ntick 0\n") (reader 3 (codes "tick 0") 1) (Some []) (Ok (Step.Tick 0)) }
     ensures uncounted { steps (codes "#\ntick 0\n") (reader 2 (codes "tick 0") 1) (Some []) (Ok (Step.Tick 0)) → ⊥ }
     ensures another { steps (codes "tick 0\n") (reader 2 (codes "tick 0") 1) (Some []) (Ok (Step.In 1 LockInput.Lock)) → ⊥ }
-    ensures broke_off { steps (codes "tick 0\n") (reader 1 (codes "tick") 0) (Some (codes " 0\n")) (Err LineFault.Read) }
-    ensures the_end_before_it { steps (codes "tick 0\n") (reader 1 [] 0) (Some []) (Err LineFault.End) → ⊥ }
-    ensures nothing_is_written { steps (codes "tick 0\n") (reader 1 [] 0) (Some []) (Err LineFault.Write) → ⊥ }
+    ensures broke_off { steps (codes "tick 0\n") (reader 1 (codes "tick") 0) (Some (codes " 0\n")) (Err ReadFault.Read) }
+    ensures the_end_before_it { steps (codes "tick 0\n") (reader 1 [] 0) (Some []) (Err ReadFault.End) → ⊥ }
 {}
 
 /// How far past skipped lines was read: no more than 4,096 bytes, and not past the header or a step too.

@@ -6,40 +6,40 @@ ghost use Rattle.schedule_text.specs.Sending.{HasWriteCause, Spilled};
 
 use crate::printing::Printed;
 use app_text::AppText;
-use line_reader::LineFault;
-use outside::{Sink, WriteFault, write_all};
+use line_reader::WriteFault;
+use outside::{Sink, WriteFault as SinkFault, write_all};
 use std::alloc::Global;
 use vst_base::{Item, Step};
 
 /// How many bytes are gathered before they are written.
 const PIECE: usize = 4_096;
 
-/// Writes a text. At an `Err`, which is `Write` or `Memory`, a front of it was written.
-pub fn print_text<K: Sink>(sink: &mut K, text: &[u8]) -> Result<(), LineFault>
+/// Writes a text. At an `Err` a front of it was written.
+pub fn print_text<K: Sink>(sink: &mut K, text: &[u8]) -> Result<(), WriteFault>
     ensures ok { OnOk result (Gained (K.written sink.old) (K.written sink.new) text.now) }
     ensures err { OnErr result (GainedFront (K.written sink.old) (K.written sink.new) text.now) }
     ensures fault { IfErr result (HasWriteCause (K.faults sink.old) (K.faults sink.new)) }
-    ensures memory { IsErrOf result LineFault.Memory → Rose (K.wants sink.old) (K.wants sink.new) }
-    ensures unfailed { IsErrOf result LineFault.Memory → K.faults sink.new ≡ K.faults sink.old }
-    ensures unwanted { IsErrOf result LineFault.Write → K.wants sink.new ≡ K.wants sink.old }
+    ensures memory { IsErrOf result WriteFault.Memory → Rose (K.wants sink.old) (K.wants sink.new) }
+    ensures unfailed { IsErrOf result WriteFault.Memory → K.faults sink.new ≡ K.faults sink.old }
+    ensures unwanted { IsErrOf result WriteFault.Write → K.wants sink.new ≡ K.wants sink.old }
     ensures quiet { OnOk result ((K.faults sink.new ≡ K.faults sink.old) × (K.wants sink.new ≡ K.wants sink.old)) }
     ensures counts { K.faults sink.old ≤ K.faults sink.new }
 {
     match write_all(sink, text) {
         Ok(()) => Ok(()),
-        Err(WriteFault::Failed) => Err(LineFault::Write),
-        Err(WriteFault::Memory) => Err(LineFault::Memory),
+        Err(SinkFault::Failed) => Err(WriteFault::Write),
+        Err(SinkFault::Memory) => Err(WriteFault::Memory),
     }
 }
 
 // Writes what was gathered, once it is enough for a write.
-fn spill<K: Sink>(sink: &mut K, text: &mut Vec<u8>) -> Result<(), LineFault>
+fn spill<K: Sink>(sink: &mut K, text: &mut Vec<u8>) -> Result<(), WriteFault>
     ensures ok { OnOk result (Spilled (K.written sink.old) (K.written sink.new) text.old.items text.new.items) }
     ensures err { OnErr result (GainedFront (K.written sink.old) (K.written sink.new) text.old.items) }
     ensures fault { IfErr result (HasWriteCause (K.faults sink.old) (K.faults sink.new)) }
-    ensures memory { IsErrOf result LineFault.Memory → Rose (K.wants sink.old) (K.wants sink.new) }
-    ensures unfailed { IsErrOf result LineFault.Memory → K.faults sink.new ≡ K.faults sink.old }
-    ensures unwanted { IsErrOf result LineFault.Write → K.wants sink.new ≡ K.wants sink.old }
+    ensures memory { IsErrOf result WriteFault.Memory → Rose (K.wants sink.old) (K.wants sink.new) }
+    ensures unfailed { IsErrOf result WriteFault.Memory → K.faults sink.new ≡ K.faults sink.old }
+    ensures unwanted { IsErrOf result WriteFault.Write → K.wants sink.new ≡ K.wants sink.old }
     ensures quiet { OnOk result ((K.faults sink.new ≡ K.faults sink.old) × (K.wants sink.new ≡ K.wants sink.old)) }
     ensures counts { K.faults sink.old ≤ K.faults sink.new }
 {
@@ -51,18 +51,17 @@ fn spill<K: Sink>(sink: &mut K, text: &mut Vec<u8>) -> Result<(), LineFault>
     Ok(())
 }
 
-/// Writes a line for each of some things, in order. At an `Err`, which is `Write` or `Memory`, a front of them was
-/// written.
+/// Writes a line for each of some things, in order. At an `Err` a front of them was written.
 pub fn print_lines<A: AppText, P: Printed<A>, K: Sink>(
     alloc: Global,
     sink: &mut K,
     lines: &[P],
-) -> Result<(), LineFault>
+) -> Result<(), WriteFault>
     ensures ok { OnOk result (Gained (K.written sink.old) (K.written sink.new) (lines_text P.text lines.now)) }
     ensures err { OnErr result (GainedFront (K.written sink.old) (K.written sink.new) (lines_text P.text lines.now)) }
     ensures fault { IfErr result (HasWriteCause (K.faults sink.old) (K.faults sink.new)) }
-    ensures unfailed { IsErrOf result LineFault.Memory → K.faults sink.new ≡ K.faults sink.old }
-    ensures unwanted { IsErrOf result LineFault.Write → K.wants sink.new ≡ K.wants sink.old }
+    ensures unfailed { IsErrOf result WriteFault.Memory → K.faults sink.new ≡ K.faults sink.old }
+    ensures unwanted { IsErrOf result WriteFault.Write → K.wants sink.new ≡ K.wants sink.old }
     ensures quiet { OnOk result ((K.faults sink.new ≡ K.faults sink.old) × (K.wants sink.new ≡ K.wants sink.old)) }
     ensures counts { K.faults sink.old ≤ K.faults sink.new }
 {
@@ -74,17 +73,17 @@ pub fn print_lines<A: AppText, P: Printed<A>, K: Sink>(
     print_text(sink, &text)
 }
 
-/// Writes the line of a step. At an `Err`, which is `Write` or `Memory`, a front of it was written.
+/// Writes the line of a step. At an `Err` a front of it was written.
 pub fn print_step<A: AppText, K: Sink>(
     alloc: Global,
     sink: &mut K,
     step: &Step<A::Input>,
-) -> Result<(), LineFault>
+) -> Result<(), WriteFault>
     ensures ok { OnOk result (Gained (K.written sink.old) (K.written sink.new) (as_line (step_text A.input_text step.now))) }
     ensures err { OnErr result (GainedFront (K.written sink.old) (K.written sink.new) (as_line (step_text A.input_text step.now))) }
     ensures fault { IfErr result (HasWriteCause (K.faults sink.old) (K.faults sink.new)) }
-    ensures unfailed { IsErrOf result LineFault.Memory → K.faults sink.new ≡ K.faults sink.old }
-    ensures unwanted { IsErrOf result LineFault.Write → K.wants sink.new ≡ K.wants sink.old }
+    ensures unfailed { IsErrOf result WriteFault.Memory → K.faults sink.new ≡ K.faults sink.old }
+    ensures unwanted { IsErrOf result WriteFault.Write → K.wants sink.new ≡ K.wants sink.old }
     ensures quiet { OnOk result ((K.faults sink.new ≡ K.faults sink.old) × (K.wants sink.new ≡ K.wants sink.old)) }
     ensures counts { K.faults sink.old ≤ K.faults sink.new }
 {
@@ -93,17 +92,17 @@ pub fn print_step<A: AppText, K: Sink>(
     print_text(sink, &text)
 }
 
-/// Writes the lines of a trace, in order. At an `Err`, which is `Write` or `Memory`, a front of them was written.
+/// Writes the lines of a trace, in order. At an `Err` a front of them was written.
 pub fn print_trace<A: AppText, K: Sink>(
     alloc: Global,
     sink: &mut K,
     items: &[Item<A::Input, A::Output>],
-) -> Result<(), LineFault>
+) -> Result<(), WriteFault>
     ensures ok { OnOk result (Gained (K.written sink.old) (K.written sink.new) (trace_text A.input_text A.output_text items.now)) }
     ensures err { OnErr result (GainedFront (K.written sink.old) (K.written sink.new) (trace_text A.input_text A.output_text items.now)) }
     ensures fault { IfErr result (HasWriteCause (K.faults sink.old) (K.faults sink.new)) }
-    ensures unfailed { IsErrOf result LineFault.Memory → K.faults sink.new ≡ K.faults sink.old }
-    ensures unwanted { IsErrOf result LineFault.Write → K.wants sink.new ≡ K.wants sink.old }
+    ensures unfailed { IsErrOf result WriteFault.Memory → K.faults sink.new ≡ K.faults sink.old }
+    ensures unwanted { IsErrOf result WriteFault.Write → K.wants sink.new ≡ K.wants sink.old }
     ensures quiet { OnOk result ((K.faults sink.new ≡ K.faults sink.old) × (K.wants sink.new ≡ K.wants sink.old)) }
     ensures counts { K.faults sink.old ≤ K.faults sink.new }
 {

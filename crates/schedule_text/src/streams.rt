@@ -12,24 +12,24 @@ use crate::reading::line_says;
 use crate::skips::is_skipped;
 use crate::{Header, Line};
 use app_text::AppText;
-use line_reader::{LineFault, Reader, Why, next_line};
+use line_reader::{ReadFault, Reader, Why, next_line};
 use outside::Source;
 use std::alloc::Global;
 use vst_base::Step;
 
 // Why there is no header, where no further line was read.
-fn header_fault(reader: &Reader, fault: LineFault) -> LineFault
+fn header_fault(reader: &Reader, fault: ReadFault) -> ReadFault
     ensures { result ≡ header_fault (reader.now.number + 1) fault }
 {
     match fault {
-        LineFault::End => reader.refuse_next(Why::Header),
+        ReadFault::End => reader.refuse_next(Why::Header),
         _ => fault,
     }
 }
 
 /// Reads the header: the first line that is not skipped. A text without one is refused at the line after its last, so
 /// `End` never comes. Whatever comes, at most 4,096 bytes were read past lines that are skipped.
-pub fn read_header<S: Source>(reader: &mut Reader, source: &mut S) -> Result<Header, LineFault>
+pub fn read_header<S: Source>(reader: &mut Reader, source: &mut S) -> Result<Header, ReadFault>
     ensures told { (rest : List ℕ) → HasRest reader.old (S.left source.old) rest
         → ReadsHeader reader.old reader.new (S.left source.new) rest result }
     ensures near { (rest : List ℕ) → HasRest reader.old (S.left source.old) rest
@@ -37,11 +37,11 @@ pub fn read_header<S: Source>(reader: &mut Reader, source: &mut S) -> Result<Hea
     ensures few { length reader.new.ahead ≤ 4096 }
     ensures header { IfOk result (λ h. header_of reader.new.line ≡ Some h) }
     ensures number { OnOk result ((reader.old.number < reader.new.number) × (reader.new.number ≤ reader.new.most)) }
-    ensures headed { result ≢ Err LineFault.End }
+    ensures headed { result ≢ Err ReadFault.End }
     ensures stays { reader.old.ended ≡ true → reader.new.ended ≡ true }
     ensures kept { (reader.new.most ≡ reader.old.most) × (reader.new.events ≡ reader.old.events) }
     ensures fault { IfErr result (HasReadCause reader.old (S.faults source.old) (S.faults source.new)) }
-    ensures quiet { result ≢ Err LineFault.Read → S.faults source.new ≡ S.faults source.old }
+    ensures quiet { result ≢ Err ReadFault.Read → S.faults source.new ≡ S.faults source.old }
     ensures counts { S.faults source.old ≤ S.faults source.new }
 {
     loop {
@@ -64,12 +64,12 @@ pub fn read_step<A: AppText, S: Source>(
     alloc: Global,
     reader: &mut Reader,
     source: &mut S,
-) -> Result<Step<A::Input>, LineFault>
+) -> Result<Step<A::Input>, ReadFault>
     ensures told { (rest : List ℕ) → HasRest reader.old (S.left source.old) rest
         → ReadsStep A.input_of reader.old reader.new (S.left source.new) rest result }
     ensures near { (rest : List ℕ) → HasRest reader.old (S.left source.old) rest
         → StepIsNear A.input_of reader.old (S.left source.new) rest }
-    ensures ahead { tells_next reader.old.ahead ≡ true → result ≢ Err LineFault.Read }
+    ensures ahead { tells_next reader.old.ahead ≡ true → result ≢ Err ReadFault.Read }
     ensures unread { tells_next reader.old.ahead ≡ true → source.new ≡ source.old }
     ensures step { IfOk result (λ s. step_of A.input_of reader.new.line ≡ Some s) }
     ensures number { OnOk result ((reader.old.number < reader.new.number) × (reader.new.number ≤ reader.new.most)) }
@@ -78,7 +78,7 @@ pub fn read_step<A: AppText, S: Source>(
     ensures kept { reader.new.most ≡ reader.old.most }
     ensures stays { reader.old.ended ≡ true → reader.new.ended ≡ true }
     ensures fault { IfErr result (HasReadCause reader.old (S.faults source.old) (S.faults source.new)) }
-    ensures quiet { result ≢ Err LineFault.Read → S.faults source.new ≡ S.faults source.old }
+    ensures quiet { result ≢ Err ReadFault.Read → S.faults source.new ≡ S.faults source.old }
     ensures counts { S.faults source.old ≤ S.faults source.new }
 {
     loop {

@@ -1,9 +1,13 @@
 ghost use Rattle.std.specs.Prelude.{◌≡◌, ◌≤◌, IfSome};
 ghost use Rattle.std.specs.Option.{SomeIff};
 ghost use Rattle.std.specs.List.{list_all};
-ghost use Rattle.schedule_text.specs.Words.{is_digit, is_numeral, is_text, kind_named, number_up_to, value_from, word_of};
+ghost use Rattle.schedule_text.specs.Words.{is_digit, is_numeral, is_text, number_up_to, value_from, word_named, word_of};
 
+use crate::line_word::LineWord;
 use vst_base::StepKind;
+
+/// The byte between the words of a line.
+pub const SPACE: u8 = b' ';
 
 /// The greatest number that a schedule names, of a node or a packet.
 pub const MAX_NUMBER: u64 = 4_294_967_295;
@@ -83,18 +87,20 @@ pub fn word_of(kind: StepKind) -> &'static [u8]
     }
 }
 
-// The kind of step that has this word.
-pub(crate) fn kind_named(word: &[u8]) -> Option<StepKind>
-    ensures { result ≡ kind_named word.now }
+// What this word names, if it is one of the nine that step lines begin with.
+pub(crate) fn word_named(word: &[u8]) -> Option<LineWord>
+    ensures { result ≡ word_named word.now }
 {
     match word {
-        b"in" => Some(StepKind::In),
-        b"deliver" => Some(StepKind::Deliver),
-        b"tick" => Some(StepKind::Tick),
-        b"dup" => Some(StepKind::Dup),
-        b"lose" => Some(StepKind::Lose),
-        b"crash" => Some(StepKind::Crash),
-        b"reboot" => Some(StepKind::Reboot),
+        b"in" => Some(LineWord::Step(StepKind::In)),
+        b"deliver" => Some(LineWord::Step(StepKind::Deliver)),
+        b"tick" => Some(LineWord::Step(StepKind::Tick)),
+        b"dup" => Some(LineWord::Step(StepKind::Dup)),
+        b"lose" => Some(LineWord::Step(StepKind::Lose)),
+        b"crash" => Some(LineWord::Step(StepKind::Crash)),
+        b"reboot" => Some(LineWord::Step(StepKind::Reboot)),
+        b"act" => Some(LineWord::Act),
+        b"stop" => Some(LineWord::Stop),
         _ => None,
     }
 }

@@ -3,9 +3,9 @@ use Rattle.std.specs.Prelude.{◌≡◌, ◌≢◌, ℕ, ◌≤◌, List, [], Op
 use Rattle.outside.specs.Counting.{Rose}
 use Rattle.line_reader.specs.Lines.{lines_of, whole_lines}
 use Rattle.line_reader.specs.Outcomes.{BreaksOff}
-use Rattle.line_reader.specs.declared.fault.LineFault.{LineFault}
+use Rattle.line_reader.specs.declared.read_fault.ReadFault.{ReadFault}
+use Rattle.line_reader.specs.declared.read_fault.ReadFault.TheVariants as read
 use Rattle.check_text.specs.Outcomes.{IsDecidedBy}
-use Rattle.line_reader.specs.declared.fault.LineFault.TheVariants as line
 use Rattle.line_reader.specs.declared.why.Why.{Why}
 use Rattle.stacks.specs.Stack.{Stack}
 use Rattle.stacks.specs.Checks.{checked_on, refused_on}
@@ -13,13 +13,12 @@ use Rattle.trace_check.specs.declared.fault.CheckFault.{CheckFault}
 use Rattle.trace_check.specs.declared.fault.CheckFault.TheVariants as fault
 use Rattle.claim_verdicts.specs.declared.verdict.Verdict.{Verdict}
 
--- a fault of a line that is read as a fault of a check. The end of a text is none, and nothing is written: these never come here
-abbrev pub check_fault : LineFault → CheckFault
-check_fault line.Read = fault.Read
-check_fault (line.Refused number why) = fault.Refused number why
-check_fault line.Memory = fault.Memory
-check_fault line.End = fault.Memory
-check_fault line.Write = fault.Memory
+-- what a check answers where a claim is not read; the end of a text is never the reason
+abbrev pub IsCheckFault : ReadFault → CheckFault → Type 0
+IsCheckFault read.Read answer = answer ≡ fault.Read
+IsCheckFault (read.Refused number why) answer = answer ≡ fault.Refused number why
+IsCheckFault read.Memory answer = answer ≡ fault.Memory
+IsCheckFault read.End answer = ⊥
 
 -- by what a check says of a whole text, and which line it refuses among the whole lines of one that broke off: the text was
 -- read to its end and the verdict is this; or this line is refused; or a read failed after a part of the text, of which no

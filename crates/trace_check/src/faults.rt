@@ -1,9 +1,9 @@
 ghost use Rattle.std.specs.Prelude.{◌≡◌, ◌≢◌};
-ghost use Rattle.trace_check.specs.Outcomes.{check_fault};
+ghost use Rattle.trace_check.specs.Outcomes.{IsCheckFault};
 ghost use Rattle.trace_check.specs.declared.fault.CheckFault.TheVariants.{Memory};
 
 use crate::CheckFault;
-use line_reader::LineFault;
+use line_reader::ReadFault;
 use std::alloc::AllocError;
 
 impl From<AllocError> for CheckFault {
@@ -14,16 +14,15 @@ impl From<AllocError> for CheckFault {
     }
 }
 
-// A fault of a line that is read as a fault of a check. The end of a text is none, and nothing is written.
-pub(crate) fn check_fault(fault: LineFault) -> CheckFault
-    requires end { fault ≢ LineFault.End }
-    requires write { fault ≢ LineFault.Write }
-    ensures { result ≡ check_fault fault }
+// Why a claim was not read, as a fault of a check. A text that ends too early is refused.
+pub(crate) fn check_fault(fault: ReadFault) -> CheckFault
+    requires { fault ≢ ReadFault.End }
+    ensures { IsCheckFault fault result }
 {
     match fault {
-        LineFault::Read => CheckFault::Read,
-        LineFault::Refused { line, why } => CheckFault::Refused { line, why },
-        LineFault::Memory => CheckFault::Memory,
-        LineFault::End | LineFault::Write => unreachable!(),
+        ReadFault::Read => CheckFault::Read,
+        ReadFault::Refused { line, why } => CheckFault::Refused { line, why },
+        ReadFault::Memory => CheckFault::Memory,
+        ReadFault::End => unreachable!(),
     }
 }

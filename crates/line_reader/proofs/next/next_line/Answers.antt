@@ -4,8 +4,8 @@ use Rattle.std.proofs.lemmas.Bool.Decides.{nat_tests}
 use Rattle.line_reader.specs.Cuts.{cut_at}
 use Rattle.line_reader.specs.Readers.{ReaderView}
 use Rattle.line_reader.specs.Outcomes.{EndsLine}
-use Rattle.line_reader.specs.declared.fault.LineFault.{LineFault}
-use Rattle.line_reader.specs.declared.fault.LineFault.TheVariants as fault
+use Rattle.line_reader.specs.declared.read_fault.ReadFault.{ReadFault}
+use Rattle.line_reader.specs.declared.read_fault.ReadFault.TheVariants as fault
 use Rattle.line_reader.proofs.Cutting.{cut-here, none-append}
 use Rattle.line_reader.proofs.Taking.{begins, fills, fills-near, goes-on, by-newline, by-end, at-end, by-read, by-length}
 use Rattle.line_reader.proofs.next.next_line.Goals as goal
@@ -41,7 +41,7 @@ same-cut xs ahead part ys cut is same whole plain =
     let pair : (part, ys) ≡ cut = cc in
     ap (λ (p : List ℕ × List ℕ). p.0) pair
 
-ends-ahead : {A : Type 0} (r r' : ReaderView) (line : List ℕ) (result : Result A LineFault) → EndsLine r r' result → r.line ≡ line
+ends-ahead : {A : Type 0} (r r' : ReaderView) (line : List ℕ) (result : Result A ReadFault) → EndsLine r r' result → r.line ≡ line
     → (result ≢ Err fault.Read) × OnOk result (r'.line ≡ line)
 ends-ahead r r' line (Ok x) ends is = ((λ e. cc), ap line_of ends.0 ∙ is)
 ends-ahead r r' line (Err found) ends is = ((λ e. let found_is = ends.0 in cc), tt)

@@ -65,7 +65,7 @@ returns-clause-told g c = λ says rest has.
     let out' = g.K.Sink.written c.finish.new.sink in
     let shows = subst (λ (x : SystemOf g). (ss : List (Step g.row.R-Input.Denot)) → r.follows c.play.new.running ss → c.image.result.now ≡ x.image ss) c.in-Ok-End.ensures.system c.image.ensures in
     let more = c.in-Err-finish.ensures.err in
-    rw c.replay_fault-in-Err-finish.ensures (rest-fails (stack_whole st old) (stack_so_far st old) old.number rest left' out out' _ _ y c.in-Err-finish.ensures.fault
+    rw c.write_fault-in-Err-finish.ensures (rest-fails (stack_whole st old) (stack_so_far st old) old.number rest left' out out' _ _ y c.in-Err-finish.ensures.fault
     (rest-finishing sys r.follows r.progress t i c.play.new.running c.play.new.tally old c.play.new.reader left left' out mid rest has c.image.result.now shows out' (rw c.in-Ok-End.field-0-is at halted) more))
 
 pub returns-in-Ok-clause-told : goal.returns-in-Ok-clause-told

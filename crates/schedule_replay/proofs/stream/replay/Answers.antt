@@ -23,7 +23,7 @@ returns-in-Err-clause-told g c =
     let y = c.in-Err.fault in
     if-told left _ (λ bytes told.
     let reads = c.in-Err.ensures.told bytes (fresh-rest r left bytes c.in_ok-reader.ensures told) in
-    rw c.replay_fault.ensures (header-comes new left' out bytes y (subst (λ (v : ReaderView). ReadsHeader v new left' bytes (Err y)) c.in_ok-reader.ensures reads)))
+    header-comes new left' out bytes y c.replay_fault.result c.replay_fault.ensures (subst (λ (v : ReaderView). ReadsHeader v new left' bytes (Err y)) c.in_ok-reader.ensures reads))
 
 pub returns-clause-told : goal.returns-clause-told
 returns-clause-told g c =

@@ -1,6 +1,6 @@
 use Rattle.std.proofs.Common.{◌≡◌, ◌+◌, Err, is_some, refl, ap, ◌∙◌, arith}
 use Rattle.line_reader.specs.Cuts.{cut_at, has_cut}
-use Rattle.line_reader.specs.declared.fault.LineFault.TheVariants as fault
+use Rattle.line_reader.specs.declared.read_fault.ReadFault.TheVariants as fault
 use Rattle.schedule_text.specs.Lines.{is_skipped}
 use Rattle.std.proofs.lemmas.Result.{err_from_is_err_and}
 use Rattle.line_reader.specs.Readers.{ReaderView}

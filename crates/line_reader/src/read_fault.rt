@@ -1,22 +1,19 @@
 ghost use Rattle.std.specs.Prelude.{◌≡◌};
-ghost use Rattle.line_reader.specs.declared.fault.LineFault.TheVariants.{Memory};
+ghost use Rattle.line_reader.specs.declared.read_fault.ReadFault.TheVariants.{Memory};
 
 use crate::Why;
 use std::alloc::AllocError;
 use thiserror::Error;
 
-/// Why a line was not read, or not written.
+/// Why a line was not read.
 #[derive(Clone, Copy, Debug, PartialEq, Eq, Error)]
-pub enum LineFault {
+pub enum ReadFault {
     /// The text has no further line.
     #[error("no further line")]
     End,
     /// A read failed.
     #[error("the input cannot be read")]
     Read,
-    /// A write failed.
-    #[error("the output cannot be written")]
-    Write,
     /// Want of memory.
     #[error("out of memory")]
     Memory,
@@ -25,10 +22,10 @@ pub enum LineFault {
     Refused { line: u32, why: Why },
 }
 
-impl From<AllocError> for LineFault {
+impl From<AllocError> for ReadFault {
     ghost from_gives = { λ _ fault. fault ≡ Memory };
 
     fn from(_: AllocError) -> Self {
-        LineFault::Memory
+        ReadFault::Memory
     }
 }
