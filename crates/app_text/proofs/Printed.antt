@@ -4,8 +4,9 @@ use Rattle.std.specs.List.{flat_map}
 use Rattle.std.proofs.Math.Seq.{take-append_seam}
 use Rattle.std.proofs.lemmas.List.{take-take}
 use Rattle.app_text.specs.declared.word.Word.{Word}
-use Rattle.app_text.specs.Printing.{StandsBefore, word_text}
+use Rattle.app_text.specs.Printing.{word_text}
 use Rattle.app_text.specs.Words.{joined}
+use Rattle.lists.specs.Prefixes.{IsPrefix}
 
 abbrev pub spaced : List Word → List ℕ
 spaced args = flat_map (λ w. 32 ∷ word_text w) args
@@ -13,8 +14,3 @@ spaced args = flat_map (λ w. 32 ∷ word_text w) args
 pub joined-spaced : (first : List ℕ) (args : List Word) → joined (first ∷ map word_text args) ≡ first ++ spaced args
 joined-spaced first [] = sym (append-nil first)
 joined-spaced first (w ∷ ws) = ap (λ rest. first ++ 32 ∷ rest) (joined-spaced (word_text w) ws)
-
-pub still_before : (old added new : List ℕ) → StandsBefore (old ++ added) new → StandsBefore old new
-still_before old added new before =
-    let within : length old ≤ length (old ++ added) = omega (arith, length-append old added) in
-    sym (take-take (length old) (length (old ++ added)) new within) ∙ ap (take (length old)) before ∙ take-append_seam old added

@@ -1,7 +1,8 @@
 ghost use Rattle.std.specs.Prelude.{◌≡◌, ◌∷◌, ◌++◌, IsTrue, OnOk, OnErr, map};
 ghost use Rattle.std.specs.List.{flat_map};
-ghost use Rattle.app_text.specs.Printing.{StandsBefore, word_text};
+ghost use Rattle.app_text.specs.Printing.{word_text};
 ghost use Rattle.app_text.specs.Words.{is_optional, joined, optional_text};
+ghost use Rattle.lists.specs.Prefixes.{IsPrefix};
 
 use crate::word::Word;
 use crate::words::SPACE;
@@ -22,7 +23,7 @@ pub fn optional_word<const MOST: usize>(token: &Option<Token<MOST>>) -> Word<'_>
 // Adds a space and a word.
 fn push_word(out: &mut Vec<u8>, word: &Word<'_>) -> Result<(), AllocError>
     ensures ok { OnOk result (out.new.items ≡ out.old.items ++ 32 ∷ word_text word.now) }
-    ensures err { OnErr result (StandsBefore out.old.items out.new.items) }
+    ensures err { OnErr result (IsPrefix out.old.items out.new.items) }
 {
     out.push(SPACE)?;
     match word {
@@ -37,7 +38,7 @@ fn push_word(out: &mut Vec<u8>, word: &Word<'_>) -> Result<(), AllocError>
 // Adds each word after a space.
 fn push_args(out: &mut Vec<u8>, args: &[Word<'_>]) -> Result<(), AllocError>
     ensures ok { OnOk result (out.new.items ≡ out.old.items ++ flat_map (λ w. 32 ∷ word_text w) args.now) }
-    ensures err { OnErr result (StandsBefore out.old.items out.new.items) }
+    ensures err { OnErr result (IsPrefix out.old.items out.new.items) }
 {
     for word in args {
         push_word(out, word)?;
@@ -48,7 +49,7 @@ fn push_args(out: &mut Vec<u8>, args: &[Word<'_>]) -> Result<(), AllocError>
 // Adds words with a space between each two.
 fn push_all(out: &mut Vec<u8>, first: &[u8], args: &[Word<'_>]) -> Result<(), AllocError>
     ensures ok { OnOk result (out.new.items ≡ out.old.items ++ joined (first.now ∷ map word_text args.now)) }
-    ensures err { OnErr result (StandsBefore out.old.items out.new.items) }
+    ensures err { OnErr result (IsPrefix out.old.items out.new.items) }
 {
     out.extend_from_slice(first)?;
     push_args(out, args)

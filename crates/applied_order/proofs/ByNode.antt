@@ -9,21 +9,22 @@ use Rattle.vst_base.specs.declared.step.Step.{Step}
 use Rattle.raft_types.specs.declared.client.RaftInput.{RaftInput}
 use Rattle.raft_xform.specs.Nodes.{RaftView}
 use Rattle.raft_xform.specs.Raft.{raft, raft_recovery}
-use Rattle.raft_safety.specs.Applied.{IsBeginning, applied_by, applied_list, applied_lists, longer, longest, longest_from}
+use Rattle.raft_safety.specs.Applied.{applied_by, applied_list, applied_lists, longer, longest, longest_from}
 use Rattle.raft_safety.specs.Runs.{IsRun, RaftWorld, world_after}
 use Rattle.raft_safety.specs.Safety.{AppliedGrows, EachHasABeginning}
 use Rattle.applied_order.specs.Orders.{FollowsShown, HasFollowed, OrderView}
+use Rattle.lists.specs.Prefixes.{IsPrefix}
 
-longer_begins : {A : Type 0} (xs ys all : List A) → IsBeginning xs all → IsBeginning ys all → IsBeginning (longer xs ys) all
+longer_begins : {A : Type 0} (xs ys all : List A) → IsPrefix xs all → IsPrefix ys all → IsPrefix (longer xs ys) all
 longer_begins xs ys all x y = go (ltb (length xs) (length ys))
   where
-    go : (b : Bool) → IsBeginning (cond b ys xs) all
+    go : (b : Bool) → IsPrefix (cond b ys xs) all
     go true = y
     go false = x
 
 module _ {S C O : Type 0} (m : MachineMeaning S C O) (nodes : ℕ) where
-  longest_begins : (w : RaftWorld S C O) (best all : List (Entry C)) (n : ℕ) → n ≤ nodes → IsBeginning best all →
-      ((i : ℕ) → i < nodes → IsBeginning (applied_list (w.state i)) all) → IsBeginning (longest n (applied_lists w) best) all
+  longest_begins : (w : RaftWorld S C O) (best all : List (Entry C)) (n : ℕ) → n ≤ nodes → IsPrefix best all →
+      ((i : ℕ) → i < nodes → IsPrefix (applied_list (w.state i)) all) → IsPrefix (longest n (applied_lists w) best) all
   longest_begins w best all zero h begins each = begins
   longest_begins w best all (suc n) h begins each =
       longer_begins _ _ all (longest_begins w best all n (omega arith) begins each) (each n (omega arith))
@@ -51,7 +52,7 @@ module _ {S C O : Type 0} (m : MachineMeaning S C O) (nodes : ℕ) where
     pub follows_more : AppliedGrows S C O → EachHasABeginning S C O →
         (n : ℕ) (old now next : OrderView C) (state : RaftView S C O) → n < nodes →
         ((w : RaftWorld S C O) → Shows w → state ≡ w.state n) →
-        ((all es : List (Entry C)) → IsBeginning es all → IsBeginning (applied_list state) all → HasFollowed now es →
+        ((all es : List (Entry C)) → IsPrefix es all → IsPrefix (applied_list state) all → HasFollowed now es →
         HasFollowed next (longer es (applied_list state))) →
         Follows Shows n old now → Follows Shows (n + 1) old next
     follows_more grows each n old now next state below tells caught was = record {
@@ -63,7 +64,7 @@ module _ {S C O : Type 0} (m : MachineMeaning S C O) (nodes : ℕ) where
           let begins = longest_begins w best all n (omega arith) (grows m nodes ss (s ∷ []) run) each_begins in
           let is : state ≡ w.state n = tells w shows in
           let one : n + 1 ≡ suc n = omega arith in
-          let state_begins : IsBeginning (applied_list state) all = rw is (each_begins n below) in
+          let state_begins : IsPrefix (applied_list state) all = rw is (each_begins n below) in
           rw one (rw (← is) (caught all (longest n (applied_lists w) best) begins state_begins (was.so_far ss s run shows had)));
     }
 

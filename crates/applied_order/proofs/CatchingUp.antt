@@ -1,25 +1,20 @@
 -- The entries of a node's log after those that there are, one by one.
-use Rattle.std.proofs.Common.{◌≡◌, ℕ, zero, suc, ◌+◌, ◌<◌, ◌≤◌, Bool, true, false, cond, ltb, List, [], ◌∷◌, ◌++◌, length, take, drop, Some, slice_get, refl, ap, sym, subst, ◌∙◌, arith}
-use Rattle.std.proofs.Math.Seq.{take-append_seam}
+use Rattle.std.proofs.Common.{◌≡◌, ℕ, suc, ◌+◌, ◌<◌, ◌≤◌, Bool, true, false, cond, ltb, List, [], ◌∷◌, ◌++◌, length, take, Some, slice_get, refl, ap, sym, subst, ◌∙◌, arith}
 use Rattle.std.proofs.lemmas.Bool.{ltb-false, ltb-true}
-use Rattle.std.proofs.lemmas.List.{length-take-le, take-append-drop, take-append-le}
+use Rattle.std.proofs.lemmas.List.{length-take-le}
 use Rattle.vst_base.specs.declared.entry.Entry.{Entry}
-use Rattle.raft_safety.specs.Applied.{IsBeginning, longer}
+use Rattle.raft_safety.specs.Applied.{longer}
 use Rattle.applied_order.specs.Orders.{HasFollowed, OrderView}
+use Rattle.lists.specs.Prefixes.{IsPrefix}
+use Rattle.lists.specs.Places.{take_less, take_next}
 
-pub take_next : {A : Type 0} (xs : List A) (i : ℕ) (x : A) → slice_get xs i ≡ Some x → take i xs ++ x ∷ [] ≡ take (suc i) xs
-take_next [] i x is = absurd (cc (is))
-take_next (y ∷ xs) zero x is = let e : x ≡ y = cc (is) in ap (λ z. z ∷ []) e
-take_next (y ∷ xs) (suc i) x is = ap (λ zs. y ∷ zs) (take_next xs i x is)
-
--- where two lists begin one, the shorter is a front of the longer
-pub front_of : {A : Type 0} (es log all : List A) (a : ℕ) → IsBeginning es all → IsBeginning (take a log) all →
+-- of two prefixes of a list the shorter is a prefix of the longer
+pub front_of : {A : Type 0} (es log all : List A) (a : ℕ) → IsPrefix es all → IsPrefix (take a log) all →
     length es ≤ a → a ≤ length log → es ≡ take (length es) log
-front_of es log all a (rest, is) (after, was) short fits =
+front_of es log all a begins was short fits =
     let n = length es in
     let within : n ≤ length (take a log) = omega (arith, length-take-le a log fits) in
-    sym (take-append_seam es rest) ∙ ap (take n) (is ∙ sym was) ∙ take-append-le n (take a log) after within
-    ∙ sym (take-append-le n (take a log) (drop a log) within) ∙ ap (take n) (take-append-drop a log)
+    sym begins ∙ sym (take_less n (length (take a log)) all within) ∙ ap (take n) was ∙ take_less n a log short
 
 -- what is kept once it was told of the entries up to an index of the log, of which so many are applied
 pub record CaughtUp {C : Type 0} (old now : OrderView C) (log : List (Entry C)) (applied i : ℕ) : Type 0 where
@@ -42,7 +37,7 @@ module _ {C : Type 0} (old now : OrderView C) (log : List (Entry C)) (applied i 
   }
 
   pub caught_all : (es all : List (Entry C)) → applied ≤ length log → (old.entries ≤ applied → i ≡ applied) →
-      IsBeginning es all → IsBeginning (take applied log) all → HasFollowed old es → HasFollowed now (longer es (take applied log))
+      IsPrefix es all → IsPrefix (take applied log) all → HasFollowed old es → HasFollowed now (longer es (take applied log))
   caught_all es all fits lags begins node_begins had = go (ltb (length es) (length (take applied log))) refl
     where
       long : length (take applied log) ≡ applied

@@ -1,7 +1,8 @@
 ghost use Rattle.std.specs.Prelude.{◌≤◌, List, length, OnOk};
-ghost use Rattle.raft_safety.specs.Applied.{IsBeginning, applied_list, longer};
+ghost use Rattle.raft_safety.specs.Applied.{applied_list, longer};
 ghost use Rattle.vst_base.specs.declared.entry.Entry.{Entry as EntryView};
 ghost use Rattle.applied_order.specs.Orders.{FollowsStep, HasFollowed, IsSoundCluster};
+ghost use Rattle.lists.specs.Prefixes.{IsPrefix};
 
 use crate::AppliedOrder;
 use handler_trait::Handlers;
@@ -37,7 +38,7 @@ impl<C: Drop> AppliedOrder<C> {
         state: &RaftState<M::State, C, M::Out>,
     ) -> Result<(), AllocError>
         requires { state.now.applied ≤ length state.now.log }
-        ensures { OnOk result ((all es : List (EntryView C)) → IsBeginning es all → IsBeginning (applied_list state.now) all
+        ensures { OnOk result ((all es : List (EntryView C)) → IsPrefix es all → IsPrefix (applied_list state.now) all
             → HasFollowed self.old es → HasFollowed self.new (longer es (applied_list state.now))) }
     {
         for i in self.entries()..cluster.applied(state) {

@@ -20,10 +20,6 @@ use Rattle.check_text.specs.Reading.{RefusedAt, refusal_of, refusal_so_far}
 use Rattle.check_text.specs.TraceLines.{most_lines}
 use Rattle.check_text.proofs.Takings.{line-limited, none-refused, read-same}
 
-pub if-some : {A : Type 0} (o : Option A) (P : A → Type 0) → ((a : A) → o ≡ Some a → P a) → IfSome o P
-if-some None P h = tt
-if-some (Some a) P h = h a refl
-
 -- nothing stands before nothing
 none-behind : (xs ys : List ℕ) → [] ≡ xs ++ ys → ys ≡ []
 none-behind [] ys e = sym e

@@ -7,7 +7,6 @@ use Rattle.app_text.specs.PbTextLaws.{pb_outputs_are_spelled}
 use Rattle.check_text.specs.Forms.{claim_of}
 use Rattle.check_text.specs.Reading.{Whole}
 use Rattle.handler_trait.specs.Handling.{Meaning}
-use Rattle.linearizability.specs.Linearizable.{Each}
 use Rattle.line_reader.specs.Lines.{lines_of}
 use Rattle.net_semantics.specs.BelowPb.{below_pb, inputs_at, outputs_at, replies_in}
 use Rattle.net_semantics.specs.Runs.{IsAllowed, no_recovery, trace}
@@ -30,7 +29,6 @@ use Rattle.vst_base.specs.declared.step.Item.{Item}
 use Rattle.vst_base.specs.declared.step.Step.{Step}
 use Rattle.vst_base.specs.declared.step.Step.TheVariants as step
 use Rattle.permitted_claims.specs.Spelled.{HasInputText, HasOutputText, IsSpelledMachine, IsTextItem}
-use Rattle.permitted_claims.proofs.Eaches.{each-take}
 use Rattle.permitted_claims.proofs.Machines.{IsTextState, spelled-keeps}
 use Rattle.permitted_claims.proofs.Outputs.{trace-length}
 use Rattle.permitted_claims.proofs.PbRuns.{IsTextBacked, IsTextMsg, alone-spellable, backup-keeps, inputs-text}
@@ -43,6 +41,7 @@ use Rattle.checked_replays.proofs.Outputs.{backup-once}
 use Rattle.checked_replays.proofs.Scripts.{AreReadSteps}
 use Rattle.checked_replays.proofs.StackReading.{stack-read}
 use Rattle.checked_replays.proofs.StepImages.{headed-by, plain-steps, steps-said}
+use Rattle.lists.specs.Each.{Each, each_take}
 
 -- clients see items that have texts, two a step at most
 pub record IsTextTrace (p : Application) (nodes : ℕ) (seen : List (Item p.Command (PbOut p.Output))) : Type 0 where
@@ -84,7 +83,7 @@ module _ (p : Application) (is : IsSpelledMachine p) (nodes : ℕ) where
         let t = p.texts in
         let seen = plays.trace ss in
         let steps = alone (below_pb seen) in
-        let image = alone-spellable HasIn (below_pb seen) (each-take HasIn (replies_in (outputs_at 0 seen)) (inputs_at 0 seen) (inputs-text nodes 0 HasIn HasOut seen items.texts)) in
+        let image = alone-spellable HasIn (below_pb seen) (each_take HasIn (replies_in (outputs_at 0 seen)) (inputs_at 0 seen) (inputs-text nodes 0 HasIn HasOut seen items.texts)) in
         let few = read.few in
         let many = items.few in
         let inputs = trace-inputs m (no_recovery {S = S}) (first_world m) ss in

@@ -3,7 +3,7 @@ use Rattle.std.specs.Prelude.{◌≡◌, ℕ, List, [], ◌∷◌, None, length,
 use Rattle.std.proofs.Common.{inl, inr, subst, arith}
 use Rattle.check_text.specs.Forms.{claim_of}
 use Rattle.check_text.specs.Reading.{Whole}
-use Rattle.linearizability.specs.Linearizable.{Each, HasInput, IsLinearizable}
+use Rattle.linearizability.specs.Linearizable.{HasInput, IsLinearizable}
 use Rattle.line_reader.specs.Lines.{lines_of}
 use Rattle.net_semantics.specs.Worlds.{first_world}
 use Rattle.raft_text.specs.RaftTextLaws.{raft_inputs_are_spelled, raft_outputs_are_spelled}
@@ -20,7 +20,6 @@ use Rattle.vst_base.specs.declared.step.Item.{Item}
 use Rattle.vst_base.specs.declared.step.Item.TheVariants as item
 use Rattle.vst_base.specs.declared.step.Step.{Step}
 use Rattle.permitted_claims.specs.Spelled.{HasInputText, HasOutputText, IsSpelledMachine, IsTextItem}
-use Rattle.permitted_claims.proofs.Eaches.{each-weaker}
 use Rattle.permitted_claims.proofs.Machines.{IsTextState, spelled-keeps}
 use Rattle.permitted_claims.proofs.Runs.{trace-texts}
 use Rattle.permitted_claims.proofs.TextItems.{more-nodes}
@@ -31,6 +30,7 @@ use Rattle.checked_replays.proofs.RaftRuns.{IsTextNode, IsTextRaftMsg, raft-keep
 use Rattle.checked_replays.proofs.Requests.{requests-few}
 use Rattle.checked_replays.proofs.Scripts.{AreReadSteps}
 use Rattle.checked_replays.proofs.StackReading.{stack-lines, stack-read}
+use Rattle.lists.specs.Each.{Each, each_weaker}
 
 -- a request that clients put in has a text
 put-in-text : {I O : Type 0} (nodes : ℕ) (HasIn : I → Type 0) (HasOut : O → Type 0) (seen : List (Item I O)) → Each (IsTextItem nodes HasIn HasOut) seen → (i : I) → HasInput seen i → HasIn i
@@ -59,7 +59,7 @@ module _ (p : Application) (is : IsSpelledMachine p) (nodes n : ℕ) (few_nodes 
       let told = raft_outputs_are_spelled is.texts.outputs in
       let seen = trace-texts net.Fail m again (IsRaftInput HasIn) (IsRaftOutput HasOut) (IsTextNode p.machine HasIn HasOut state keeps n) (IsTextRaftMsg p.machine HasIn HasOut state keeps n) (raft-keeps p.machine HasIn HasOut state keeps n) ss allowed read.texts in
       let items = more-nodes n nodes (IsRaftInput HasIn) (IsRaftOutput HasOut) most (plays.trace ss) seen in
-      let requests = each-weaker (HasInput (plays.trace ss)) (IsRaftInput HasIn) (put-in-text nodes (IsRaftInput HasIn) (IsRaftOutput HasOut) (plays.trace ss) items) order explained.requested.put_in in
+      let requests = each_weaker (HasInput (plays.trace ss)) (IsRaftInput HasIn) (put-in-text nodes (IsRaftInput HasIn) (IsRaftOutput HasOut) (plays.trace ss) items) order explained.requested.put_in in
       let plain = plain-orders HasIn t.input_of t.input_text asked order requests in
       let orders = orders-said HasIn t.input_of t.input_text asked order requests in
       let brief_asked = brief-requests HasIn t.input_text is.texts.short_inputs in

@@ -12,7 +12,6 @@ use Rattle.line_reader.specs.Limits.{line_refusals}
 use Rattle.line_reader.specs.Lines.{lines_of}
 use Rattle.line_reader.proofs.Lining.{lines-line}
 use Rattle.line_reader.proofs.Taking.{allows}
-use Rattle.linearizability.specs.Linearizable.{Each}
 use Rattle.schedule_text.specs.declared.header.Header.{Header}
 use Rattle.schedule_text.specs.Headers.{header_text}
 use Rattle.schedule_text.specs.Printing.{as_line, item_text, trace_text}
@@ -29,6 +28,7 @@ use Rattle.stacks.specs.ClaimTexts.{header_lines}
 use Rattle.checked_replays.proofs.PlainLines.{IsPlain, lines-are, lines-behind, printed}
 use Rattle.checked_replays.proofs.TraceReading.{IsShort, enough, first-none, plain-trace, trace-read}
 use Rattle.permitted_claims.specs.Spelled.{IsTextItem}
+use Rattle.lists.specs.Each.{Each}
 
 unless-none : {X : Type 0} (o : Option Why) (l : ImageLine X) → o ≡ None → image_unless o l ≡ l
 unless-none o l e = rw e refl

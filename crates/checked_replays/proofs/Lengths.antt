@@ -5,7 +5,6 @@ use Rattle.std.specs.Fmt.{decimal}
 use Rattle.std.proofs.Common.{length-append, arith}
 use Rattle.std.proofs.lemmas.Fmt.{length-decimal-le}
 use Rattle.app_text.specs.PbTexts.{IsPbOutput, pb_output_text}
-use Rattle.linearizability.specs.Linearizable.{Each}
 use Rattle.raft_text.specs.RaftTexts.{IsNumber, IsRaftInput, IsRaftOutput, named_text, names_text, order_text, raft_input_text, raft_output_text}
 use Rattle.raft_types.specs.declared.client.RaftInput.{RaftInput}
 use Rattle.raft_types.specs.declared.client.RaftOut.TheVariants.{Reply, NotLeader, Full}
@@ -18,6 +17,7 @@ use Rattle.vst_base.specs.declared.step.Step.{Step}
 use Rattle.vst_base.specs.declared.step.Step.TheVariants as step
 use Rattle.permitted_claims.specs.Spelled.{IsTextItem, most_bytes}
 use Rattle.checked_replays.proofs.TraceReading.{IsShort}
+use Rattle.lists.specs.Each.{Each}
 
 -- values whose texts have so many bytes at most
 abbrev pub AreWithin : {V : Type 0} → ℕ → (V → Type 0) → (V → List ℕ) → Type 0

@@ -4,7 +4,6 @@ use Rattle.std.proofs.Common.{ap, ◌∙◌, arith}
 use Rattle.app_text.specs.Spelling.{IsSpelling}
 use Rattle.line_reader.specs.declared.why.Why.TheVariants as why
 use Rattle.line_reader.proofs.Cutting.{none-append}
-use Rattle.linearizability.specs.Linearizable.{Each}
 use Rattle.raft_text.specs.RaftTexts.{IsRaftInput, order_text, raft_input_of, raft_input_text}
 use Rattle.raft_types.specs.declared.client.RaftInput.{RaftInput}
 use Rattle.schedule_text.proofs.PrintedLaws.{plain-text}
@@ -15,6 +14,7 @@ use Rattle.check_text.specs.Reading.{read_map}
 use Rattle.check_text.specs.declared.image_line.ImageLine.TheVariants as line
 use Rattle.checked_replays.proofs.ImageReading.{IsHeadedBy}
 use Rattle.checked_replays.proofs.PlainLines.{IsPlain}
+use Rattle.lists.specs.Each.{Each}
 
 order-by : {X : Type 0} (x : Option X) (y : X) → x ≡ Some y → said_or_refused (ok_or x why.Text) ≡ line.Says y
 order-by x y e = rw e refl

@@ -3,7 +3,6 @@ use Rattle.std.specs.Prelude.{◌≡◌, ℕ, List, length, ◌≤◌, ◌<◌, 
 use Rattle.std.proofs.Common.{ap, subst, sym, arith}
 use Rattle.check_text.specs.Forms.{claim_of}
 use Rattle.check_text.specs.Reading.{Whole}
-use Rattle.linearizability.specs.Linearizable.{Each}
 use Rattle.line_reader.specs.Lines.{lines_of}
 use Rattle.net_semantics.specs.Runs.{no_recovery, trace}
 use Rattle.net_semantics.specs.Worlds.{first_world}
@@ -26,6 +25,7 @@ use Rattle.checked_replays.proofs.Lengths.{short-steps, within-more}
 use Rattle.checked_replays.proofs.Scripts.{AreReadSteps}
 use Rattle.checked_replays.proofs.StackReading.{stack-read}
 use Rattle.checked_replays.proofs.StepImages.{headed-by, plain-steps, steps-said}
+use Rattle.lists.specs.Each.{Each}
 
 -- of any stack whose clients see what those of the handlers see of the image
 module _ (h : OwnHandlers) (is : AreSpelledHandlers h) {S K M : Type 0} (sys : System S K h.Input h.Output M (Step h.Input)) (nodes n : ℕ) (few_nodes : nodes < 4294967296) (within : n ≤ nodes)

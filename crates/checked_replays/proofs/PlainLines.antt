@@ -2,11 +2,11 @@
 use Rattle.std.specs.Prelude.{◌≡◌, ℕ, List, [], ◌∷◌, ◌++◌, map, None, refl}
 use Rattle.std.specs.List.{flat_map}
 use Rattle.std.proofs.Common.{ap, ◌∙◌, append_assoc}
-use Rattle.linearizability.specs.Linearizable.{Each}
 use Rattle.line_reader.specs.Cuts.{cut_at}
 use Rattle.line_reader.specs.Lines.{lines_of}
 use Rattle.line_reader.proofs.Lining.{lines-line}
 use Rattle.schedule_text.specs.Printing.{as_line}
+use Rattle.lists.specs.Each.{Each}
 
 abbrev pub IsPlain : List ℕ → Type 0
 IsPlain line = cut_at 10 line ≡ None

@@ -5,7 +5,6 @@ use Rattle.std.specs.Cmp.{nat_cmp_total}
 use Rattle.std.specs.FinMap.{get}
 use Rattle.std.specs.FinMap as map
 use Rattle.std.specs.Ordering.{nat_cmp}
-use Rattle.linearizability.specs.Linearizable.{Each}
 use Rattle.raft_clients.specs.Requests.{asked_by, request_of}
 use Rattle.raft_clients.specs.Sessions.{Applied, AppliedAll, Sessions, answer, applied, applied_all, applied_by, applied_request, executes, kept_output, passes}
 use Rattle.raft_clients.specs.declared.session.Session.{Session}
@@ -17,9 +16,10 @@ use Rattle.vst_base.specs.Machines.{MachineMeaning}
 use Rattle.vst_base.specs.declared.entry.Entry.{Entry}
 use Rattle.vst_base.specs.declared.what.What.{What}
 use Rattle.vst_base.specs.declared.what.What.TheVariants.{Noop, Request}
-use Rattle.permitted_claims.proofs.Eaches.{IfThere, each-both, either}
+use Rattle.permitted_claims.proofs.Eaches.{IfThere, either}
 use Rattle.permitted_claims.proofs.Machines.{MachineKeeps}
 use Rattle.permitted_claims.proofs.Maps.{EachValue, each-empty, each-insert}
+use Rattle.lists.specs.Each.{Each, each_append}
 
 module _ {S C O : Type 0} (m : MachineMeaning S C O) (HasIn : C → Type 0) (HasOut : O → Type 0) (Sound : S → Type 0) (keeps : MachineKeeps m HasIn HasOut Sound) where
   -- what it asks for has a text, if it asks for anything
@@ -83,7 +83,7 @@ module _ {S C O : Type 0} (m : MachineMeaning S C O) (HasIn : C → Type 0) (Has
       record {
         state = rest.state;
         sessions = rest.sessions;
-        answers = each-both IsTextAnswer (answer e (applied m state sessions e).output) (applied_all m (applied m state sessions e).state (applied m state sessions e).sessions es).answers (answer-text e (applied m state sessions e).output has.0 first.output) rest.answers;
+        answers = each_append IsTextAnswer (answer e (applied m state sessions e).output) (applied_all m (applied m state sessions e).state (applied m state sessions e).sessions es).answers (answer-text e (applied m state sessions e).output has.0 first.output) rest.answers;
       }
 
   -- what a node tells its clients
@@ -95,4 +95,4 @@ module _ {S C O : Type 0} (m : MachineMeaning S C O) (HasIn : C → Type 0) (Has
   pub replies-text : (me : ℕ) (answers : List (Entry C × O)) → Each IsTextAnswer answers → Each (IsRaftOutput HasOut) (replies me answers)
   replies-text me [] has = tt
   replies-text me (a ∷ rest) has =
-      each-both (IsRaftOutput HasOut) (reply me a.0.what a.1) (replies me rest) (reply-text me a.0.what a.1 has.0.0 has.0.1) (replies-text me rest has.1)
+      each_append (IsRaftOutput HasOut) (reply me a.0.what a.1) (replies me rest) (reply-text me a.0.what a.1 has.0.0 has.0.1) (replies-text me rest has.1)

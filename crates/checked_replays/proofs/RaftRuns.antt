@@ -2,7 +2,6 @@
 -- entries that are sent, to nodes that exist.
 use Rattle.std.specs.Prelude.{ℕ, zero, suc, ◌-◌, ◌<◌, ◌≤◌, Bool, true, false, not, ◌==◌, ◌&&◌, List, [], ◌∷◌, drop, take, length, nat_le, nat_lt, cond}
 use Rattle.std.proofs.Common.{arith}
-use Rattle.linearizability.specs.Linearizable.{Each}
 use Rattle.raft_clients.specs.Sessions.{applied_all}
 use Rattle.raft_commit.specs.declared.peer.Moved.{Moved}
 use Rattle.raft_commit.specs.declared.peer.Moved.TheVariants as moves
@@ -30,10 +29,11 @@ use Rattle.vst_base.specs.declared.entry.Entry.{Entry}
 use Rattle.vst_base.specs.declared.net.Net.TheVariants as net
 use Rattle.vst_base.specs.declared.what.What.{What}
 use Rattle.vst_base.specs.declared.what.What.TheVariants.{Noop, Request}
-use Rattle.permitted_claims.proofs.Eaches.{each-both, each-drop, each-take, either}
+use Rattle.permitted_claims.proofs.Eaches.{either}
 use Rattle.permitted_claims.proofs.Machines.{MachineKeeps}
 use Rattle.checked_replays.proofs.RaftApplying.{AreTextSessions, IsTextEntry, all-text, no-sessions, replies-text}
 use Rattle.permitted_claims.proofs.Runs.{IsFine, KeepsTexts}
+use Rattle.lists.specs.Each.{Each, each_append, each_drop, each_take}
 
 -- old entries and new ones
 merged-each : {C : Type 0} (P : Entry C → Type 0) (old es : List (Entry C)) → Each P old → Each P es → Each P (merged old es)
@@ -77,10 +77,10 @@ module _ {S C O : Type 0} (m : MachineMeaning S C O) (HasIn : C → Type 0) (Has
   others-sent : (n me : ℕ) (message : ℕ → RaftMsg C) → n ≤ nodes → ((k : ℕ) → IsTextRaftMsg (message k)) → Each IsSentText (to_others n me message)
   others-sent zero me message within text = tt
   others-sent (suc n) me message within text =
-      each-both IsSentText (to_others n me message) (cond (n == me) [] ((n, message n) ∷ [])) (others-sent n me message (omega (arith, within)) text) (either (Each IsSentText) (n == me) [] ((n, message n) ∷ []) tt ((omega (arith, within), text n), tt))
+      each_append IsSentText (to_others n me message) (cond (n == me) [] ((n, message n) ∷ [])) (others-sent n me message (omega (arith, within)) text) (either (Each IsSentText) (n == me) [] ((n, message n) ∷ []) tt ((omega (arith, within), text n), tt))
 
   append-text : (n : ℕ) (s : RaftView S C O) (k : ℕ) → IsTextNode n s → IsTextRaftMsg (append s k)
-  append-text n s k text = each-take IsText MAX_BATCH (drop ((peer_at s.peers k).next - 1) s.log) (each-drop IsText ((peer_at s.peers k).next - 1) s.log text.0)
+  append-text n s k text = each_take IsText MAX_BATCH (drop ((peer_at s.peers k).next - 1) s.log) (each_drop IsText ((peer_at s.peers k).next - 1) s.log text.0)
 
   appends-sent : (n me : ℕ) (s : RaftView S C O) → IsTextNode n s → Each IsSentText (appends nodes me s)
   appends-sent n me s text = others-sent nodes me (append s) (omega arith) (λ k. append-text n s k text)
@@ -91,7 +91,7 @@ module _ {S C O : Type 0} (m : MachineMeaning S C O) (HasIn : C → Type 0) (Has
   -- applying what is committed
   caught-up-fine : (me : ℕ) (s : RaftView S C O) → IsTextNode me s → IsRaftFine me (caught_up m me s)
   caught-up-fine me s text =
-      let after = all-text m HasIn HasOut Sound keeps s.machine s.sessions (due s) text.1 text.2 (each-take IsText (s.commit - s.applied) (drop s.applied s.log) (each-drop IsText s.applied s.log text.0)) in
+      let after = all-text m HasIn HasOut Sound keeps s.machine s.sessions (due s) text.1 text.2 (each_take IsText (s.commit - s.applied) (drop s.applied s.log) (each_drop IsText s.applied s.log text.0)) in
       record { state = (text.0, after.state, after.sessions); outputs = replies-text m HasIn HasOut Sound keeps me (applied_all m s.machine s.sessions (due s)).answers after.answers; sends = tt }
 
   settled-fine : (me : ℕ) (s : RaftView S C O) → IsTextNode me s → IsRaftFine me (settled m nodes me s)
@@ -99,7 +99,7 @@ module _ {S C O : Type 0} (m : MachineMeaning S C O) (HasIn : C → Type 0) (Has
 
   -- a leader with one more entry, that broadcasts its log
   with-entry-text : (me : ℕ) (s : RaftView S C O) (what : What C) → IsTextNode me s → IsText (record { term = s.ballot.term; what = what }) → IsTextNode me (with_entry s what)
-  with-entry-text me s what text has = (each-both IsText s.log (record { term = s.ballot.term; what = what } ∷ []) text.0 (has, tt), text.1, text.2)
+  with-entry-text me s what text has = (each_append IsText s.log (record { term = s.ballot.term; what = what } ∷ []) text.0 (has, tt), text.1, text.2)
 
   broadcasts-fine : (me : ℕ) (s : RaftView S C O) → IsTextNode me s → IsRaftFine me (broadcasts m nodes me s)
   broadcasts-fine me s text =
@@ -150,8 +150,8 @@ module _ {S C O : Type 0} (m : MachineMeaning S C O) (HasIn : C → Type 0) (Has
 
   takes-fine : (me : ℕ) (s : RaftView S C O) (from : ℕ) (a : AppendView C) → from < nodes → IsTextNode me s → Each IsText a.entries → IsRaftFine me (takes m me s from a)
   takes-fine me s from a below text has =
-      let log = each-both IsText (take a.prev_index s.log) (merged (drop a.prev_index s.log) a.entries) (each-take IsText a.prev_index s.log text.0)
-      (merged-each IsText (drop a.prev_index s.log) a.entries (each-drop IsText a.prev_index s.log text.0) has) in
+      let log = each_append IsText (take a.prev_index s.log) (merged (drop a.prev_index s.log) a.entries) (each_take IsText a.prev_index s.log text.0)
+      (merged-each IsText (drop a.prev_index s.log) a.entries (each_drop IsText a.prev_index s.log text.0) has) in
       and-sending-fine me (caught_up m me (taken s a)) (answer s true (last_new a) from) (caught-up-fine me (taken s a) (log, text.1, text.2)) (answer-sent s true (last_new a) from below)
 
   append-fine : (me : ℕ) (s : RaftView S C O) (from : ℕ) (a : AppendView C) → from < nodes → IsTextNode me s → Each IsText a.entries → IsRaftFine me (on_append m me s from a)

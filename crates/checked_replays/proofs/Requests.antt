@@ -3,13 +3,14 @@ use Rattle.std.specs.Prelude.{◌≡◌, ℕ, suc, ◌≤◌, Bool, true, false,
 use Rattle.std.proofs.Common.{ap, ◌∙◌, sym, inl, inr, arith}
 use Rattle.std.proofs.lemmas.Bool.{and_from}
 use Rattle.std.proofs.lemmas.Bool.Decides.{nat_tests}
-use Rattle.linearizability.specs.Linearizable.{AreDistinct, AreOther, Each, HasInput, is_named}
+use Rattle.linearizability.specs.Linearizable.{AreDistinct, AreOther, HasInput, is_named}
 use Rattle.raft_types.specs.declared.client.RaftInput.{RaftInput}
 use Rattle.vst_base.specs.declared.step.Item.{Item}
 use Rattle.vst_base.specs.declared.step.Item.TheVariants as item
 use Rattle.schedule_replay.specs.Replaying.{is_input}
 use Rattle.checked_replays.proofs.Counts.{counted-first}
 use Rattle.permitted_claims.proofs.Eaches.{either}
+use Rattle.lists.specs.Each.{Each}
 
 same-number : (n : ℕ) → (n == n) ≡ true
 same-number n = grind (arith, nat_tests)

@@ -5,7 +5,6 @@ use Rattle.vst_base.specs.Firsts.{first_of}
 use Rattle.vst_base.specs.declared.step.Step.{Step}
 use Rattle.line_reader.specs.declared.why.Why.{Why}
 use Rattle.line_reader.specs.Limits.{line_refusals}
-use Rattle.linearizability.specs.Linearizable.{Each}
 use Rattle.net_semantics.specs.Once.{delivered_after, is_repeat, once_from}
 use Rattle.schedule_text.specs.declared.line.Line.{Line}
 use Rattle.schedule_text.specs.declared.line.Line.TheVariants.{Skipped, IsStep, Refused}
@@ -18,6 +17,7 @@ use Rattle.schedule_replay.specs.Replays.{most_lines}
 use Rattle.checked_replays.proofs.Counts.{steps-few}
 use Rattle.permitted_claims.proofs.Eaches.{either}
 use Rattle.schedule_text.proofs.SpellableLaws.{step-spellable}
+use Rattle.lists.specs.Each.{Each}
 
 module _ {I : Type 0} (f : List ℕ → Option I) (HasIn : I → Type 0) (has_text : (bs : List ℕ) (i : I) → f bs ≡ Some i → HasIn i) where
   abbrev IsReadLine : Line I → Type 0

@@ -4,7 +4,6 @@ use Rattle.std.specs.List.{flat_map}
 use Rattle.std.proofs.Common.{◌∙◌, ap, append_assoc}
 use Rattle.app_text.specs.Spelling.{IsSpelling}
 use Rattle.vst_base.specs.declared.step.Step.{Step}
-use Rattle.linearizability.specs.Linearizable.{Each}
 use Rattle.line_reader.specs.Lines.{lines_of}
 use Rattle.schedule_text.specs.Printing.{as_line, lines_text, trace_text}
 use Rattle.check_text.specs.Forms.{claim_of}
@@ -19,6 +18,7 @@ use Rattle.checked_replays.proofs.ImageReading.{IsHeadedBy, claim-read, lines-co
 use Rattle.checked_replays.proofs.Lengths.{AreWithin, short-trace}
 use Rattle.checked_replays.proofs.PlainLines.{IsPlain}
 use Rattle.checked_replays.proofs.TraceReading.{IsShort}
+use Rattle.lists.specs.Each.{Each}
 
 -- the lines of things are the things' lines
 lines-map : {G : Type 0} (text : G → List ℕ) (gs : List G) → lines_text text gs ≡ flat_map as_line (map text gs)

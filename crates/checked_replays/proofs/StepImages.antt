@@ -4,7 +4,6 @@ use Rattle.std.proofs.Common.{◌∙◌, arith}
 use Rattle.app_text.specs.Spelling.{IsSpelling}
 use Rattle.line_reader.specs.declared.why.Why.{Why}
 use Rattle.line_reader.specs.declared.why.Why.TheVariants as why
-use Rattle.linearizability.specs.Linearizable.{Each}
 use Rattle.schedule_text.specs.declared.header.Header.{Header}
 use Rattle.schedule_text.specs.Headers.{header_text}
 use Rattle.schedule_text.specs.Printing.{step_text}
@@ -19,6 +18,7 @@ use Rattle.vst_base.specs.declared.step.Step.{Step}
 use Rattle.vst_base.specs.declared.step.Step.TheVariants as step
 use Rattle.checked_replays.proofs.ImageReading.{IsHeadedBy, headed-read}
 use Rattle.checked_replays.proofs.PlainLines.{IsPlain}
+use Rattle.lists.specs.Each.{Each}
 
 -- a step that is printed says the step
 said-by : {I : Type 0} (b : Bool) (r : Result (Step I) Why) (s : Step I) → b ≡ false → r ≡ Ok s → cond b (line.Refused why.UnknownWord) (said_or_refused r) ≡ line.Says s

@@ -13,7 +13,6 @@ use Rattle.line_reader.specs.declared.why.Why.TheVariants as why
 use Rattle.line_reader.specs.Limits.{line_refusals}
 use Rattle.line_reader.proofs.Cutting.{none-append, none-from}
 use Rattle.line_reader.proofs.Taking.{allows}
-use Rattle.linearizability.specs.Linearizable.{Each}
 use Rattle.schedule_text.specs.Printing.{item_text, numbered}
 use Rattle.schedule_text.proofs.PrintedLaws.{plain-number, plain-text}
 use Rattle.check_text.specs.Claims.{Claim}
@@ -25,6 +24,7 @@ use Rattle.schedule_replay.specs.Replaying.{is_input}
 use Rattle.permitted_claims.specs.Spelled.{IsTextItem}
 use Rattle.permitted_claims.proofs.TextItems.{item-said}
 use Rattle.checked_replays.proofs.PlainLines.{IsPlain}
+use Rattle.lists.specs.Each.{Each}
 
 abbrev pub IsShort : List ℕ → Type 0
 IsShort line = length line ≤ 4096

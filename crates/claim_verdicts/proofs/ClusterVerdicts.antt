@@ -11,7 +11,7 @@ use Rattle.vst_base.specs.declared.step.Item.TheVariants as item
 use Rattle.raft_types.specs.declared.client.RaftInput.{RaftInput}
 use Rattle.raft_types.specs.declared.client.RaftOut.{RaftOut}
 use Rattle.raft_types.specs.declared.client.RaftOut.TheVariants as told
-use Rattle.linearizability.specs.Linearizable.{AreDistinct, AreOther, Each, Seen, beside, is_named, with_outputs}
+use Rattle.linearizability.specs.Linearizable.{AreDistinct, AreOther, Seen, beside, is_named, with_outputs}
 use Rattle.claim_verdicts.specs.Clusters.{ClusterClaim, answers_one, before_input, cluster_verdict, is_among, is_late, is_other_output, is_unexplained, is_unrequested, puts_in}
 use Rattle.claim_verdicts.specs.Marks.{IsFront, first_unrequested, is_mark, is_name, is_untold, mark_by, mark_of, marks_of, name_of, names_of, told_at, unrequested_at}
 use Rattle.check_text.specs.Claims.{image_line, item_line}
@@ -23,17 +23,13 @@ use Rattle.claim_verdicts.specs.declared.name.Name.{Name}
 use Rattle.claim_verdicts.proofs.FirstInputs.{length-marks}
 use Rattle.claim_verdicts.proofs.Naming.{same-name}
 use Rattle.claim_verdicts.proofs.WrongPlaces.{wrong-here, wrong-none, wrong-same}
+use Rattle.lists.specs.Each.{Each}
+use Rattle.lists.specs.Places.{no_place}
 
 -- a place after so many others, or what comes where there is none
 abbrev or_behind : ℕ → Option ℕ → Option ℕ → Option ℕ
 or_behind n (Some p) rest = Some (n + p)
 or_behind n None rest = rest
-
--- nothing stands past the end
-past : {A : Type 0} (xs : List A) (i : ℕ) → slice_get xs i ≡ None → length xs ≤ i
-past [] i e = omega arith
-past (x ∷ xs) zero e = cc
-past (x ∷ xs) (suc i) e = omega (arith, past xs i e)
 
 no-unseen : (late : Bool) → is_mark Unseen (mark_by true late) ≡ false
 no-unseen true = refl
@@ -75,7 +71,7 @@ module _ {C O : Type 0} (t : C → List ℕ) (seen : Seen C O) where
     by : (o : Option (RaftInput C)) → slice_get order (length found) ≡ o
         → first_wrong (is_unrequested t seen) (take (length found) order) (drop (length found) order) ≡ cond (nat_lt (length found) (length order)) (Some (length found)) None
     by None got =
-        let over : length order ≤ length found = past order (length found) got in
+        let over : length order ≤ length found = no_place order (length found) got in
         let less : nat_lt (length found) (length order) ≡ false = grind (arith, nat_tests) in
         wrong-none (is_unrequested t seen) order (length found) over ∙ sym (rw less refl)
     by (Some r) got =

@@ -11,11 +11,12 @@ use Rattle.vst_base.specs.declared.pb_out.PbOut.TheVariants as told
 use Rattle.vst_base.specs.declared.step.Item.{Item}
 use Rattle.vst_base.specs.declared.step.Item.TheVariants as item
 use Rattle.net_semantics.specs.BelowPb.{IsExplainedBy, OnlyRedirects, RedirectsAtOnce, inputs_at, outputs_at, replies_in}
-use Rattle.linearizability.specs.Linearizable.{Each}
 use Rattle.claim_verdicts.specs.Backups.{Items, is_at_backup, is_wrong_answer, is_wrong_at_backup, is_wrong_after, last_of, passes, redirects, replies_so}
 use Rattle.claim_verdicts.specs.Laws.{IsSpelledOutput, IsSpelledReply}
 use Rattle.claim_verdicts.proofs.Neighbours.{outputs-push}
 use Rattle.claim_verdicts.proofs.NoneWrongs.{NoneWrong}
+use Rattle.lists.specs.Each.{Each}
+use Rattle.lists.specs.Places.{slice_get_seam, slice_get_taken}
 
 or-false : (a b : Bool) → (a || b) ≡ false → (a ≡ false) × (b ≡ false)
 or-false true b e = cc
@@ -139,20 +140,10 @@ module _ {S C O : Type 0} (IsO : O → Type 0) (u : O → List ℕ) (apart : (a 
         nothing_else = nothing_else-of items backup;
       }
 
-at-length : {A : Type 0} (xs : List A) (x : A) (ys : List A) → slice_get (xs ++ x ∷ ys) (length xs) ≡ Some x
-at-length [] x ys = refl
-at-length (z ∷ xs) x ys = at-length xs x ys
-
 mapped-at : {O : Type 0} (xs : List O) (j : ℕ) (o : PbOut O) → slice_get (map told.Reply xs) j ≡ Some o → (q : O) × (slice_get xs j ≡ Some q) × (o ≡ told.Reply q)
 mapped-at [] j o e = cc
 mapped-at (x ∷ xs) zero o e = let same : told.Reply x ≡ o = cc in (x, refl, sym same)
 mapped-at (x ∷ xs) (suc j) o e = mapped-at xs j o e
-
-taken-at : {O : Type 0} (k : ℕ) (xs : List O) (j : ℕ) (q : O) → slice_get (take k xs) j ≡ Some q → slice_get xs j ≡ Some q
-taken-at zero xs j q e = cc
-taken-at (suc k) [] j q e = cc
-taken-at (suc k) (x ∷ xs) zero q e = e
-taken-at (suc k) (x ∷ xs) (suc j) q e = taken-at k xs j q e
 
 -- an output that is the one at its place, after its input
 right-answer : {O : Type 0} (C : Type 0) (u : O → List ℕ) (F : List O) (asked answered : ℕ) (o : PbOut O) (q : O) → nat_le asked answered ≡ false → slice_get F answered ≡ Some q → o ≡ told.Reply q
@@ -182,9 +173,9 @@ module _ {S C O : Type 0} (u : O → List ℕ) (m : MachineMeaning S C O) (whole
       let asked : nat_le (length (inputs_at 0 b)) j ≡ false = grind (arith, nat_tests) in
       let outs : outputs_at 0 b ++ o ∷ outputs_at 0 rest ≡ map told.Reply (take r (fold m (inputs_at 0 whole))) =
       sym (ap (outputs_at 0) split ∙ outputs-both b (item.Output 0 o ∷ rest)) ∙ (e.outputs ∙ ap (λ os. map told.Reply os) (fold-take m m.init r (inputs_at 0 whole))) in
-      let found = mapped-at (take r (fold m (inputs_at 0 whole))) j o (ap (λ os. slice_get os j) (sym outs) ∙ at-length (outputs_at 0 b) o (outputs_at 0 rest)) in
+      let found = mapped-at (take r (fold m (inputs_at 0 whole))) j o (ap (λ os. slice_get os j) (sym outs) ∙ slice_get_seam (outputs_at 0 b) o (outputs_at 0 rest)) in
       let q = found.0 in
-      let there : slice_get (fold m (inputs_at 0 whole)) j ≡ Some q = taken-at r (fold m (inputs_at 0 whole)) j q found.1 in
+      let there : slice_get (fold m (inputs_at 0 whole)) j ≡ Some q = slice_get_taken r (fold m (inputs_at 0 whole)) j q found.1 in
       right-answer C u (fold m (inputs_at 0 whole)) (length (inputs_at 0 b)) j o q asked there found.2
 
   pub none-answer : (b items : Items C O) → whole ≡ b ++ items → NoneWrong (is_wrong_answer u (fold m (inputs_at 0 whole))) b items

@@ -10,7 +10,7 @@ use Rattle.vst_base.specs.declared.step.Item.TheVariants as item
 use Rattle.raft_types.specs.declared.client.RaftInput.{RaftInput}
 use Rattle.raft_types.specs.declared.client.RaftOut.{RaftOut}
 use Rattle.raft_types.specs.declared.client.RaftOut.TheVariants as told
-use Rattle.linearizability.specs.Linearizable.{AreDistinct, Each, Seen, is_named}
+use Rattle.linearizability.specs.Linearizable.{AreDistinct, Seen, is_named}
 use Rattle.schedule_text.specs.Words.{is_text}
 use Rattle.claim_verdicts.specs.Clusters.{answers_one, before_input, puts_in}
 use Rattle.claim_verdicts.specs.Places.{place_of}
@@ -19,6 +19,7 @@ use Rattle.claim_verdicts.specs.declared.mark.Mark.{Mark}
 use Rattle.claim_verdicts.specs.declared.mark.Mark.TheVariants.{Unseen, InTime, Late}
 use Rattle.claim_verdicts.specs.declared.name.Name.{Name}
 use Rattle.claim_verdicts.proofs.Naming.{among-drop, others-unnamed, place-named, unnamed-none}
+use Rattle.lists.specs.Each.{Each}
 
 not-put : (late : Bool) (m : Mark) → next_mark false late m ≡ m
 not-put late Unseen = refl

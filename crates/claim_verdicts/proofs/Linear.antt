@@ -11,7 +11,7 @@ use Rattle.vst_base.specs.declared.step.Item.TheVariants as item
 use Rattle.raft_types.specs.declared.client.RaftInput.{RaftInput}
 use Rattle.raft_types.specs.declared.client.RaftOut.{RaftOut}
 use Rattle.raft_types.specs.declared.client.RaftOut.TheVariants as told
-use Rattle.linearizability.specs.Linearizable.{AreDistinct, AreInTime, AreOther, Each, HasInput, IsLinearizable, Seen, Told, beside, is_named, told_since, up_to, with_outputs}
+use Rattle.linearizability.specs.Linearizable.{AreDistinct, AreInTime, AreOther, HasInput, IsLinearizable, Seen, Told, beside, is_named, told_since, up_to, with_outputs}
 use Rattle.schedule_text.specs.Words.{is_text}
 use Rattle.check_text.specs.Claims.{image_line, item_line}
 use Rattle.claim_verdicts.specs.Clusters.{ClusterClaim, answers_one, before_input, cluster_verdict, is_among, is_late, is_other_output, is_unexplained, is_unrequested, puts_in}
@@ -22,6 +22,7 @@ use Rattle.claim_verdicts.proofs.ClusterVerdicts.{distinct-among}
 use Rattle.claim_verdicts.proofs.NoneWrongs.{NoneWrong, first-none, none-first}
 use Rattle.claim_verdicts.proofs.SameLines.{all-true}
 use Rattle.claim_verdicts.proofs.Naming.{others-unnamed, unnamed-any}
+use Rattle.lists.specs.Each.{Each}
 
 or-false : (a b : Bool) → (a || b) ≡ false → (a ≡ false) × (b ≡ false)
 or-false true b e = cc

@@ -7,11 +7,12 @@ use Rattle.std.proofs.lemmas.List.{length-map, map-append, take_more}
 use Rattle.std.proofs.lemmas.Option.{slice_get_past, slice_get_read}
 use Rattle.std.proofs.lemmas.Bool.Decides.{nat_tests}
 use Rattle.raft_types.specs.declared.client.RaftInput.{RaftInput}
-use Rattle.linearizability.specs.Linearizable.{AreDistinct, AreOther, Each, is_named}
+use Rattle.linearizability.specs.Linearizable.{AreDistinct, AreOther, is_named}
 use Rattle.claim_verdicts.specs.Clusters.{is_among}
 use Rattle.claim_verdicts.specs.Places.{place_of}
 use Rattle.claim_verdicts.specs.declared.name.Name.{Name}
 use Rattle.claim_verdicts.specs.Marks.{IsFront, past_place, is_name, name_of, named, names_of}
+use Rattle.lists.specs.Each.{Each}
 
 -- std's position, by cases on the list
 more-places : (n m : ℕ) (u : Bool) → nat_lt n m ≡ u → cond (nat_lt (1 + n) (suc m)) (Some (1 + n)) None ≡ option_map suc (cond u (Some n) None)

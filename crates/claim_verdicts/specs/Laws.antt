@@ -16,8 +16,8 @@ use Rattle.trace_maps.specs.Replying.{alone}
 use Rattle.schedule_text.specs.Printing.{item_text, step_text}
 use Rattle.claim_verdicts.specs.Backups.{BackupClaim}
 use Rattle.claim_verdicts.specs.Schedules.{ScheduleClaim}
-use Rattle.linearizability.specs.Linearizable.{Each}
 use Rattle.claim_verdicts.specs.Clusters.{ClusterClaim}
+use Rattle.lists.specs.Each.{Each}
 
 -- an item whose command or output, if it has one, has a text
 abbrev pub IsSpelledItem : {C O : Type 0} → (C → Type 0) → (O → Type 0) → Item (RaftInput C) (RaftOut O) → Type 0

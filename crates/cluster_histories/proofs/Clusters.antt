@@ -1,12 +1,12 @@
 -- The theorem of clusters, of their deeds and of their moves.
-use Rattle.std.proofs.Common.{ℕ, List, [], ◌∷◌, ◌++◌, refl, sym, ap, ◌∙◌, subst, append_assoc}
+use Rattle.std.proofs.Common.{◌≡◌, ℕ, List, [], ◌∷◌, ◌++◌, refl, sym, subst, drop, length}
 use Rattle.linearizability.specs.Linearizable.{IsLinearizable}
 use Rattle.net_semantics.specs.Worlds.{put}
 use Rattle.node_histories.specs.HistoryLaws.{RunsAs}
 use Rattle.node_histories.specs.Translations.{at_node, translated}
 use Rattle.node_histories.specs.Views.{HasView}
 use Rattle.raft_safety.proofs.Ordering.{runs_are_linearizable}
-use Rattle.raft_safety.specs.Applied.{IsBeginning, executed_by}
+use Rattle.raft_safety.specs.Applied.{executed_by}
 use Rattle.raft_safety.specs.Runs.{seen}
 use Rattle.raft_types.specs.Ranges.{IsClusterSize}
 use Rattle.raft_xform.specs.Raft.{raft, raft_recovery}
@@ -19,6 +19,7 @@ use Rattle.cluster_histories.specs.ClusterLaws.{DeedsAreExplained, DeedsAreOfOne
 use Rattle.cluster_histories.specs.DeedLaws.{AreMoves, moves_of, moves_of_one}
 use Rattle.cluster_histories.specs.MoveLaws.{AreExplained, AreTwoMoments, IsExplained}
 use Rattle.cluster_histories.specs.Moves.{at_first, counted_by}
+use Rattle.lists.specs.Prefixes.{IsPrefix, prefix_behind, prefix_joined}
 
 -- each schedule is explained, by what it executes
 each_is_explained : {S C O : Type 0} (m : MachineMeaning S C O) (nodes : ℕ) → IsClusterSize nodes → IsExplained (raft nodes m) (raft_recovery m) m (executed_by m nodes)
@@ -46,24 +47,24 @@ deeds_are_explained S C O m nodes deeds size all =
       explained = subst (IsLinearizable m (executed_by m nodes is.steps)) are.noted is.explained;
     }
 
--- a beginning, told in other words, is a beginning of the whole
-begins : {T X A : Type 0} (step : ℕ → T → X → T × List A) (t : ℕ → T) (xs ys : List (ℕ × X)) → IsBeginning (translated step t xs) (translated step t (xs ++ ys))
-begins step t [] ys = (translated step t ys, refl)
+-- a prefix, told in other words, is a prefix of the whole
+begins : {T X A : Type 0} (step : ℕ → T → X → T × List A) (t : ℕ → T) (xs ys : List (ℕ × X)) → IsPrefix (translated step t xs) (translated step t (xs ++ ys))
+begins step t [] ys = refl
 begins step t (x ∷ xs) ys =
     let first = at_node x.0 (step x.0 (t x.0) x.1).1 in
-    let rest = begins step (put t x.0 (step x.0 (t x.0) x.1).0) xs ys in
-    (rest.0, append_assoc first (translated step (put t x.0 (step x.0 (t x.0) x.1).0) xs) rest.0 ∙ ap (λ zs. first ++ zs) rest.1)
+    prefix_behind first _ (begins step (put t x.0 (step x.0 (t x.0) x.1).0) xs ys)
 
 pub deeds_are_of_one_run : (S C O : Type 0) → DeedsAreOfOneRun S C O
 deeds_are_of_one_run S C O m nodes deeds more size all =
     let are : AreMoves (raft nodes m) (raft_recovery m) (deeds ++ more) = deeds_are_moves _ _ _ _ _ (raft nodes m) (raft_recovery m) (deeds ++ more) all in
     let moves : RaftMoves C O = moves_of are.choices deeds in
     let whole : RaftMoves C O = moves_of are.choices (deeds ++ more) in
-    let rest : IsBeginning moves whole = begins moves_of_one are.choices deeds more in
-    let parts : DoTheirParts (raft nodes m) (raft_recovery m) (moves ++ rest.0) = subst (DoTheirParts (raft nodes m) (raft_recovery m)) (sym rest.1) are.parts in
-    let two : AreTwoMoments (raft nodes m) (raft_recovery m) moves rest.0 = kept_moves_are_of_one_run S C O m nodes moves rest.0 parts in
+    let rest : RaftMoves C O = drop (length moves) whole in
+    let both : moves ++ rest ≡ whole = prefix_joined (begins moves_of_one are.choices deeds more) in
+    let parts : DoTheirParts (raft nodes m) (raft_recovery m) (moves ++ rest) = subst (DoTheirParts (raft nodes m) (raft_recovery m)) (sym both) are.parts in
+    let two : AreTwoMoments (raft nodes m) (raft_recovery m) moves rest = kept_moves_are_of_one_run S C O m nodes moves rest parts in
     let second : RunsAs (raft nodes m) (raft_recovery m) (counted_by whole) (two.early ++ two.late) =
-    subst (λ ms. RunsAs (raft nodes m) (raft_recovery m) (counted_by ms) (two.early ++ two.late)) rest.1 two.second in
+    subst (λ ms. RunsAs (raft nodes m) (raft_recovery m) (counted_by ms) (two.early ++ two.late)) both two.second in
     record {
       are = are;
       early = two.early;
@@ -72,7 +73,7 @@ deeds_are_of_one_run S C O m nodes deeds more size all =
       second = second;
       explained_first = subst (IsLinearizable m (executed_by m nodes two.early)) (view_same are.choices deeds)
           (explains (raft nodes m) (raft_recovery m) m (executed_by m nodes) moves two.early (each_is_explained m nodes size)
-          (allowed_front (raft nodes m) (raft_recovery m) at_first [] moves rest.0 (parts_are_allowed (raft nodes m) (raft_recovery m) (moves ++ rest.0) parts)) two.first);
+          (allowed_front (raft nodes m) (raft_recovery m) at_first [] moves rest (parts_are_allowed (raft nodes m) (raft_recovery m) (moves ++ rest) parts)) two.first);
       explained_second = subst (IsLinearizable m (executed_by m nodes (two.early ++ two.late))) are.noted
           (explains (raft nodes m) (raft_recovery m) m (executed_by m nodes) whole (two.early ++ two.late) (each_is_explained m nodes size)
           (parts_are_allowed (raft nodes m) (raft_recovery m) whole are.parts) second);

@@ -1,6 +1,5 @@
 -- So what counts is a run, and what explains its trace explains what clients note.
-use Rattle.std.proofs.Common.{◌≡◌, ℕ, append_assoc, List, [], ◌∷◌, ◌++◌, refl, sym, ap, ◌∙◌, subst}
-use Rattle.std.proofs.lemmas.List.{append-nil}
+use Rattle.std.proofs.Common.{◌≡◌, ℕ, List, [], ◌∷◌, ◌++◌, refl, sym, ap, ◌∙◌, subst, drop, length}
 use Rattle.handler_trait.specs.Handling.{Meaning, Recovery}
 use Rattle.linearizability.specs.Linearizable.{IsLinearizable}
 use Rattle.net_semantics.specs.Worlds.{Packet}
@@ -14,10 +13,10 @@ use Rattle.node_histories.proofs.Lists.{contains_none}
 use Rattle.node_histories.specs.Histories.{MayHappen, Restarts, items_of}
 use Rattle.node_histories.specs.HistoryLaws.{GoesOn, HasRun, RunsAs}
 use Rattle.node_histories.specs.Views.{HasView}
-use Rattle.raft_safety.specs.Applied.{IsBeginning}
 use Rattle.cluster_histories.specs.Moves.{Move, AreAllowed, AreAllowed_since, ComesTo, Keeps, Sends, SoFar, StartsAgain, Tells, after_move, after_moves, at_first, counted_by, kept, out_after, view_of}
 use Rattle.cluster_histories.specs.MoveLaws.{ClientMoves, MovesAreRuns, AreExplained, AreTwoMoments, AreRun, MovesAreExplained, IsExplained, MomentsAreOfOneRun}
 use Rattle.cluster_histories.proofs.Keeping.{Holds, all_moves}
+use Rattle.lists.specs.Prefixes.{IsPrefix, prefix_append, prefix_joined, prefix_self, prefix_trans}
 
 module _ {S K C O M : Type 0} (m : Meaning S (RaftInput C) (RaftOut O) M) (r : Recovery S K) where
   holds_first : Holds m r at_first [] []
@@ -53,19 +52,17 @@ module _ {S K C O M : Type 0} (m : Meaning S (RaftInput C) (RaftOut O) M) (r : R
       }
 
   -- what counts only grows at its end
-  grows_one : (s : SoFar (RaftInput C) M) (n : ℕ) (a : Move (RaftInput C) (RaftOut O) M) → IsBeginning s.counted (after_move s n a).counted
-  grows_one s n (ComesTo event) = ([], append-nil s.counted)
-  grows_one s n Keeps = (kept n (s.pending n), refl)
-  grows_one s n StartsAgain = ((n, Restarts) ∷ [], refl)
-  grows_one s n (Sends to c) = ([], append-nil s.counted)
-  grows_one s n (Tells o) = ([], append-nil s.counted)
+  grows_one : (s : SoFar (RaftInput C) M) (n : ℕ) (a : Move (RaftInput C) (RaftOut O) M) → IsPrefix s.counted (after_move s n a).counted
+  grows_one s n (ComesTo event) = prefix_self s.counted
+  grows_one s n Keeps = prefix_append s.counted (kept n (s.pending n))
+  grows_one s n StartsAgain = prefix_append s.counted ((n, Restarts) ∷ [])
+  grows_one s n (Sends to c) = prefix_self s.counted
+  grows_one s n (Tells o) = prefix_self s.counted
 
-  grows : (s : SoFar (RaftInput C) M) (moves : ClientMoves C O M) → IsBeginning s.counted (after_moves s moves).counted
-  grows s [] = ([], append-nil s.counted)
+  grows : (s : SoFar (RaftInput C) M) (moves : ClientMoves C O M) → IsPrefix s.counted (after_moves s moves).counted
+  grows s [] = prefix_self s.counted
   grows s (a ∷ moves) =
-      let one : IsBeginning s.counted (after_move s a.0 a.1).counted = grows_one s a.0 a.1 in
-      let more : IsBeginning (after_move s a.0 a.1).counted (after_moves s (a ∷ moves)).counted = grows (after_move s a.0 a.1) moves in
-      (one.0 ++ more.0, sym (append_assoc s.counted one.0 more.0) ∙ (ap (λ hs. hs ++ more.0) one.1 ∙ more.1))
+      prefix_trans (after_moves s (a ∷ moves)).counted (grows_one s a.0 a.1) (grows (after_move s a.0 a.1) moves)
 
   after_both : (s : SoFar (RaftInput C) M) (moves more : ClientMoves C O M) → after_moves s (moves ++ more) ≡ after_moves (after_moves s moves) more
   after_both s [] more = refl
@@ -80,10 +77,12 @@ module _ {S K C O M : Type 0} (m : Meaning S (RaftInput C) (RaftOut O) M) (r : R
       let before : AreRun m r moves = are_run moves (allowed_front at_first [] moves more may) in
       let after : AreRun m r (moves ++ more) = are_run (moves ++ more) may in
       let run : HasRun m r (counted_by moves) = histories_are_runs S K (RaftInput C) (RaftOut O) M m r (counted_by moves) before.may in
-      let grown : IsBeginning (counted_by moves) (after_moves (after_moves at_first moves) more).counted = grows (after_moves at_first moves) more in
-      let is : counted_by moves ++ grown.0 ≡ counted_by (moves ++ more) = grown.1 ∙ ap (λ s. s.counted) (sym (after_both at_first moves more)) in
-      let on : GoesOn m r (counted_by moves) grown.0 run.steps =
-      runs_go_on S K (RaftInput C) (RaftOut O) M m r (counted_by moves) grown.0 run.steps (subst (MayHappen m r) (sym is) after.may) run.runs in
+      let whole = (after_moves (after_moves at_first moves) more).counted in
+      let grown = drop (length (counted_by moves)) whole in
+      let joined : counted_by moves ++ grown ≡ whole = prefix_joined (grows (after_moves at_first moves) more) in
+      let is : counted_by moves ++ grown ≡ counted_by (moves ++ more) = joined ∙ ap (λ s. s.counted) (sym (after_both at_first moves more)) in
+      let on : GoesOn m r (counted_by moves) grown run.steps =
+      runs_go_on S K (RaftInput C) (RaftOut O) M m r (counted_by moves) grown run.steps (subst (MayHappen m r) (sym is) after.may) run.runs in
       record { early = run.steps; late = on.more; first = run.runs; second = subst (λ hs. RunsAs m r hs (run.steps ++ on.more)) is on.runs }
 
 pub moves_are_runs : (S K C O M : Type 0) → MovesAreRuns S K C O M

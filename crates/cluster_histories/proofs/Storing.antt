@@ -1,5 +1,5 @@
 -- A node as it runs, beside the same node by itself, of which what it decided last may count or not.
-use Rattle.std.proofs.Common.{◌≡◌, ℕ, zero, suc, ◌<◌, ◌≤◌, Bool, true, false, List, [], ◌∷◌, ◌++◌, length, take, cond, eqb, arith, Option, Some, None, refl, sym, ap, ◌∙◌, subst, inl, inr, ◌⊎◌}
+use Rattle.std.proofs.Common.{◌≡◌, ℕ, zero, suc, ◌<◌, ◌≤◌, Bool, true, false, List, [], ◌∷◌, ◌++◌, length, take, cond, eqb, arith, Option, Some, None, refl, sym, ap, ◌∙◌, subst, inl, inr, ◌⊎◌, drop}
 use Rattle.std.proofs.Math.Seq.{take-append_seam}
 use Rattle.std.proofs.lemmas.Bool.{cases_lt, ne_eqb}
 use Rattle.std.proofs.lemmas.List.Elements.{Contains-append_right}
@@ -7,7 +7,6 @@ use Rattle.std.specs.Prelude.{Contains}
 use Rattle.handler_trait.specs.Handling.{Meaning, Recovery}
 use Rattle.net_semantics.specs.Steps.{input_item}
 use Rattle.net_semantics.specs.Worlds.{Packet, put}
-use Rattle.raft_safety.specs.Applied.{IsBeginning}
 use Rattle.vst_base.specs.declared.step.Item.TheVariants as item
 use Rattle.node_histories.proofs.Adding.{own-append}
 use Rattle.node_histories.proofs.Lists.{contains_none}
@@ -19,6 +18,7 @@ use Rattle.cluster_histories.specs.Alone.{AllWentOut_since, Alone, DoesItsPart_f
 use Rattle.cluster_histories.specs.DeedLaws.{DeedsAreMoves, MayBeKept, moves_of, moves_of_one}
 use Rattle.cluster_histories.specs.Deeds.{AllStoreFirst, AllWasSaid_since, Answered, Decided, Deed, Deeds, MayOpenAs, Opened, Running, Said, StoresFirst, StoresFirst_from, WasSaid, after_deed, after_deeds, noted_by, running_at_first, said_after, stored}
 use Rattle.cluster_histories.specs.Moves.{Move, Moves, view_of}
+use Rattle.lists.specs.Prefixes.{IsPrefix, prefix_joined}
 
 module _ {S K I O M : Type 0} (m : Meaning S I O M) (r : Recovery S K) where
   -- with what it came to last, it is as it runs; without, it is what its areas may open as
@@ -126,12 +126,13 @@ module _ {S K I O M : Type 0} (m : Meaning S I O M) (r : Recovery S K) where
   as_kept moves n x k f (inr e) = inl (f.before k e ∙ ap r.keep (sym (by_what_counts m r moves n)))
 
   -- so it is at each moment
-  durable : (choices : ℕ → List Bool) (deeds early : Deeds I O M K) (begins : IsBeginning early deeds) (n : ℕ) (k : K) (p : PartOf n (own n deeds)) → choices n ≡ p.choices
+  durable : (choices : ℕ → List Bool) (deeds early : Deeds I O M K) (begins : IsPrefix early deeds) (n : ℕ) (k : K) (p : PartOf n (own n deeds)) → choices n ≡ p.choices
       → MayOpenAs {I = I} m r (after_deeds m r n (running_at_first {I = I} m r n) (own n early)) k → MayBeKept m r (moves_of choices early) n k
   durable choices deeds early begins n k p same may =
       let first : Running S O M K = running_at_first {I = I} m r n in
+      let rest = drop (length early) deeds in
       let front : take (length (own n early)) (own n deeds) ≡ own n early =
-      ap (λ ds. take (length (own n early)) (own n ds)) (sym begins.1) ∙ (ap (take (length (own n early))) (own-append n early begins.0) ∙ take-append_seam (own n early) (own n begins.0)) in
+      ap (λ ds. take (length (own n early)) (own n ds)) (sym (prefix_joined begins)) ∙ (ap (take (length (own n early))) (own-append n early rest) ∙ take-append_seam (own n early) (own n rest)) in
       let alone : own n (moves_of choices early) ≡ translated_alone moves_of_one n p.choices (own n early) =
       translations_are_by_node (List Bool) (Deed I O M K) (Move I O M) moves_of_one choices early n ∙ ap (λ cs. translated_alone moves_of_one n cs (own n early)) same in
       let there : Fits n (after_deeds m r n first (own n early)) (after_all m r n (alone_at_first m r n) (translated_alone moves_of_one n p.choices (own n early))) =

@@ -4,10 +4,10 @@ use Rattle.std.specs.Prelude.{◌≡◌, ℕ, ◌⊎◌, Bool, true, false, List
 use Rattle.handler_trait.specs.Handling.{Meaning, Recovery}
 use Rattle.node_histories.specs.Histories.{own, state_of}
 use Rattle.node_histories.specs.Translations.{translated}
-use Rattle.raft_safety.specs.Applied.{IsBeginning}
 use Rattle.cluster_histories.specs.Alone.{DoTheirParts}
 use Rattle.cluster_histories.specs.Deeds.{AllStoreFirst, Answered, Decided, Deed, Deeds, MayOpenAs, Opened, Said, after_deeds, noted_by, running_at_first}
 use Rattle.cluster_histories.specs.Moves.{ComesTo, Keeps, Move, Moves, Sends, StartsAgain, Tells, counted_by, view_of}
+use Rattle.lists.specs.Prefixes.{IsPrefix}
 
 -- an opening as moves, where the list says of each opening of the node whether what was decided last is kept, and of those past its end
 -- that it is not
@@ -43,7 +43,7 @@ module _ {S K I O M : Type 0} (m : Meaning S I O M) (r : Recovery S K) where
     pub choices : ℕ → List Bool
     pub parts : DoTheirParts m r (moves_of choices deeds)
     pub noted : view_of (moves_of choices deeds) ≡ noted_by deeds
-    pub durable : (early : Deeds I O M K) → IsBeginning early deeds → (n : ℕ) (k : K) →
+    pub durable : (early : Deeds I O M K) → IsPrefix early deeds → (n : ℕ) (k : K) →
         MayOpenAfter n (own n early) k → MayBeKept (moves_of choices early) n k
 
 abbrev pub DeedsAreMoves : Type 0 → Type 0 → Type 0 → Type 0 → Type 0 → Type 0

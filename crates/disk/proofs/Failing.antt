@@ -5,8 +5,9 @@ use Rattle.disk.specs.Acts.{StoreCall, ReadAt, WriteAt, CutTo, Sync, Act, Wrote,
 use Rattle.disk.specs.Areas.{changed}
 use Rattle.disk.specs.Disk.{Area, Disk, Image, written, cut, failed, effect, may_become, may_hold}
 use Rattle.disk.specs.Between.{Crash, holds_by, leaves_by}
-use Rattle.disk.specs.DiskLaws.{IsNoSync, Every}
+use Rattle.disk.specs.DiskLaws.{IsNoSync}
 use Rattle.disk.proofs.Between.{IsCrash, by_model}
+use Rattle.lists.specs.Each.{Each}
 
 module _ (crash : Crash) (is : IsCrash crash) where
   changed_more : (disk : Disk) (n : ℕ) (f : Area → Area) (image : Image) → ((area : Area) (bytes : List ℕ) → crash area bytes ≡ true → crash (f area) bytes ≡ true) →
@@ -32,7 +33,7 @@ module _ (crash : Crash) (is : IsCrash crash) where
   act_adds (StoreFailed call) disk image h m = failure_adds call disk image m
   act_adds act disk image h m = m
 
-  pub acts_only_add : (disk : Disk) (acts : List Act) (image : Image) → Every IsNoSync acts → holds_by crash disk image ≡ true → leaves_by crash disk acts image ≡ true
+  pub acts_only_add : (disk : Disk) (acts : List Act) (image : Image) → Each IsNoSync acts → holds_by crash disk image ≡ true → leaves_by crash disk acts image ≡ true
   acts_only_add disk [] image h m = m
   acts_only_add disk (act ∷ acts) image h m = acts_only_add (effect act disk) acts image h.1 (act_adds act disk image h.0 m)
 

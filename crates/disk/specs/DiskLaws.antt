@@ -4,6 +4,7 @@ use Rattle.disk.specs.Acts.{StoreCall, ReadAt, WriteAt, CutTo, Sync, Act, Wrote,
 use Rattle.disk.specs.Areas.{area_at}
 use Rattle.disk.specs.Disk.{Area, Disk, Image, contents, NothingPending, failed, effect, after, is_pending, is_one_of, may_become, may_hold, may_leave}
 use Rattle.disk.specs.Between.{Crash, holds_by, leaves_by, may_become_between, may_hold_between}
+use Rattle.lists.specs.Each.{Each}
 
 -- The areas as they read are always one of the images.
 abbrev pub ReadsAreAnImage : Crash → Type 0
@@ -54,14 +55,10 @@ abbrev pub IsNoSync : Act → Type 0
 IsNoSync (Synced area) = ⊥
 IsNoSync act = Unit {0}
 
-abbrev pub Every : {T : Type 0} → (T → Type 0) → List T → Type 0
-Every P [] = Unit {0}
-Every P (x ∷ xs) = P x × Every P xs
-
 -- A byte that is not pending is as it was before the pending acts.
 abbrev pub OthersAreAsBefore : Type 0
 OthersAreAsBefore =
-    (disk : Disk) (acts : List Act) (area i : ℕ) → Every IsNoSync acts → is_pending (area_at (after disk acts) area) i ≡ false →
+    (disk : Disk) (acts : List Act) (area i : ℕ) → Each IsNoSync acts → is_pending (area_at (after disk acts) area) i ≡ false →
     slice_get (area_at (after disk acts) area).bytes i ≡ slice_get (area_at disk area).bytes i
 
 -- The acts of a run, of which the last may have failed: a store call of it, or a read at any place.
@@ -100,5 +97,5 @@ FailureMayDoNothing crash =
 -- An act that is no sync takes no image away. So what stood at the last sync is an image until the next.
 abbrev pub ActsOnlyAdd : Crash → Type 0
 ActsOnlyAdd crash =
-    (disk : Disk) (acts : List Act) (image : Image) → Every IsNoSync acts → holds_by crash disk image ≡ true →
+    (disk : Disk) (acts : List Act) (image : Image) → Each IsNoSync acts → holds_by crash disk image ≡ true →
     leaves_by crash disk acts image ≡ true

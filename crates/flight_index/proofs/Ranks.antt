@@ -4,6 +4,7 @@ use Rattle.std.proofs.lemmas.List.Sums.{sum_by-cons}
 use Rattle.std.proofs.lemmas.Option.{slice_get_past}
 use Rattle.std.specs.List.{count_by, slice_get}
 use Rattle.flight_index.specs.Flights.{numbers_of}
+use Rattle.lists.specs.Places.{slice_get-back, slice_get-front}
 
 -- one more is counted where the first is chosen
 pub count-cons : {X : Type 0} (p : X → Bool) (x : X) (xs : List X) → count_by p (x ∷ xs) ≡ cond (p x) 1 0 + count_by p xs
@@ -30,26 +31,16 @@ numbers_of-append p n (x ∷ xs) ys =
       | false ↦ rw (sym e) h
     ]
 
-get_left : {X : Type 0} (xs ys : List X) (i : ℕ) → i < length xs → slice_get (xs ++ ys) i ≡ slice_get xs i
-get_left [] ys i h = absurd (omega (arith, h))
-get_left (x ∷ xs) ys zero h = refl
-get_left (x ∷ xs) ys (suc i) h = get_left xs ys i (omega (arith, h))
-
-get_right : {X : Type 0} (xs ys : List X) (i j : ℕ) → i ≡ length xs + j → slice_get (xs ++ ys) i ≡ slice_get ys j
-get_right [] ys i j e = let e2 : i ≡ j = omega (arith, e) in ap (slice_get ys) e2
-get_right (x ∷ xs) ys zero j e = absurd (omega (arith, e))
-get_right (x ∷ xs) ys (suc i) j e = get_right xs ys i j (omega (arith, e))
-
 -- the i-th stands on the left
 pub nth_left : {X : Type 0} (p : X → Bool) (n : ℕ) (xs ys : List X) (i : ℕ) → i < count_by p xs
     → slice_get (numbers_of p n (xs ++ ys)) i ≡ slice_get (numbers_of p n xs) i
-nth_left p n xs ys i h = rw (numbers_of-append p n xs ys) (get_left (numbers_of p n xs) (numbers_of p (n + length xs) ys) i (rw (length_numbers_of p n xs) h))
+nth_left p n xs ys i h = rw (numbers_of-append p n xs ys) (slice_get-front (numbers_of p n xs) (numbers_of p (n + length xs) ys) i (rw (length_numbers_of p n xs) h))
 
 -- the i-th stands on the right
 pub nth_right : {X : Type 0} (p : X → Bool) (n : ℕ) (xs ys : List X) (i : ℕ) → count_by p xs ≤ i
     → slice_get (numbers_of p n (xs ++ ys)) i ≡ slice_get (numbers_of p (n + length xs) ys) (i - count_by p xs)
 nth_right p n xs ys i h = rw (numbers_of-append p n xs ys)
-    (get_right (numbers_of p n xs) (numbers_of p (n + length xs) ys) i (i - count_by p xs) (rw (length_numbers_of p n xs) (omega (arith, h))))
+    (slice_get-back (numbers_of p n xs) (numbers_of p (n + length xs) ys) i (i - count_by p xs) (rw (length_numbers_of p n xs) (omega (arith, h))))
 
 passed : (b : Bool) (n : ℕ) (ns : List ℕ) (c i m : ℕ) → ((j : ℕ) → c ≡ j → slice_get ns j ≡ Some m) → cond b 1 0 + c ≡ i
     → slice_get (cond b (n ∷ ns) ns) i ≡ Some m

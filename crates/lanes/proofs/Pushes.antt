@@ -8,7 +8,8 @@ use Rattle.std.specs.Ordering.{nat_cmp}
 use Rattle.std.proofs.lemmas.Bool.Decides.{nat_tests, eqb_tells}
 use Rattle.std.proofs.lemmas.List.{take_at}
 use Rattle.lanes.specs.Lanes.{Follows, LanesView, is_same, lane, last_at, previous_of}
-use Rattle.lanes.specs.LanesLaws.{last_at-push, previous_of-append, slice_get-left}
+use Rattle.lanes.specs.LanesLaws.{last_at-push, previous_of-append}
+use Rattle.lists.specs.Places.{slice_get-front, slice_get_seam}
 
 find-lookup : (es : List (ℕ × ℕ)) (q : ℕ) → find nat_cmp q es ≡ lookup (eqb q) es
 find-lookup [] q = refl
@@ -18,27 +19,23 @@ find-lookup (e ∷ es) q = λ i. cond (unsigned_tied q e.0 i) (Some e.1) (find-l
 pub get-entries : (es : List (ℕ × ℕ)) (q : ℕ) → get (from_entries {R = nat_cmp} es) q ≡ lookup (eqb q) es
 get-entries es q = get-from_entries nat_cmp_total es q ∙ find-lookup es q
 
-slice_get-seam : {X : Type 0} (xs : List X) (y : X) → slice_get (xs ++ y ∷ []) (length xs) ≡ Some y
-slice_get-seam [] y = refl
-slice_get-seam (x ∷ xs) y = slice_get-seam xs y
-
 -- lanes of the same number are of the same ends
 same-lane : (s d t u : ℕ) → d < 256 → u < 256 → eqb (lane s d) (lane t u) ≡ is_same (t, u) (s, d)
 same-lane s d t u fits fits2 = grind (arith, nat_tests)
 
 -- the last packet of its lane is the one before the packet that comes next
 previous_of-next : (es : List (ℕ × ℕ)) (e : ℕ × ℕ) → previous_of (es ++ e ∷ []) (length es) ≡ last_at e es
-previous_of-next es e = rw (slice_get-seam es e, take_at es (e ∷ []) (length es) refl) refl
+previous_of-next es e = rw (slice_get_seam es e [], take_at es (e ∷ []) (length es) refl) refl
 
 -- what is kept of each packet, after one more
 each-more : (l : LanesView) (es : List (ℕ × ℕ)) (s d : ℕ) → s < 256 → d < 256 → Follows l es → (k : ℕ) → k < length es + 1
     → slice_get (l.previous ++ get l.lasts (lane s d) ∷ []) k ≡ Some (previous_of (es ++ (s, d) ∷ []) k)
 each-more l es s d source destination f k lt = elim (eqb_tells k (length es)) [
-  | inl w ↦ rw (w.1, previous_of-next es (s, d), ← f.count) (slice_get-seam l.previous (get l.lasts (lane s d)) ∙ ap Some (f.lasts s d source destination))
+  | inl w ↦ rw (w.1, previous_of-next es (s, d), ← f.count) (slice_get_seam l.previous (get l.lasts (lane s d)) [] ∙ ap Some (f.lasts s d source destination))
   | inr w ↦
       let earlier : k < length es = omega (arith, lt, w.1) in
       let kept : k < length l.previous = omega (arith, earlier, f.count) in
-      rw (slice_get-left l.previous (get l.lasts (lane s d) ∷ []) k kept, previous_of-append es ((s, d) ∷ []) k earlier) (f.each k earlier)
+      rw (slice_get-front l.previous (get l.lasts (lane s d) ∷ []) k kept, previous_of-append es ((s, d) ∷ []) k earlier) (f.each k earlier)
 ]
 
 pub follows-more : (l m : LanesView) (es : List (ℕ × ℕ)) (s d : ℕ) → s < 256 → d < 256 → m.previous ≡ l.previous ++ get l.lasts (lane s d) ∷ []

@@ -7,6 +7,7 @@ use Rattle.std.proofs.lemmas.Bool.Decides.{nat_tests}
 use Rattle.std.proofs.lemmas.Option.{slice_get_within, none-some, same_Some}
 use Rattle.std.proofs.lemmas.List.{length-take, take-append-le}
 use Rattle.lanes.specs.Lanes.{is_same, last_at, previous_of}
+use Rattle.lists.specs.Places.{slice_get-front, slice_get-take}
 
 -- two packets of one lane have the same ends
 same-ends : (e x : ℕ × ℕ) → is_same e x ≡ true → e ≡ x
@@ -17,17 +18,6 @@ same-ends e x h =
 
 same-self : (e : ℕ × ℕ) → is_same e e ≡ true
 same-self e = rw (eq-eqb e.0 e.0 refl, eq-eqb e.1 e.1 refl) refl
-
-slice_get-take : {X : Type 0} (n : ℕ) (xs : List X) (i : ℕ) → i < n → slice_get (take n xs) i ≡ slice_get xs i
-slice_get-take zero xs i lt = absurd (omega (arith, lt))
-slice_get-take (suc n) [] i lt = refl
-slice_get-take (suc n) (x ∷ xs) zero lt = refl
-slice_get-take (suc n) (x ∷ xs) (suc i) lt = slice_get-take n xs i (omega (arith, lt))
-
-pub slice_get-left : {X : Type 0} (xs ys : List X) (i : ℕ) → i < length xs → slice_get (xs ++ ys) i ≡ slice_get xs i
-slice_get-left [] ys i lt = absurd (omega (arith, lt))
-slice_get-left (x ∷ xs) ys zero lt = refl
-slice_get-left (x ∷ xs) ys (suc i) lt = slice_get-left xs ys i (omega (arith, lt))
 
 -- the last one of a list is among those after the first, or is the first
 abbrev later_or_first : Option ℕ → Bool → Option ℕ
@@ -99,4 +89,4 @@ previous_none es k e at h i lt same =
 
 -- packets that are sent later change nothing
 pub previous_of-append : (es more : List (ℕ × ℕ)) (k : ℕ) → k < length es → previous_of (es ++ more) k ≡ previous_of es k
-previous_of-append es more k lt = rw (slice_get-left es more k lt, take-append-le k es more (omega (arith, lt))) refl
+previous_of-append es more k lt = rw (slice_get-front es more k lt, take-append-le k es more (omega (arith, lt))) refl

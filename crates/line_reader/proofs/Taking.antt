@@ -16,6 +16,7 @@ use Rattle.line_reader.specs.declared.read_fault.ReadFault.{ReadFault}
 use Rattle.line_reader.specs.declared.read_fault.ReadFault.TheVariants as fault
 use Rattle.line_reader.proofs.Cutting.{cut-parts, none-append, none-take}
 use Rattle.line_reader.proofs.Lining.{split-plain, whole-plain, lines-plain, lines-line, split-line, size-plain, drop-front}
+use Rattle.lists.specs.Places.{no_back}
 
 -- a line was begun: the rest of the text is what was taken into it and what comes later
 pub record Begun (r : ReaderView) (left : Option (List ℕ)) (rest : List ℕ) : Type 0 where
@@ -141,10 +142,6 @@ ends-line A old r new left' rest used rest' (Err found) one left closed short fi
       refuses-number old.most (r.number + 1) r.line short (omega (arith, ended.2, most)),
     )
 
-nothing-in-front : (xs ys : List ℕ) → xs ++ ys ≡ [] → ys ≡ []
-nothing-in-front [] ys e = e
-nothing-in-front (x ∷ xs) ys e = cc
-
 not-nothing : (xs ys : List ℕ) (y : ℕ) → xs ++ y ∷ ys ≡ [] → ⊥
 not-nothing [] ys y e = cc
 not-nothing (x ∷ xs) ys y e = cc
@@ -241,7 +238,7 @@ by-length A old r r' left' rest begun plain (part, taken, plain_part, size) ende
     let sized = ap first_size whole ∙ size-plain front rest' plain_front in (
       record {
         rest' = rest';
-        left = record { unread = left.unread; left_is = left.left_is; rest_is = refl; at_end = λ is. nothing-in-front part rest' (sym later ∙ left.at_end (sym ended ∙ is)) };
+        left = record { unread = left.unread; left_is = left.left_is; rest_is = refl; at_end = λ is. no_back part rest' (sym later ∙ left.at_end (sym ended ∙ is)) };
         used = front;
         whole = whole;
         later = omega (arith, next);
@@ -294,7 +291,7 @@ goes-on r r' left rest (none, plain, line) ended begun =
     let has = begun.left_is in
     record {
       later = has.unread;
-      left_is = record { unread = has.unread; left_is = has.left_is; rest_is = ap (λ xs. xs ++ has.unread) (sym none); at_end = λ is. nothing-in-front r.ahead has.unread (sym has.rest_is ∙ has.at_end (sym ended ∙ is)) };
+      left_is = record { unread = has.unread; left_is = has.left_is; rest_is = ap (λ xs. xs ++ has.unread) (sym none); at_end = λ is. no_back r.ahead has.unread (sym has.rest_is ∙ has.at_end (sym ended ∙ is)) };
       whole = begun.whole ∙ (ap (λ xs. r.line ++ xs) has.rest_is ∙ (sym (append_assoc r.line r.ahead has.unread) ∙ ap (λ xs. xs ++ has.unread) (sym line)));
     }
 

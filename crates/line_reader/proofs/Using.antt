@@ -6,6 +6,7 @@ use Rattle.line_reader.specs.Lines.{split_lines, lines_of, first_size, after_lin
 use Rattle.line_reader.specs.Readers.{ReaderView, HasRest}
 use Rattle.line_reader.specs.Outcomes.{Uses, StandsAt, BreaksOff}
 use Rattle.line_reader.proofs.Lining.{lines-append, closed-append, last-append, after_lines-add}
+use Rattle.lists.specs.Places.{no_front}
 
 -- no line was used yet
 pub uses-none : (r : ReaderView) (left : Option (List ℕ)) (rest : List ℕ) → HasRest r left rest → Uses r r left rest []
@@ -20,15 +21,11 @@ uses-none r left rest has = record {
   stays = λ is. is;
 }
 
-no-front : (xs ys : List ℕ) → xs ++ ys ≡ [] → xs ≡ []
-no-front [] ys e = refl
-no-front (x ∷ xs) ys e = cc
-
 -- the lines of what was used, and then of what was used after it
 lines-both : (t : Bool) (used used' rest' : List ℕ) → (t ≡ false → (split_lines used).1 ≡ []) → (t ≡ true → used' ++ rest' ≡ []) → lines_of (used ++ used') ≡ lines_of used ++ lines_of used'
 lines-both false used used' rest' closed over = lines-append used used' (closed refl)
 lines-both true used used' rest' closed over =
-    let none = no-front used' rest' (over refl) in
+    let none = no_front used' rest' (over refl) in
     ap (λ xs. lines_of (used ++ xs)) none ∙ (ap lines_of (append-nil used) ∙ (sym (append-nil (lines_of used)) ∙ ap (λ xs. lines_of used ++ lines_of xs) (sym none)))
 
 not-both : (t : Bool) → (t ≡ true → ⊥) → t ≡ false
@@ -100,7 +97,7 @@ stands-after a b c left left' rest used number u v =
 
 -- where nothing is left, the end decides the line after the last
 nothing-ahead : (r : ReaderView) (left : Option (List ℕ)) → HasRest r left [] → length r.ahead ≤ 4096
-nothing-ahead r left has = omega (arith, ap length (no-front r.ahead has.unread (sym has.rest_is)))
+nothing-ahead r left has = omega (arith, ap length (no_front r.ahead has.unread (sym has.rest_is)))
 
 pub stands-at-end : (a b c : ReaderView) (left left' : Option (List ℕ)) (rest used : List ℕ) (u : Uses a b left rest used) (number : ℕ)
     → u.rest' ≡ [] → HasRest c left' [] → number ≡ b.number + 1 → StandsAt a c left' rest number

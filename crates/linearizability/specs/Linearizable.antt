@@ -7,11 +7,7 @@ use Rattle.vst_base.specs.declared.step.Item.TheVariants as item
 use Rattle.raft_types.specs.declared.client.RaftInput.{RaftInput}
 use Rattle.raft_types.specs.declared.client.RaftOut.{RaftOut}
 use Rattle.raft_types.specs.declared.client.RaftOut.TheVariants as told
-
--- it holds of each element
-abbrev pub Each : {A : Type 0} → (A → Type 0) → List A → Type 0
-Each P [] = Unit {0}
-Each P (x ∷ xs) = P x × Each P xs
+use Rattle.lists.specs.Each.{Each}
 
 -- clients put this request in, at any node
 abbrev pub HasInput : {I O : Type 0} → List (Item I O) → I → Type 0

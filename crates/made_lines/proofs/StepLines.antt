@@ -21,6 +21,7 @@ use Rattle.made_lines.specs.MadeLines.{HaveLines}
 use Rattle.made_lines.specs.Sends.{SendsFew}
 use Rattle.made_lines.specs.Texts.{HaveShortTexts}
 use Rattle.made_lines.proofs.Numbers.{chosen-below}
+use Rattle.vst_base.specs.StepViews.{view_of}
 use Rattle.made_lines.proofs.Packets.{packets-after}
 
 -- a word and a number in range
@@ -64,7 +65,7 @@ module _ {S K I O M : Type 0} (HasText : I → Type 0) (input_text : I → List 
       let low : n < 4294967296 = chosen-below m w 4294967296 (omega arith) (omega (arith, nodes)) packets k words.number in (
         spelled HasText input_text k i n low (texts.has_text words.input place here),
         short HasText input_text k i n low (texts.short words.input place here),
-        made-lines (next m r w s) (place + 1) (after_words g) steps (omega (arith, packets-after m r few w s, sent)) (omega (arith, within)),
+        made-lines (next m r w s) (place + 1) (after_words g) steps (omega (arith, packets-after m r few w (view_of s), sent)) (omega (arith, within)),
       )
 
   pub have-lines : HaveLines HasText input_text net m r inputs

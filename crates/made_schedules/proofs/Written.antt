@@ -1,6 +1,6 @@
 -- The steps of a made schedule, while they are written.
 use Rattle.std.proofs.Common.{◌≡◌, ℕ, zero, suc, ◌+◌, ◌-◌, ◌<◌, ◌≤◌, List, [], ◌∷◌, ◌++◌, length, take, Option, Some, None, refl, sym, ap, subst, ◌∙◌, arith, append_assoc, append-nil, length-append}
-use Rattle.outside.specs.Wholes.{Gained, GainedFront}
+use Rattle.outside.specs.Wholes.{Gained, GainedPrefix}
 use Rattle.net_semantics.specs.RunLaws.{place_and_why-none, run_from-append}
 use Rattle.net_semantics.specs.Runs.{first_refused_from}
 use Rattle.net_semantics.specs.Steps.{next}
@@ -97,10 +97,10 @@ module _ {R S K I O M G : Type 0} (sys : System S K I O M G) (follows : R → Li
   take-front [] b n = (n, refl)
   take-front (x ∷ a) b n = let r = take-front a b n in (suc r.0, ap (λ bs. x ∷ bs) r.1)
 
-  pub front-more : (x o o' : Option (List ℕ)) (a b c : List ℕ) → Gained x o a → GainedFront o o' b → GainedFront x o' (a ++ (b ++ c))
+  pub front-more : (x o o' : Option (List ℕ)) (a b c : List ℕ) → Gained x o a → GainedPrefix o o' b → GainedPrefix x o' (a ++ (b ++ c))
   front-more None o o' a b c h k = tt
   front-more (Some held) o o' a b c h k =
-      let got = subst (λ (p : Option (List ℕ)). GainedFront p o' b) h k in
+      let got = subst (λ (p : Option (List ℕ)). GainedPrefix p o' b) h k in
       let first = take-front a b got.0 in
       let whole = take-whole (a ++ b) c first.0 in
       (whole.0, got.1 ∙ ap Some (append_assoc held a (take got.0 b)) ∙ ap (λ bs. Some (held ++ bs)) (first.1 ∙ whole.1 ∙ ap (take whole.0) (append_assoc a b c)))
@@ -112,29 +112,29 @@ module _ {R S K I O M G : Type 0} (sys : System S K I O M G) (follows : R → Li
 
   -- a front of the next line is one of the whole text
   pub front-line : (left n : ℕ) (v : MakingView R) (mid out' : Option (List ℕ)) (s : Step I) → left ≡ suc n → (w : Written left v mid) → s ≡ step_after sys inputs w.steps v.random
-      → GainedFront mid out' (as_line (step_text input_text s)) → GainedFront out out' (steps_text input_text (made_of sys inputs seed total))
+      → GainedPrefix mid out' (as_line (step_text input_text s)) → GainedPrefix out out' (steps_text input_text (made_of sys inputs seed total))
   front-line left n v mid out' s e w is front =
       let ss = w.steps in
       let tail = made_from sys.net sys.meaning sys.recovery inputs (next sys.meaning sys.recovery (world_of sys ss) s) (length ss + 1) (after_words v.random) n in
       let here : made_from sys.net sys.meaning sys.recovery inputs (world_of sys ss) (length ss) v.random left ≡ s ∷ tail =
       ap (λ k. made_from sys.net sys.meaning sys.recovery inputs (world_of sys ss) (length ss) v.random k) e
       ∙ ap (λ x. x ∷ made_from sys.net sys.meaning sys.recovery inputs (next sys.meaning sys.recovery (world_of sys ss) x) (length ss + 1) (after_words v.random) n) (sym is) in
-      subst (λ bs. GainedFront out out' bs) (sym (ap (steps_text input_text) (w.whole ∙ ap (λ xs. ss ++ xs) here) ∙ steps-append ss (s ∷ tail)))
+      subst (λ bs. GainedPrefix out out' bs) (sym (ap (steps_text input_text) (w.whole ∙ ap (λ xs. ss ++ xs) here) ∙ steps-append ss (s ∷ tail)))
       (front-more out mid out' (steps_text input_text ss) (as_line (step_text input_text s)) (steps_text input_text tail) w.written front)
 
   -- and where no line was begun
-  pub front-so-far : (left : ℕ) (v : MakingView R) (mid : Option (List ℕ)) → Written left v mid → GainedFront out mid (steps_text input_text (made_of sys inputs seed total))
+  pub front-so-far : (left : ℕ) (v : MakingView R) (mid : Option (List ℕ)) → Written left v mid → GainedPrefix out mid (steps_text input_text (made_of sys inputs seed total))
   front-so-far left v mid w =
       let ss = w.steps in
       let tail = made_from sys.net sys.meaning sys.recovery inputs (world_of sys ss) (length ss) v.random left in
-      subst (λ bs. GainedFront out mid bs) (sym (ap (steps_text input_text) w.whole ∙ steps-append ss tail))
+      subst (λ bs. GainedPrefix out mid bs) (sym (ap (steps_text input_text) w.whole ∙ steps-append ss tail))
       (whole-front out mid (steps_text input_text ss) (steps_text input_text tail) w.written)
     where
       take-same : (a b : List ℕ) → take (length a) (a ++ b) ≡ a
       take-same [] b = refl
       take-same (x ∷ a) b = ap (λ bs. x ∷ bs) (take-same a b)
 
-      whole-front : (x o : Option (List ℕ)) (a b : List ℕ) → Gained x o a → GainedFront x o (a ++ b)
+      whole-front : (x o : Option (List ℕ)) (a b : List ℕ) → Gained x o a → GainedPrefix x o (a ++ b)
       whole-front None o a b h = tt
       whole-front (Some held) o a b h = (length a, h ∙ ap (λ bs. Some (held ++ bs)) (sym (take-same a b)))
 
@@ -148,10 +148,10 @@ module _ {A : Type 0} (a b : List ℕ) (out mid out' : Option (List ℕ)) (f f1 
   after-front [] ys n = (n, refl)
   after-front (x ∷ xs) ys n = let t = after-front xs ys n in (suc t.0, ap (λ bs. x ∷ bs) t.1)
 
-  both-front : (x o o' : Option (List ℕ)) → Gained x o a → GainedFront o o' b → GainedFront x o' (a ++ b)
+  both-front : (x o o' : Option (List ℕ)) → Gained x o a → GainedPrefix o o' b → GainedPrefix x o' (a ++ b)
   both-front None o o' h k = tt
   both-front (Some held) o o' h k =
-      let got = subst (λ (p : Option (List ℕ)). GainedFront p o' b) h k in
+      let got = subst (λ (p : Option (List ℕ)). GainedPrefix p o' b) h k in
       let t = after-front a b got.0 in
       (t.0, got.1 ∙ ap Some (append_assoc held a (take got.0 b)) ∙ ap (λ bs. Some (held ++ bs)) t.1)
 
@@ -178,12 +178,12 @@ within xs ys zero = (0, refl)
 within [] ys (suc n) = (0, refl)
 within (x ∷ xs) ys (suc n) = let t = within xs ys n in (suc t.0, ap (λ bs. x ∷ bs) t.1)
 
-longer : (a b : List ℕ) (x o : Option (List ℕ)) → GainedFront x o a → GainedFront x o (a ++ b)
+longer : (a b : List ℕ) (x o : Option (List ℕ)) → GainedPrefix x o a → GainedPrefix x o (a ++ b)
 longer a b None o h = tt
 longer a b (Some held) o h = let t = within a b h.0 in (t.0, h.1 ∙ ap (λ bs. Some (held ++ bs)) t.1)
 
 module _ {A : Type 0} (a b : List ℕ) (out out' : Option (List ℕ)) (f f' w w' : ℕ) (y : WriteFault) where
-  pub broken-writes : (r : Result A WriteFault) → r ≡ Err y → OnErr r (GainedFront out out' a) → IfErr r (HasWriteCause f f') → (IsErrOf r line.Memory → f' ≡ f) → (IsErrOf r line.Write → w' ≡ w) → f ≤ f'
+  pub broken-writes : (r : Result A WriteFault) → r ≡ Err y → OnErr r (GainedPrefix out out' a) → IfErr r (HasWriteCause f f') → (IsErrOf r line.Memory → f' ≡ f) → (IsErrOf r line.Write → w' ≡ w) → f ≤ f'
       → WritesText (a ++ b) out out' f f' w w' r
   broken-writes (Ok x) is err fault unfailed unwanted counts = cc is
   broken-writes (Err z) is err fault unfailed unwanted counts =

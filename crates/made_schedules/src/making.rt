@@ -1,6 +1,6 @@
 ghost use Rattle.std.specs.Prelude.{◌≡◌, ◌≢◌, ◌≤◌, IfOk, IsErrOf, OnErr, OnOk, min};
 ghost use Rattle.outside.specs.Counting.{Rose};
-ghost use Rattle.outside.specs.Wholes.{Gained, GainedFront};
+ghost use Rattle.outside.specs.Wholes.{Gained, GainedPrefix};
 ghost use Rattle.schedule_text.specs.Headers.{header_text};
 ghost use Rattle.schedule_text.specs.Printing.{as_line};
 ghost use Rattle.vst_base.specs.Stacks.{row_of};
@@ -95,7 +95,7 @@ pub fn make<K: Sink>(
     requires sends { (row_of stack).net ≢ net.One }
     requires few { steps ≤ MAX_STEPS }
     ensures ok { OnOk result (Gained (K.written sink.old) (K.written sink.new) (made_text stack seed steps)) }
-    ensures err { OnErr result (GainedFront (K.written sink.old) (K.written sink.new) (made_text stack seed steps)) }
+    ensures err { OnErr result (GainedPrefix (K.written sink.old) (K.written sink.new) (made_text stack seed steps)) }
     ensures write { IsErrOf result MakeFault.Write → Rose (K.faults sink.old) (K.faults sink.new) }
     ensures unfailed { IsErrOf result MakeFault.Memory → K.faults sink.new ≡ K.faults sink.old }
     ensures unwanted { IsErrOf result MakeFault.Write → K.wants sink.new ≡ K.wants sink.old }

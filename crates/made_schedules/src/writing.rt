@@ -1,5 +1,5 @@
 ghost use Rattle.std.specs.Prelude.{◌≡◌, ◌≤◌, None, [], IfErr, IsErrOf, OnErr, OnOk};
-ghost use Rattle.outside.specs.Wholes.{Gained, GainedFront};
+ghost use Rattle.outside.specs.Wholes.{Gained, GainedPrefix};
 ghost use Rattle.net_semantics.specs.Runs.{first_refused};
 ghost use Rattle.schedule_make.specs.Made.{generator};
 ghost use Rattle.schedule_make.specs.Making.{HasMade};
@@ -42,7 +42,7 @@ fn write_steps<
         (made_of (R.system making.old.running) T.inputs seed steps) ≡ None }
     ensures ok { OnOk result (Gained (K.written sink.old) (K.written sink.new)
         (steps_text A.input_text (made_of (R.system making.old.running) T.inputs seed steps))) }
-    ensures err { OnErr result (GainedFront (K.written sink.old) (K.written sink.new)
+    ensures err { OnErr result (GainedPrefix (K.written sink.old) (K.written sink.new)
         (steps_text A.input_text (made_of (R.system making.old.running) T.inputs seed steps))) }
     ensures fault { IfErr result (HasWriteCause (K.faults sink.old) (K.faults sink.new)) }
     ensures unfailed { IsErrOf result WriteFault.Memory → K.faults sink.new ≡ K.faults sink.old }

@@ -1,5 +1,5 @@
 -- An event at a node, from what the handlers do with its state.
-use Rattle.std.proofs.Common.{◌≡◌, ℕ, ◌<◌, List, [], ◌++◌, length, get_or, set, Option, Some, refl, ap, sym, ◌∙◌, subst}
+use Rattle.std.proofs.Common.{◌≡◌, ℕ, ◌<◌, List, [], ◌++◌, length, get_or, set, Some, refl, ap, sym, ◌∙◌, subst}
 use Rattle.std.specs.Prelude.{slice_get, IfSome}
 use Rattle.std.proofs.lemmas.Option.{slice_get_read}
 use Rattle.handler_trait.specs.Handling.{Effect, Does}
@@ -7,12 +7,7 @@ use Rattle.handler_trait.specs.Gathering.{Gathered}
 use Rattle.net_semantics.specs.Worlds.{change_at}
 use Rattle.net_semantics.specs.Taking.{Happens}
 use Rattle.net_semantics.proofs.Places.{set-change_at, change_at-there}
-
-pub if_some_at : {X : Type 0} (P : X → Type 0) (o : Option X) (x : X) → o ≡ Some x → P x → IfSome o P
-if_some_at P o x e p = subst (λ q. IfSome q P) (sym e) p
-
-pub if_some_given : {X : Type 0} (P : X → Type 0) (o : Option X) (x : X) → o ≡ Some x → IfSome o P → P x
-if_some_given P o x e p = subst (λ q. IfSome q P) e p
+use Rattle.lists.specs.Options.{some_holds}
 
 module _ {S O M : Type 0} (f : S → Effect S O M) (n i : ℕ) (states : List S) (d new : S) (same : i ≡ n) (lt : n < length states) (read : d ≡ get_or states i d) where
   stands : slice_get states n ≡ Some d
@@ -21,11 +16,11 @@ module _ {S O M : Type 0} (f : S → Effect S O M) (n i : ℕ) (states : List S)
   pub happens_at : (before after : Gathered O M) → before.outputs ≡ [] → before.sends ≡ [] → Does (f d) new before after → Happens f n states (set states i new) after
   happens_at before after outs sends does = record {
     put = subst (λ j. set states j new ≡ change_at (λ s. (f s).state) n states) (sym same) (set-change_at (λ s. (f s).state) states n d new lt (does.state ∙ ap (λ s. (f s).state) (subst (λ j. d ≡ get_or states j d) same read)));
-    outputs = if_some_at (λ s. after.outputs ≡ (f s).outputs) (slice_get states n) d stands (does.outputs ∙ ap (λ xs. xs ++ (f d).outputs) outs);
-    sends = if_some_at (λ s. after.sends ≡ (f s).sends) (slice_get states n) d stands (does.sends ∙ ap (λ xs. xs ++ (f d).sends) sends);
+    outputs = some_holds (λ s. after.outputs ≡ (f s).outputs) (slice_get states n) d stands (does.outputs ∙ ap (λ xs. xs ++ (f d).outputs) outs);
+    sends = some_holds (λ s. after.sends ≡ (f s).sends) (slice_get states n) d stands (does.sends ∙ ap (λ xs. xs ++ (f d).sends) sends);
   }
 
   pub sound_at : (P : S → Type 0) → P new → IfSome (slice_get (set states i new) n) P
   sound_at P p =
       let e : set states i new ≡ change_at (λ _. new) n states = subst (λ j. set states j new ≡ change_at (λ _. new) n states) (sym same) (set-change_at (λ _. new) states n d new lt refl) in
-      if_some_at P (slice_get (set states i new) n) new (ap (λ xs. slice_get xs n) e ∙ change_at-there (λ _. new) states n d stands) p
+      some_holds P (slice_get (set states i new) n) new (ap (λ xs. slice_get xs n) e ∙ change_at-there (λ _. new) states n d stands) p

@@ -6,14 +6,17 @@ use Rattle.handler_trait.specs.Facts.{RebootPromises}
 use Rattle.handler_trait.specs.Handling.{Meaning, Recovery}
 use Rattle.vst_base.specs.declared.net.Net.TheVariants as net
 use Rattle.vst_base.specs.declared.step.Step.{Step}
-use Rattle.vst_base.specs.declared.step.Step.TheVariants as step
-use Rattle.vst_base.specs.Nets.{has_kind, keeps_order, kind_of}
-use Rattle.net_semantics.specs.Worlds.{World, Packet, put, change_at, one_less}
-use Rattle.net_semantics.specs.Steps.{next, refusal_of, items_of, acting, fails, delivery, after_event, with_packets}
+use Rattle.vst_base.specs.declared.step.StepKind.{StepKind}
+use Rattle.vst_base.specs.declared.step.StepKind.TheVariants as kind
+use Rattle.vst_base.specs.StepViews.{StepView, AtNode, OfPacket, Stops, Starts, view_of}
+use Rattle.vst_base.specs.Nets.{has_kind, keeps_order, kind_at, kind_in, kind_of, kind_of_fate}
+use Rattle.net_semantics.specs.Worlds.{World, Packet, put, change_at}
+use Rattle.net_semantics.specs.Steps.{acting, acts_at, after_event, copied, delivered, delivery, fails, items_in, items_of, items_of_event, next, next_in, refusal_in, refusal_of, with_packets}
 use Rattle.net_semantics.specs.Runs.{no_recovery}
 use Rattle.net_semantics.specs.Shown.{WorldView, Shows, IsSound}
 use Rattle.net_semantics.specs.ShownFail.{FailView, ShowsFail, IsSoundFail, kept_at}
-use Rattle.net_semantics.proofs.Places.{put-there, put-elsewhere, change_at-there, change_at-elsewhere, slice_get_there}
+use Rattle.net_semantics.proofs.Places.{put-there, put-elsewhere, change_at-there, change_at-elsewhere}
+use Rattle.lists.specs.Places.{slice_get_there}
 
 -- what is shown where nodes have kept this
 abbrev pub fail_view : {H S K I O M : Type 0} → WorldView H S I O M → List (Option K) → FailView H S K I O M
@@ -73,26 +76,40 @@ never_down : (o : Option ℕ) → fails o (λ _. true) ≡ false
 never_down None = refl
 never_down (Some n) = refl
 
+-- the network that fails has every kind of step that one that loses has
+fails_too : (k : StepKind) → has_kind net.Loss k ≡ true → has_kind net.Fail k ≡ true
+fails_too kind.In has = refl
+fails_too kind.Deliver has = refl
+fails_too kind.Tick has = refl
+fails_too kind.Dup has = refl
+fails_too kind.Lose has = refl
+fails_too kind.Crash has = absurd (false≢true has)
+fails_too kind.Reboot has = absurd (false≢true has)
+
 module _ {S K I O M : Type 0} (m : Meaning S I O M) where
   -- where the node that acts is up, the step is refused as if all were
+  refused_up_in : (w : World S K M) (v : StepView I) → has_kind net.Loss (kind_in v) ≡ true → fails (acts_at w v) w.is_up ≡ false → refusal_in net.Fail m w v ≡ refusal_in net.Loss m (all_up w) v
+  refused_up_in w (AtNode n input) has up = rw (has, fails_too (kind_at input) has, up) refl
+  refused_up_in w (OfPacket k fate) has up = rw (has, fails_too (kind_of_fate fate) has, up, never_down) refl
+  refused_up_in w (Stops n) has up = absurd (false≢true has)
+  refused_up_in w (Starts n) has up = absurd (false≢true has)
+
   pub refused_up : (w : World S K M) (s : Step I) → has_kind net.Loss (kind_of s) ≡ true → fails (acting w s) w.is_up ≡ false → refusal_of net.Fail m w s ≡ refusal_of net.Loss m (all_up w) s
-  refused_up w (step.In n i) has up = rw up refl
-  refused_up w (step.Deliver k) has up = rw (up, never_down) refl
-  refused_up w (step.Tick n) has up = rw up refl
-  refused_up w (step.Dup k) has up = refl
-  refused_up w (step.Lose k) has up = refl
-  refused_up w (step.Crash n) has up = absurd (false≢true has)
-  refused_up w (step.Reboot n) has up = absurd (false≢true has)
+  refused_up w s = refused_up_in w (view_of s)
+
+  same_delivery : (w : World S K M) (o : Option (Packet M)) → items_of_event (delivery m w o) ≡ items_of_event (delivery m (all_up w) o)
+  same_delivery w None = refl
+  same_delivery w (Some p) = refl
 
   -- and it is seen as if all were
+  items_up_in : (w : World S K M) (v : StepView I) → items_in m w v ≡ items_in m (all_up w) v
+  items_up_in w (AtNode n input) = refl
+  items_up_in w (OfPacket k fate) = same_delivery w (delivered fate (slice_get w.packets k))
+  items_up_in w (Stops n) = refl
+  items_up_in w (Starts n) = refl
+
   pub items_up : (w : World S K M) (s : Step I) → items_of m w s ≡ items_of m (all_up w) s
-  items_up w (step.In n i) = refl
-  items_up w (step.Deliver k) = refl
-  items_up w (step.Tick n) = refl
-  items_up w (step.Dup k) = refl
-  items_up w (step.Lose k) = refl
-  items_up w (step.Crash n) = refl
-  items_up w (step.Reboot n) = refl
+  items_up w s = items_up_in w (view_of s)
 
 module _ {H S K I O M : Type 0} (m : Meaning S I O M) where
   shows_delivery : (nodes : ℕ) (u : WorldView H S I O M) (kept : List (Option K)) (w : World S K M) (ps : List (Packet M)) (o : Option (Packet M))
@@ -102,13 +119,15 @@ module _ {H S K I O M : Type 0} (m : Meaning S I O M) where
   shows_delivery nodes u kept w ps (Some p) keeps up h = record { states = h.states; kept = keeps; up = up; packets = h.packets }
 
   -- a step that changes nothing of which nodes are down leads where it leads if all are up
+  shows_next_in : (r : Recovery S K) (nodes : ℕ) (u : WorldView H S I O M) (kept : List (Option K)) (w : World S K M) (v : StepView I) → has_kind net.Loss (kind_in v) ≡ true
+      → ((n : ℕ) → w.kept n ≡ kept_at (slice_get kept n)) → ((n : ℕ) → w.is_up n ≡ is_none (kept_at (slice_get kept n)))
+      → Shows nodes u (next_in m no_recovery (all_up w) v) → ShowsFail nodes (fail_view u kept) (next_in m r w v)
+  shows_next_in r nodes u kept w (AtNode n input) has keeps up h = record { states = h.states; kept = keeps; up = up; packets = h.packets }
+  shows_next_in r nodes u kept w (OfPacket k fate) has keeps up h = shows_delivery nodes u kept w (change_at (copied fate) k w.packets) (delivered fate (slice_get w.packets k)) keeps up h
+  shows_next_in r nodes u kept w (Stops n) has keeps up h = absurd (false≢true has)
+  shows_next_in r nodes u kept w (Starts n) has keeps up h = absurd (false≢true has)
+
   pub shows_next : (r : Recovery S K) (nodes : ℕ) (u : WorldView H S I O M) (kept : List (Option K)) (w : World S K M) (s : Step I) → has_kind net.Loss (kind_of s) ≡ true
       → ((n : ℕ) → w.kept n ≡ kept_at (slice_get kept n)) → ((n : ℕ) → w.is_up n ≡ is_none (kept_at (slice_get kept n)))
       → Shows nodes u (next m no_recovery (all_up w) s) → ShowsFail nodes (fail_view u kept) (next m r w s)
-  shows_next r nodes u kept w (step.In n i) has keeps up h = record { states = h.states; kept = keeps; up = up; packets = h.packets }
-  shows_next r nodes u kept w (step.Deliver k) has keeps up h = shows_delivery nodes u kept w (change_at one_less k w.packets) (slice_get w.packets k) keeps up h
-  shows_next r nodes u kept w (step.Tick n) has keeps up h = record { states = h.states; kept = keeps; up = up; packets = h.packets }
-  shows_next r nodes u kept w (step.Dup k) has keeps up h = record { states = h.states; kept = keeps; up = up; packets = h.packets }
-  shows_next r nodes u kept w (step.Lose k) has keeps up h = record { states = h.states; kept = keeps; up = up; packets = h.packets }
-  shows_next r nodes u kept w (step.Crash n) has keeps up h = absurd (false≢true has)
-  shows_next r nodes u kept w (step.Reboot n) has keeps up h = absurd (false≢true has)
+  shows_next r nodes u kept w s = shows_next_in r nodes u kept w (view_of s)

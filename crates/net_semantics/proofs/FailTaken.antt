@@ -20,11 +20,12 @@ use Rattle.net_semantics.specs.Shown.{WorldView, Shows, IsSound, IsSoundState}
 use Rattle.net_semantics.specs.ShownFail.{ShowsFail, IsSoundFail, kept_at}
 use Rattle.net_semantics.specs.Taking.{GrowsBy}
 use Rattle.net_semantics.specs.TakingFail.{AnswersFail, TakesFail}
-use Rattle.net_semantics.proofs.Places.{put-there, put-elsewhere, length-change_at, change_at-there, change_at-elsewhere, slice_get_there}
-use Rattle.net_semantics.proofs.Eventful.{if_some_at}
+use Rattle.net_semantics.proofs.Places.{put-there, put-elsewhere, length-change_at, change_at-there, change_at-elsewhere}
 use Rattle.net_semantics.proofs.Showing.{with_states}
 use Rattle.net_semantics.proofs.Taken.{sound_quiet, each_state_later, each_later}
 use Rattle.net_semantics.proofs.FailShowing.{fail_view, all_up, shows_up, sound_up, sound_fail, put_kept, each_kept, still_nothing, refused_up, items_up, shows_next}
+use Rattle.lists.specs.Options.{some_holds}
+use Rattle.lists.specs.Places.{slice_get_there}
 
 -- a node that a step names exists, and is that number
 exists_where : (b : Bool) (n node : ℕ) (found : Result ℕ StepRefusal) → found ≡ Ok node → found ≡ (if b then Ok n else Err refusal.NoSuchNode) → (node ≡ n) × (b ≡ true)
@@ -45,7 +46,7 @@ states_put f xs nodes n s lt h j below = elim (cases_eq j n) [
 
 states_sound_put : {S : Type 0} (P : ℕ → S → Type 0) (xs : List S) (n : ℕ) (s : S) → n < length xs → P n s → ((j : ℕ) → IfSome (slice_get xs j) (P j)) → (j : ℕ) → IfSome (slice_get (change_at (λ _. s) n xs) j) (P j)
 states_sound_put P xs n s lt p h j = elim (cases_eq j n) [
-  | inl e ↦ subst (λ i. IfSome (slice_get (change_at (λ _. s) n xs) i) (P i)) (sym e) (if_some_at (P n) (slice_get (change_at (λ _. s) n xs) n) s (let there = slice_get_there xs n lt in change_at-there (λ _. s) xs n there.0 there.1) p)
+  | inl e ↦ subst (λ i. IfSome (slice_get (change_at (λ _. s) n xs) i) (P i)) (sym e) (some_holds (P n) (slice_get (change_at (λ _. s) n xs) n) s (let there = slice_get_there xs n lt in change_at-there (λ _. s) xs n there.0 there.1) p)
   | inr ne ↦ subst (λ o. IfSome o (P j)) (sym (change_at-elsewhere (λ _. s) xs n j ne)) (h j)
 ]
 

@@ -15,8 +15,9 @@ use Rattle.net_semantics.specs.Held.{held_copies, held_ends, held_less, held_sen
 use Rattle.net_semantics.specs.Order.{IsAhead, IsFirst, IsInOrder, all_ends}
 use Rattle.lanes.specs.Lanes.{previous_of}
 use Rattle.lanes.specs.LanesLaws.{previous_none, previous_some}
-use Rattle.net_semantics.proofs.Places.{change_at-elsewhere, slice_get-append_left, slice_get_there}
+use Rattle.net_semantics.proofs.Places.{change_at-elsewhere}
 use Rattle.net_semantics.proofs.Showing.{copies_shown, ends_shown}
+use Rattle.lists.specs.Places.{slice_get-front, slice_get_there}
 
 module _ {M : Type 0} where
   -- a change that keeps the ends of each packet
@@ -107,8 +108,8 @@ module _ {M : Type 0} where
       let qs = map (held_sent n) sends in
       elim (cases_lt k (length ps)) [
         | inl lt ↦
-            let here : slice_get (ps ++ qs) k ≡ slice_get ps k = slice_get-append_left ps qs k lt in
-            let there : slice_get (ps ++ qs) j ≡ slice_get ps j = slice_get-append_left ps qs j (omega (arith, ahead.before, lt)) in
+            let here : slice_get (ps ++ qs) k ≡ slice_get ps k = slice_get-front ps qs k lt in
+            let there : slice_get (ps ++ qs) j ≡ slice_get ps j = slice_get-front ps qs j (omega (arith, ahead.before, lt)) in
             let was : IsAhead ps j k = record {
               before = ahead.before;
               same = ap held_ends (sym there) ∙ (ahead.same ∙ ap held_ends here);

@@ -39,21 +39,6 @@ each-change_at P f (x ∷ xs) zero h here (suc j) = h (suc j)
 each-change_at P f (x ∷ xs) (suc k) h here zero = h 0
 each-change_at P f (x ∷ xs) (suc k) h here (suc j) = each-change_at P f xs k (λ i. h (suc i)) here j
 
-pub slice_get-append_left : {X : Type 0} (xs ys : List X) (k : ℕ) → k < length xs → slice_get (xs ++ ys) k ≡ slice_get xs k
-slice_get-append_left [] ys k h = absurd (omega arith)
-slice_get-append_left (x ∷ xs) ys zero h = refl
-slice_get-append_left (x ∷ xs) ys (suc k) h = slice_get-append_left xs ys k (omega arith)
-
-pub slice_get-append_last : {X : Type 0} (xs : List X) (y : X) (k : ℕ) → k ≡ length xs → slice_get (xs ++ y ∷ []) k ≡ Some y
-slice_get-append_last [] y k e = rw e refl
-slice_get-append_last (x ∷ xs) y zero e = absurd (omega arith)
-slice_get-append_last (x ∷ xs) y (suc k) e = let e2 : k ≡ length xs = omega arith in slice_get-append_last xs y k e2
-
-pub slice_get_there : {X : Type 0} (xs : List X) (k : ℕ) → k < length xs → (x : X) × (slice_get xs k ≡ Some x)
-slice_get_there [] k h = absurd (omega arith)
-slice_get_there (x ∷ xs) zero h = (x, refl)
-slice_get_there (x ∷ xs) (suc k) h = slice_get_there xs k (omega arith)
-
 -- a function with a value put in one place
 pub put-there : {A : Type 0} (f : ℕ → A) (n : ℕ) (a : A) (k : ℕ) → k ≡ n → put f n a k ≡ a
 put-there f n a k e = let t : eqb k n ≡ true = eq-eqb k n e in rw t refl

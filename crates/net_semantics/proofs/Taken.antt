@@ -23,11 +23,12 @@ use Rattle.net_semantics.specs.Runs.{no_recovery}
 use Rattle.net_semantics.specs.Shown.{Shown, ShowsPacket, WorldView, Shows, ShowsAt, IsSound, IsSoundPacket, IsSoundState}
 use Rattle.net_semantics.specs.Held.{held_sent, held_more, held_less, held_copies}
 use Rattle.net_semantics.specs.Taking.{GrowsBy, Happens, IsReady, Takes}
-use Rattle.net_semantics.proofs.Places.{put-there, put-elsewhere, length-change_at, change_at-there, change_at-elsewhere, each-append, each-change_at, slice_get_there}
+use Rattle.net_semantics.proofs.Places.{put-there, put-elsewhere, length-change_at, change_at-there, change_at-elsewhere, each-append, each-change_at}
 use Rattle.net_semantics.specs.Order.{IsInOrder}
 use Rattle.net_semantics.proofs.Ordering.{order-sent}
-use Rattle.net_semantics.proofs.Eventful.{if_some_at, if_some_given}
 use Rattle.net_semantics.proofs.Showing.{ShowsAll, shown-append, shown_sent, shown-change_at, shown_more, shown_less, packet_of_shown}
+use Rattle.lists.specs.Options.{of_some, some_holds}
+use Rattle.lists.specs.Places.{slice_get_there}
 
 -- each packet that a node sends is sound
 each_sent : {M : Type 0} (nodes taken n : ℕ) → n < nodes → 1 ≤ taken → (sends : List (ℕ × M)) → AreSentBelow nodes sends → (k : ℕ) → IfSome (slice_get (map (held_sent n) sends) k) (IsSoundPacket nodes taken)
@@ -93,10 +94,10 @@ module _ {H S I O M : Type 0} (x : Promises S I O M) (v v2 : WorldView H S I O M
   stood_shown w sh = sh.states n h.node
 
   outputs_shown : (w : World S S M) → Shows x.meaning.nodes v w → gathered.outputs ≡ (event (w.state n)).outputs
-  outputs_shown w sh = if_some_given (λ s. gathered.outputs ≡ (event s).outputs) (slice_get v.states n) (w.state n) (stood_shown w sh) h.happens.outputs
+  outputs_shown w sh = of_some (λ s. gathered.outputs ≡ (event s).outputs) (slice_get v.states n) (w.state n) (stood_shown w sh) h.happens.outputs
 
   sends_shown : (w : World S S M) → Shows x.meaning.nodes v w → gathered.sends ≡ (event (w.state n)).sends
-  sends_shown w sh = if_some_given (λ s. gathered.sends ≡ (event s).sends) (slice_get v.states n) (w.state n) (stood_shown w sh) h.happens.sends
+  sends_shown w sh = of_some (λ s. gathered.sends ≡ (event s).sends) (slice_get v.states n) (w.state n) (stood_shown w sh) h.happens.sends
 
   stands_after : (s : S) → slice_get v.states n ≡ Some s → (k : ℕ) → k ≡ n → slice_get v2.states k ≡ Some (event s).state
   stands_after s e k same = subst (λ j. slice_get v2.states j ≡ Some (event s).state) (sym same) (ap (λ xs. slice_get xs n) h.happens.put ∙ change_at-there (λ t. (event t).state) v.states n s e)
@@ -119,22 +120,22 @@ module _ {H S I O M : Type 0} (x : Promises S I O M) (v v2 : WorldView H S I O M
   trace_shown w sh = h.trace ∙ ap (λ os. v.trace ++ (input_item n input ++ map (λ o. item.Output n o) os)) (outputs_shown w sh)
 
   was_state : IsSoundState (x.sound n) x.spent v.taken stood.0
-  was_state = if_some_given (IsSoundState (x.sound n) x.spent v.taken) (slice_get v.states n) stood.0 stood.1 (h.was.states n)
+  was_state = of_some (IsSoundState (x.sound n) x.spent v.taken) (slice_get v.states n) stood.0 stood.1 (h.was.states n)
 
   was_modest : IsModest x.meaning.nodes MAX_SENDS (x.sound n) x.spent stood.0 (event stood.0)
   was_modest = h.modest stood.0 was_state.keeps
 
   sends_were : gathered.sends ≡ (event stood.0).sends
-  sends_were = if_some_given (λ s. gathered.sends ≡ (event s).sends) (slice_get v.states n) stood.0 stood.1 h.happens.sends
+  sends_were = of_some (λ s. gathered.sends ≡ (event s).sends) (slice_get v.states n) stood.0 stood.1 h.happens.sends
 
   sound_here : IsSoundState (x.sound n) x.spent v2.taken (event stood.0).state
   sound_here = record {
-    keeps = if_some_given (x.sound n) (slice_get v2.states n) (event stood.0).state (stands_after stood.0 stood.1 n refl) h.kept;
+    keeps = of_some (x.sound n) (slice_get v2.states n) (event stood.0).state (stands_after stood.0 stood.1 n refl) h.kept;
     little = let a = was_modest.cheap in let b = was_state.little in let c = h.taken in omega arith;
   }
 
   outputs_were : gathered.outputs ≡ (event stood.0).outputs
-  outputs_were = if_some_given (λ s. gathered.outputs ≡ (event s).outputs) (slice_get v.states n) stood.0 stood.1 h.happens.outputs
+  outputs_were = of_some (λ s. gathered.outputs ≡ (event s).outputs) (slice_get v.states n) stood.0 stood.1 h.happens.outputs
 
   -- clients see at most one input, and the outputs that an event may have
   pub trace_grows : GrowsBy (length v.trace) (length v2.trace)
@@ -154,7 +155,7 @@ module _ {H S I O M : Type 0} (x : Promises S I O M) (v v2 : WorldView H S I O M
 
   states_sound : (k : ℕ) → IfSome (slice_get v2.states k) (IsSoundState (x.sound k) x.spent v2.taken)
   states_sound k = elim (cases_eq k n) [
-    | inl e ↦ subst (λ j. IfSome (slice_get v2.states j) (IsSoundState (x.sound j) x.spent v2.taken)) (sym e) (if_some_at (IsSoundState (x.sound n) x.spent v2.taken) (slice_get v2.states n) (event stood.0).state (stands_after stood.0 stood.1 n refl) sound_here)
+    | inl e ↦ subst (λ j. IfSome (slice_get v2.states j) (IsSoundState (x.sound j) x.spent v2.taken)) (sym e) (some_holds (IsSoundState (x.sound n) x.spent v2.taken) (slice_get v2.states n) (event stood.0).state (stands_after stood.0 stood.1 n refl) sound_here)
     | inr ne ↦ subst (λ o. IfSome o (IsSoundState (x.sound k) x.spent v2.taken)) (sym (stays k ne)) (IfSome_then (slice_get v.states k) (h.was.states k) (state_later k))
   ]
 
@@ -297,7 +298,7 @@ trace_in n i j t t0 t1 t2 outs e1 e2 e3 e4 =
 
 pub first_sound : {S I O M : Type 0} (x : Promises S I O M) (states : List S) → length states ≡ x.meaning.nodes → ((n : ℕ) → n < x.meaning.nodes → slice_get states n ≡ Some (x.meaning.init n)) → ((n : ℕ) → n < x.meaning.nodes → x.sound n (x.meaning.init n)) → ((n : ℕ) → n < x.meaning.nodes → x.spent (x.meaning.init n) ≡ 0) → (n : ℕ) → IfSome (slice_get states n) (IsSoundState (x.sound n) x.spent 0)
 first_sound x states len first ok fresh n = elim (cases_lt n x.meaning.nodes) [
-  | inl lt ↦ if_some_at (IsSoundState (x.sound n) x.spent 0) (slice_get states n) (x.meaning.init n) (first n lt) (record { keeps = ok n lt; little = let z = fresh n lt in omega arith })
+  | inl lt ↦ some_holds (IsSoundState (x.sound n) x.spent 0) (slice_get states n) (x.meaning.init n) (first n lt) (record { keeps = ok n lt; little = let z = fresh n lt in omega arith })
   | inr ge ↦ MatchOption-from_none (slice_get states n) (IsSoundState (x.sound n) x.spent 0) (slice_get_past states n (omega arith))
 ]
 

@@ -1,4 +1,5 @@
 pub mod Worlds
+pub mod StepLaws
 pub mod Steps
 pub mod Runs
 pub mod PacketViews

@@ -1,28 +1,38 @@
 -- A schedule without its repeats: what is left where each packet is delivered once and none is copied.
 use Rattle.std.specs.Prelude.{ℕ, Bool, true, false, List, [], ◌∷◌, if◌then◌else◌}
 use Rattle.vst_base.specs.declared.step.Step.{Step}
-use Rattle.vst_base.specs.declared.step.Step.TheVariants as step
+use Rattle.vst_base.specs.StepViews.{Fate, Delivered, Copied, Lost, StepView, AtNode, OfPacket, Stops, Starts, view_of}
 use Rattle.net_semantics.specs.Worlds.{put}
 
 -- whether a step is left out after deliveries of these packets: every copy, and each further delivery of one of them
+abbrev pub comes_again : Bool → Fate → Bool
+comes_again before Delivered = before
+comes_again before Copied = true
+comes_again before Lost = false
+
+abbrev pub repeats_in : {I : Type 0} → (ℕ → Bool) → StepView I → Bool
+repeats_in delivered (AtNode n input) = false
+repeats_in delivered (OfPacket k fate) = comes_again (delivered k) fate
+repeats_in delivered (Stops n) = false
+repeats_in delivered (Starts n) = false
+
 abbrev pub is_repeat : {I : Type 0} → (ℕ → Bool) → Step I → Bool
-is_repeat delivered (step.Dup k) = true
-is_repeat delivered (step.Deliver k) = delivered k
-is_repeat delivered (step.In n i) = false
-is_repeat delivered (step.Tick n) = false
-is_repeat delivered (step.Lose k) = false
-is_repeat delivered (step.Crash n) = false
-is_repeat delivered (step.Reboot n) = false
+is_repeat delivered s = repeats_in delivered (view_of s)
 
 -- the delivered packets, once a step is taken
+abbrev pub delivered_by : (ℕ → Bool) → ℕ → Fate → ℕ → Bool
+delivered_by delivered k Delivered = put delivered k true
+delivered_by delivered k Copied = delivered
+delivered_by delivered k Lost = delivered
+
+abbrev pub delivered_in : {I : Type 0} → (ℕ → Bool) → StepView I → ℕ → Bool
+delivered_in delivered (AtNode n input) = delivered
+delivered_in delivered (OfPacket k fate) = delivered_by delivered k fate
+delivered_in delivered (Stops n) = delivered
+delivered_in delivered (Starts n) = delivered
+
 abbrev pub delivered_after : {I : Type 0} → (ℕ → Bool) → Step I → ℕ → Bool
-delivered_after delivered (step.Deliver k) = put delivered k true
-delivered_after delivered (step.In n i) = delivered
-delivered_after delivered (step.Tick n) = delivered
-delivered_after delivered (step.Dup k) = delivered
-delivered_after delivered (step.Lose k) = delivered
-delivered_after delivered (step.Crash n) = delivered
-delivered_after delivered (step.Reboot n) = delivered
+delivered_after delivered s = delivered_in delivered (view_of s)
 
 -- and once several are
 abbrev pub delivered_from : {I : Type 0} → (ℕ → Bool) → List (Step I) → ℕ → Bool

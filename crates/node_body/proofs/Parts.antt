@@ -3,14 +3,12 @@ use Rattle.std.proofs.Common.{◌≡◌, ◌≤◌, ◌<◌, ◌-◌, ℕ, List,
 use Rattle.std.proofs.lemmas.Bool.{le-leb, lt-leb}
 use Rattle.std.proofs.lemmas.List.{take_all}
 use Rattle.node_body.specs.Slots.{part}
-
-past : (n : ℕ) (bs : List ℕ) → take (length bs - n) (drop n bs) ≡ drop n bs
-past n bs = take_all (length bs - n) (drop n bs) (omega (arith, length-drop n bs))
+use Rattle.lists.specs.Places.{take_rest}
 
 pub part_there : (n : ℕ) (bs : List ℕ) → n ≤ length bs → (part n).read bs ≡ Some (take n bs, take (length bs - n) (drop n bs))
 part_there n bs long =
     ap (λ b. let found : Option (List ℕ × List ℕ) = Some (take n bs, drop n bs) in if b then found else None) (le-leb n (length bs) long)
-    ∙ ap (λ rest. let found : Option (List ℕ × List ℕ) = Some (take n bs, rest) in found) (sym (past n bs))
+    ∙ ap (λ rest. let found : Option (List ℕ × List ℕ) = Some (take n bs, rest) in found) (sym (take_rest n bs))
 
 pub part_short : (n : ℕ) (bs : List ℕ) → length bs < n → (part n).read bs ≡ None
 part_short n bs less = ap (λ b. let found : Option (List ℕ × List ℕ) = Some (take n bs, drop n bs) in if b then found else None) (lt-leb n (length bs) less)

@@ -4,8 +4,9 @@ ghost use Rattle.node_body.specs.VoteLaws.{MayKeep};
 ghost use Rattle.raft_types.specs.Ranges.{IsClusterSize, IsIndex, IsTerm};
 ghost use Rattle.wire_codec.specs.Headings.{stack_byte};
 ghost use Rattle.wire_fields.specs.Bytes.{number_bytes};
-ghost use Rattle.wire_fields.specs.Fields.{Reads, StandsBefore};
+ghost use Rattle.wire_fields.specs.Fields.{Reads};
 ghost use Rattle.wire_messages.specs.Wires.{Takes, read_whole};
+ghost use Rattle.lists.specs.Prefixes.{IsPrefix};
 
 use crate::kept::take_kept;
 use crate::log::put_log;
@@ -148,7 +149,7 @@ fn put_name(out: &mut Vec<u8>, name: &[u8; NAME_LEN]) -> Result<(), AllocError>
 fn put_node<C: Commands>(out: &mut Vec<u8>, me: u8, nodes: u8) -> Result<(), AllocError>
     ensures ok { OnOk result (out.new.items ≡ out.old.items
         ++ (mark.spell Version.Two ++ (stack_byte C.stack ∷ (number_bytes 1 me ++ number_bytes 1 nodes)))) }
-    ensures err { OnErr result (StandsBefore out.old.items out.new.items) }
+    ensures err { OnErr result (IsPrefix out.old.items out.new.items) }
 {
     out.extend_from_slice(&[b'S', 2, C::byte()])?;
     put_u8(out, me)?;
@@ -161,7 +162,7 @@ fn put_owner<C: Commands>(out: &mut Vec<u8>, who: &Who) -> Result<(), AllocError
     ensures ok { OnOk result (out.new.items ≡ out.old.items
         ++ (mark.spell Version.Two ++ (owner C.stack Version.Two).spell (owner_of who.now))) }
     ensures fits { OnOk result (NameFits (Some who.now.name)) }
-    ensures err { OnErr result (StandsBefore out.old.items out.new.items) }
+    ensures err { OnErr result (IsPrefix out.old.items out.new.items) }
 {
     put_node::<C>(out, who.me, who.nodes)?;
     put_name(out, &who.name)
@@ -185,7 +186,7 @@ pub fn put_state<C: Commands>(
     ensures ok { OnOk result (out.new.items ≡ out.old.items
         ++ (body C.stack C.format).spell (body_of who.now (kept_as term voted log.now))) }
     ensures fits { OnOk result ((body C.stack C.format).Fits (body_of who.now (kept_as term voted log.now))) }
-    ensures err { OnErr result (StandsBefore out.old.items out.new.items) }
+    ensures err { OnErr result (IsPrefix out.old.items out.new.items) }
 {
     put_owner::<C>(out, who)?;
     put_u64(out, term)?;
@@ -201,7 +202,7 @@ pub fn put_body<C: Commands>(out: &mut Vec<u8>, who: &Who, kept: &Kept<C>) -> Re
     requires voted { VoteAmong who.now.nodes kept.now.voted }
     ensures ok { OnOk result (out.new.items ≡ out.old.items ++ (body C.stack C.format).spell (body_of who.now kept.now)) }
     ensures fits { OnOk result ((body C.stack C.format).Fits (body_of who.now kept.now)) }
-    ensures err { OnErr result (StandsBefore out.old.items out.new.items) }
+    ensures err { OnErr result (IsPrefix out.old.items out.new.items) }
 {
     put_state(out, who, kept.term(), kept.voted(), kept.log())
 }

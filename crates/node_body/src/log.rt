@@ -1,10 +1,10 @@
 ghost use Rattle.std.specs.Prelude.{◌≡◌, ◌++◌, IfOk, IfSome, OnErr, OnOk, length};
 ghost use Rattle.node_body.specs.Bodies.{entry_in, log};
 ghost use Rattle.raft_types.specs.Ranges.{IsIndex};
-ghost use Rattle.wire_fields.specs.Fields.{StandsBefore};
 ghost use Rattle.wire_fields.specs.Formats.{listed};
 ghost use Rattle.wire_messages.specs.EntryBytes.{entry};
 ghost use Rattle.wire_messages.specs.Wires.{Takes, TakesBy};
+ghost use Rattle.lists.specs.Prefixes.{IsPrefix};
 
 use crate::Version;
 use raft_types::{Entries, MAX_INDEX};
@@ -71,7 +71,7 @@ pub fn put_log<C: Wire>(out: &mut Vec<u8>, items: &[Entry<C>]) -> Result<(), All
     requires { IsIndex (length items.now) }
     ensures ok { OnOk result (out.new.items ≡ out.old.items ++ (log (entry C.format)).spell items.now) }
     ensures fits { OnOk result ((log (entry C.format)).Fits items.now) }
-    ensures err { OnErr result (StandsBefore out.old.items out.new.items) }
+    ensures err { OnErr result (IsPrefix out.old.items out.new.items) }
 {
     put_u32(out, items.len() as u32)?;
     put_each(out, items)

@@ -3,9 +3,9 @@ ghost use Rattle.node_body.specs.Bodies.{VoteAmong, entry_in};
 ghost use Rattle.node_body.specs.Journals.{change, change_as, patched, spell_change};
 ghost use Rattle.raft_types.specs.Ranges.{IsIndex, IsTerm};
 ghost use Rattle.vst_base.specs.declared.node.TheConstants.{MAX_NODES};
-ghost use Rattle.wire_fields.specs.Fields.{StandsBefore};
 ghost use Rattle.wire_messages.specs.EntryBytes.{entry};
 ghost use Rattle.wire_messages.specs.Wires.{Takes};
+ghost use Rattle.lists.specs.Prefixes.{IsPrefix};
 
 use crate::Version;
 use crate::log::{put_log, take_log};
@@ -87,7 +87,7 @@ pub fn put_record<C: Wire>(
         ++ spell_change (entry C.format) (change_as term voted keep entries.now)) }
     ensures fits { OnOk result ((nodes : ℕ) → nodes ≤ MAX_NODES → VoteAmong nodes voted
         → (change nodes (entry C.format)).Fits (change_as term voted keep entries.now)) }
-    ensures err { OnErr result (StandsBefore out.old.items out.new.items) }
+    ensures err { OnErr result (IsPrefix out.old.items out.new.items) }
 {
     put_u64(out, term)?;
     put_vote(out, voted)?;

@@ -3,7 +3,7 @@ use Rattle.std.specs.Prelude.{◌≡◌, ◌⊎◌, ℕ, List, Result, Ok, Err}
 use Rattle.std.proofs.Common.{inl, inr, ap, ◌∙◌, subst, sym, arith, refl}
 use Rattle.command_line.specs.AskedNodes.{NodeWordsView}
 use Rattle.outside.specs.Counting.{Rose}
-use Rattle.outside.specs.Wholes.{Gained, GainedFront}
+use Rattle.outside.specs.Wholes.{Gained, GainedPrefix}
 use Rattle.run_streams.specs.Lines.{memory_line}
 use Rattle.run_streams.specs.Saying.{Said, Tells}
 use Rattle.run_streams.specs.Seen.{KeepsCounts, SinkSeen}
@@ -36,7 +36,7 @@ module _ (w : NodeWordsView) (r : NodeRun) where
   reads_stay (Err (trouble.Ended fault.Memory)) came may = came.configured_so.read.quiet
 
   -- and where the error stream wanted memory for the line of a trouble none did, unless that is the trouble
-  reads_told : (t : Trouble) → CameTo w r (Err t) → GainedFront r.streams.before.err.written r.streams.after.err.written (line_of t)
+  reads_told : (t : Trouble) → CameTo w r (Err t) → GainedPrefix r.streams.before.err.written r.streams.after.err.written (line_of t)
       → Rose r.streams.before.err.wants r.streams.after.err.wants
       → (r.streams.after.input.faults ≡ r.streams.before.input.faults) ⊎ WantedAtRead w r
   reads_told trouble.Read came front rose = inr (record { came = came; front = front; rose = rose })
@@ -50,7 +50,7 @@ module _ (w : NodeWordsView) (r : NodeRun) where
   out_unfailed (inr wanted) = wanted.1.unfailed
 
 module _ (w : NodeWordsView) (r : NodeRun) (result : ℕ) where
-  saying : (line : List ℕ) → MaySay w r line → GainedFront r.streams.before.err.written r.streams.after.err.written line
+  saying : (line : List ℕ) → MaySay w r line → GainedPrefix r.streams.before.err.written r.streams.after.err.written line
       → WroteTurnsAtMost w r → WasSaying w r
   saying line may front out = record { line = line; may = may; front = front; out = out }
 

@@ -4,7 +4,7 @@ use Rattle.command_line.specs.AskedNodes.{NodeWordsView}
 use Rattle.node_config.specs.declared.key.ConfigKey.{ConfigKey}
 use Rattle.node_state.specs.declared.opening.Refusal.{Refusal}
 use Rattle.outside.specs.Counting.{Rose}
-use Rattle.outside.specs.Wholes.{Gained, GainedFront}
+use Rattle.outside.specs.Wholes.{Gained, GainedPrefix}
 use Rattle.run_streams.specs.Lines.{memory_line}
 use Rattle.run_streams.specs.Seen.{CountsNothing}
 use Rattle.udp_node.specs.declared.fault.NodeFault.TheVariants as fault
@@ -68,13 +68,13 @@ module _ (w : NodeWordsView) (r : NodeRun) where
   pub record WasSaying : Type 0 where
     pub line : List ℕ
     pub may : MaySay line
-    pub front : GainedFront r.streams.before.err.written r.streams.after.err.written line
+    pub front : GainedPrefix r.streams.before.err.written r.streams.after.err.written line
     pub out : WroteTurnsAtMost
 
   -- 5: a write of the output failed, after the last turn
   pub record HasOutFailed : Type 0 where
     pub served : CameTo (Ok tt)
-    pub front : GainedFront r.streams.before.out.written r.streams.after.out.written (turns_line w.turns)
+    pub front : GainedPrefix r.streams.before.out.written r.streams.after.out.written (turns_line w.turns)
     pub rose : Rose r.streams.before.out.faults r.streams.after.out.faults
     pub unwanted : r.streams.after.out.wants ≡ r.streams.before.out.wants
     pub err : r.streams.after.err ≡ r.streams.before.err
@@ -103,7 +103,7 @@ module _ (w : NodeWordsView) (r : NodeRun) where
   -- a read failed, and the error stream wanted memory as it got the line of that
   pub record WantedAtRead : Type 0 where
     pub came : CameTo (Err trouble.Read)
-    pub front : GainedFront r.streams.before.err.written r.streams.after.err.written (line_of trouble.Read)
+    pub front : GainedPrefix r.streams.before.err.written r.streams.after.err.written (line_of trouble.Read)
     pub rose : Rose r.streams.before.err.wants r.streams.after.err.wants
 
   -- 8: memory was wanted. No write failed, and no read but where the error stream wanted memory for the line of it

@@ -2,7 +2,7 @@
 use Rattle.std.specs.Prelude.{◌≡◌, ◌⊎◌, ℕ, Result, Ok, Err}
 use Rattle.command_line.specs.AskedNodes.{NodeWordsView}
 use Rattle.outside.specs.Counting.{Rose}
-use Rattle.outside.specs.Wholes.{Gained, GainedFront}
+use Rattle.outside.specs.Wholes.{Gained, GainedPrefix}
 use Rattle.run_streams.specs.Lines.{memory_line}
 use Rattle.run_streams.specs.Saying.{Said, Tells}
 use Rattle.run_streams.specs.Seen.{CountsNothing, KeepsCounts, SinkSeen}
@@ -15,7 +15,7 @@ use Rattle.node_command.specs.declared.trouble.Trouble.TheVariants as trouble
 
 -- the output wanted memory as it got the line of the turns
 pub record OutWanted (turns : ℕ) (out out' : SinkSeen) : Type 0 where
-  pub front : GainedFront out.written out'.written (turns_line turns)
+  pub front : GainedPrefix out.written out'.written (turns_line turns)
   pub unfailed : out'.faults ≡ out.faults
   pub rose : Rose out.wants out'.wants
 
@@ -29,7 +29,7 @@ module _ (turns : ℕ) (out out' err err' : SinkSeen) (result : ℕ) where
 
   pub record FailedTurns : Type 0 where
     pub status : result ≡ 5
-    pub out_is : GainedFront out.written out'.written (turns_line turns)
+    pub out_is : GainedPrefix out.written out'.written (turns_line turns)
     pub rose : Rose out.faults out'.faults
     pub unwanted : out'.wants ≡ out.wants
     pub err_is : err' ≡ err

@@ -6,6 +6,7 @@ use Rattle.outside.specs.Streams.{Gives}
 use Rattle.std.proofs.lemmas.Slice.{take-put_mid_below}
 use borrow.Rule.Slice.PartMut.{put_mid, post_of}
 use lib.Seq.{take-add, take-append-le}
+use Rattle.lists.specs.Options.{of_some}
 
 -- the part from `len` on was overwritten: the front stays
 pub front-stays : (buf new : List ℕ) (len : ℕ) → len ≤ length buf → take len (put_mid len (length buf - len) buf new) ≡ take len buf
@@ -45,26 +46,17 @@ left-none (Some bytes) o' o'' len most is is' end within =
     let few = taken-all bytes len nothing in
     is' ∙ (ap (option_map (drop 0)) is ∙ ap Some (ap (drop 0) nothing ∙ sym (drop_all most bytes (omega (arith, few, within)))))
 
--- what is said of the bytes that are left, of those that were there first
-pub of-left : (P : List ℕ → Type 0) (o : Option (List ℕ)) (bytes : List ℕ) → o ≡ Some bytes → IfSome o P → P bytes
-of-left P o bytes is h = subst (λ x. IfSome x P) is h
-
--- what a call says where a source tells
-pub where-told : (P : List ℕ → Type 0) (o : Option (List ℕ)) → ((bytes : List ℕ) → o ≡ Some bytes → P bytes) → IfSome o P
-where-told P None h = tt
-where-told P (Some bytes) h = h bytes refl
-
 -- the end of a source was met after `len` bytes
 pub ended : (first left : Option (List ℕ)) (len n : ℕ) (before after : List ℕ) → left ≡ option_map (drop len) first → IfSome left (λ rest. Gives rest n before after) → n ≡ 0 → 0 < length before
     → (bytes : List ℕ) → first ≡ Some bytes → drop len bytes ≡ []
 ended first left len n before after taken gives none some bytes is =
-    let rest = of-left (λ rest. Gives rest n before after) left (drop len bytes) (taken ∙ ap (option_map (drop len)) is) gives in
+    let rest = of_some (λ rest. Gives rest n before after) left (drop len bytes) (taken ∙ ap (option_map (drop len)) is) gives in
     rest.at_end none some
 
 -- n bytes more of what was left came
 pub further : (first left : Option (List ℕ)) (len n : ℕ) (before after bytes : List ℕ) → left ≡ option_map (drop len) first → IfSome left (λ rest. Gives rest n before after) → first ≡ Some bytes → Gives (drop len bytes) n before after
 further first left len n before after bytes taken gives is =
-    of-left (λ rest. Gives rest n before after) left (drop len bytes) (taken ∙ ap (option_map (drop len)) is) gives
+    of_some (λ rest. Gives rest n before after) left (drop len bytes) (taken ∙ ap (option_map (drop len)) is) gives
 
 -- the room that is left
 pub room : (buf : List ℕ) (len : ℕ) → length (take (length buf - len) (drop len buf)) ≡ length buf - len

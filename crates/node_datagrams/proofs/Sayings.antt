@@ -12,9 +12,11 @@ use Rattle.node_device.specs.Telling.{Told, told_after, Did, WhereTold}
 use Rattle.node_device.specs.declared.device.Shipped.{Shipped}
 use Rattle.node_device.specs.declared.device.Shipped.TheVariants as shipped
 use Rattle.outside.specs.declared.device.Address.{Address}
-use Rattle.slots.proofs.Elsewhere.{after_append, every_append}
+use Rattle.slots.proofs.Elsewhere.{after_append}
 use Rattle.slots.specs.Turns.{Says, datagrams}
 use Rattle.node_datagrams.specs.Saying.{HasBegunToSay, HasSaid, SendsOnly}
+use Rattle.lists.specs.Each.{each_append}
+use Rattle.lists.specs.Prefixes.{prefix_behind, prefix_of}
 
 abbrev Datagrams : Type 0
 Datagrams = List (Address × List ℕ)
@@ -44,27 +46,23 @@ both_said : (said more : Datagrams) (a b c : Told) → HasSaid said a b → HasS
 both_said said more a b c h k = record {
   did = h.did ++ k.did;
   is = after_both_is a b c h.did k.did h.is k.is;
-  says = every_append Says h.did k.did h.says k.says;
+  says = each_append Says h.did k.did h.says k.says;
   datagrams = said_first h.did k.did said h.datagrams ∙ ap (λ r. said ++ r) k.datagrams;
 }
 
 -- the first of two lists, and a part of the second
 said_and_begun : (said more : Datagrams) (a b c : Told) → HasSaid said a b → HasBegunToSay more b c → HasBegunToSay (said ++ more) a c
 said_and_begun said more a b c h k =
-    let rest = k.datagrams.0 in
     record {
       did = h.did ++ k.did;
       is = after_both_is a b c h.did k.did h.is k.is;
-      says = every_append Says h.did k.did h.says k.says;
-      datagrams = (
-        rest,
-        ap (λ r. r ++ rest) (said_first h.did k.did said h.datagrams) ∙ (append_assoc said (datagrams k.did) rest ∙ ap (λ r. said ++ r) k.datagrams.1),
-      );
+      says = each_append Says h.did k.did h.says k.says;
+      datagrams = rw (said_first h.did k.did said h.datagrams) (prefix_behind said more k.datagrams);
     }
 
 -- the first of two lists, and no more
 begun_of_said : (said more : Datagrams) (a b : Told) → HasSaid said a b → HasBegunToSay (said ++ more) a b
-begun_of_said said more a b h = record { did = h.did; is = h.is; says = h.says; datagrams = (more, ap (λ r. r ++ more) h.datagrams) }
+begun_of_said said more a b h = record { did = h.did; is = h.is; says = h.says; datagrams = prefix_of _ more _ (ap (λ r. r ++ more) h.datagrams) }
 
 where_each : (P Q : Told → Told → Type 0) → ((x y : Told) → P x y → Q x y) → (a b : Option Told) → WhereTold a b P → WhereTold a b Q
 where_each P Q each None b h = h

@@ -1,16 +1,16 @@
 -- The bytes of a node's datagrams, and sending them, as its device tells it.
 use Rattle.std.specs.Prelude.{◌≡◌, ◌≤◌, ℕ, List}
 use Rattle.disk.specs.Acts.{Act}
-use Rattle.disk.specs.DiskLaws.{Every}
 use Rattle.node_device.specs.Faults.{Faults}
 use Rattle.node_device.specs.Telling.{Told, told_after}
 use Rattle.node_run.specs.Settings.{Settings}
 use Rattle.outside.specs.declared.device.Address.{Address}
-use Rattle.slots.specs.TurnLaws.{IsFront}
 use Rattle.slots.specs.Turns.{Says, datagrams}
 use Rattle.wire_codec.specs.Datagrams.{message_of, spell_datagram}
 use Rattle.wire_codec.specs.Headings.{heading_of}
 use Rattle.wire_codec.specs.declared.kind.Kind.{Kind}
+use Rattle.lists.specs.Each.{Each}
+use Rattle.lists.specs.Prefixes.{IsPrefix}
 
 -- the bytes of a datagram of the node: of which kind, to whom and with which body
 abbrev pub bytes_of : Settings → Kind → ℕ → List ℕ → List ℕ
@@ -20,15 +20,15 @@ bytes_of settings kind to body = spell_datagram (message_of (heading_of settings
 pub record HasSaid (said : List (Address × List ℕ)) (before now : Told) : Type 0 where
   pub did : List Act
   pub is : now ≡ told_after before did
-  pub says : Every Says did
+  pub says : Each Says did
   pub datagrams : datagrams did ≡ said
 
 -- the same of the first of these, up to some place
 pub record HasBegunToSay (said : List (Address × List ℕ)) (before now : Told) : Type 0 where
   pub did : List Act
   pub is : now ≡ told_after before did
-  pub says : Every Says did
-  pub datagrams : IsFront (datagrams did) said
+  pub says : Each Says did
+  pub datagrams : IsPrefix (datagrams did) said
 
 -- no count of faults changed but that of sends, which did not fall
 pub record SendsOnly (old new : Faults) : Type 0 where

@@ -4,9 +4,9 @@ ghost use Rattle.node_datagrams.specs.Saying.{bytes_of};
 ghost use Rattle.node_run.specs.Events.{reply_of};
 ghost use Rattle.wire_codec.specs.Headings.{heading, heading_of};
 ghost use Rattle.wire_codec.specs.declared.kind.Kind.TheVariants as kind;
-ghost use Rattle.wire_fields.specs.Fields.{StandsBefore};
 ghost use Rattle.wire_messages.specs.ClientBytes.{client_reply};
 ghost use Rattle.wire_messages.specs.RaftBytes.{raft_message};
+ghost use Rattle.lists.specs.Prefixes.{IsPrefix};
 
 use node_config::Config;
 use raft_types::{RaftMsg, RaftOut};
@@ -42,7 +42,7 @@ pub fn put_packet<C: Wire>(
 ) -> Result<(), AllocError>
     ensures ok { OnOk result (out.new.items
         ≡ out.old.items ++ bytes_of (settings_of config.now) kind.Peer to ((raft_message C.format).spell message.now)) }
-    ensures err { OnErr result (StandsBefore out.old.items out.new.items) }
+    ensures err { OnErr result (IsPrefix out.old.items out.new.items) }
 {
     put_heading(out, config, Kind::Peer, to.index())?;
     message.put(out)
@@ -63,7 +63,7 @@ pub(crate) fn client_of<O>(output: &RaftOut<O>) -> ClientId
 #[tactic(auto, using(wire_fields::specs::Fronts::front_stays))]
 fn put_output<O: Wire>(out: &mut Vec<u8>, output: &RaftOut<O>) -> Result<(), AllocError>
     ensures ok { OnOk result (out.new.items ≡ out.old.items ++ (client_reply O.format).spell (reply_of output.now).1) }
-    ensures err { OnErr result (StandsBefore out.old.items out.new.items) }
+    ensures err { OnErr result (IsPrefix out.old.items out.new.items) }
 {
     match output {
         RaftOut::Reply {
@@ -96,7 +96,7 @@ pub fn put_reply<O: Wire>(
     requires { (reply_of output.now).0 < 256 }
     ensures ok { OnOk result (out.new.items ≡ out.old.items ++ bytes_of (settings_of config.now) kind.Reply (reply_of output.now).0
         ((client_reply O.format).spell (reply_of output.now).1)) }
-    ensures err { OnErr result (StandsBefore out.old.items out.new.items) }
+    ensures err { OnErr result (IsPrefix out.old.items out.new.items) }
 {
     let client = client_of(output).number();
     put_heading(out, config, Kind::Reply, client as u8)?;

@@ -1,7 +1,7 @@
 -- What was seen, and a view of it, as both go on.
 use Rattle.std.proofs.Common.{◌≡◌, List, [], ◌∷◌, ◌++◌, refl, sym, ap, ◌∙◌, subst, append_assoc, inl, inr}
 use Rattle.std.proofs.lemmas.List.{append-nil}
-use Rattle.linearizability.specs.Linearizable.{Each, HasInput, Seen, Told, told_by, told_since}
+use Rattle.linearizability.specs.Linearizable.{HasInput, Seen, Told, told_by, told_since}
 use Rattle.net_semantics.specs.Runs.{outputs_in}
 use Rattle.raft_types.specs.declared.client.RaftInput.{RaftInput}
 use Rattle.raft_types.specs.declared.client.RaftOut.{RaftOut}
@@ -11,6 +11,7 @@ use Rattle.vst_base.specs.declared.step.Item.TheVariants as item
 use Rattle.node_histories.proofs.Lists.{any_here, any_later, any_left, contains_cases, contains_none, each_both, each_front, each_then}
 use Rattle.node_histories.specs.ViewLaws.{SeenGoesOn, ViewGoesOn}
 use Rattle.node_histories.specs.Views.{AreAsked, AreGiven, HasOutput, IsReplyOf, IsReplyOfOne, HasView, inputs_in}
+use Rattle.lists.specs.Each.{Each}
 
 inputs_in-append : {I O : Type 0} (xs ys : List (Item I O)) → inputs_in (xs ++ ys) ≡ inputs_in xs ++ inputs_in ys
 inputs_in-append [] ys = refl

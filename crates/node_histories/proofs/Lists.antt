@@ -2,7 +2,7 @@
 use Rattle.std.proofs.Common.{◌≡◌, zero, suc, ◌+◌, List, [], ◌∷◌, ◌++◌, refl, sym, ◌∙◌, subst, length, arith, inl, inr, ◌⊎◌}
 use Rattle.std.proofs.lemmas.List.{get_or_append_left, length-append}
 use Rattle.std.specs.Prelude.{Any, Contains}
-use Rattle.linearizability.specs.Linearizable.{Each}
+use Rattle.lists.specs.Each.{Each}
 
 module _ {A : Type 0} where
   pub contains_here : (x : A) (xs : List A) → Contains (x ∷ xs) x

@@ -2,7 +2,6 @@
 use Rattle.std.proofs.Common.{◌≡◌, ℕ, zero, suc, ◌<◌, List, [], ◌∷◌, ◌++◌, length, None, refl, sym, ap, ◌∙◌, subst, append_assoc}
 use Rattle.std.proofs.lemmas.List.{append-nil}
 use Rattle.handler_trait.specs.Handling.{Meaning, Recovery}
-use Rattle.linearizability.specs.Linearizable.{Each}
 use Rattle.net_semantics.specs.RunLaws.{first_refused_from-append, later, run_from-append, trace_from-append}
 use Rattle.net_semantics.specs.Runs.{first_refused_from, run_from, trace_from}
 use Rattle.net_semantics.specs.Steps.{next}
@@ -15,6 +14,7 @@ use Rattle.node_histories.specs.HistoryLaws.{GoesOn, HasRun, HistoriesAreRuns, R
 use Rattle.node_histories.proofs.Adding.{items_since-append, nothing_forged_rest}
 use Rattle.node_histories.proofs.Lists.{each_rest}
 use Rattle.node_histories.proofs.Stepping.{Leads, Reaches, happening_leads}
+use Rattle.lists.specs.Each.{Each}
 
 later-none : (n : ℕ) → later n None ≡ None
 later-none zero = refl

@@ -1,6 +1,6 @@
 -- Each part of what explains what was seen, carried over to a view.
 use Rattle.std.proofs.Common.{◌≡◌, List, [], ◌∷◌, Some, refl, ◌∙◌, subst, inl, inr}
-use Rattle.linearizability.specs.Linearizable.{AreInTime, AreOutputs, AreRequested, Each, HasInput, Seen, Told, beside, told_since, up_to, with_outputs}
+use Rattle.linearizability.specs.Linearizable.{AreInTime, AreOutputs, AreRequested, HasInput, Seen, Told, beside, told_since, up_to, with_outputs}
 use Rattle.raft_types.specs.declared.client.RaftInput.{RaftInput}
 use Rattle.vst_base.specs.Machines.{MachineMeaning}
 use Rattle.vst_base.specs.declared.step.Item.{Item}
@@ -8,6 +8,7 @@ use Rattle.vst_base.specs.declared.step.Item.TheVariants as item
 use Rattle.node_histories.proofs.Lists.{any_here, any_later, any_then, each_then, of_one}
 use Rattle.node_histories.specs.ViewLaws.{LessIsExplained, ShowsItself, ViewsGoOn}
 use Rattle.node_histories.specs.Views.{AreAsked, IsReplyOf, IsReplyOfOne, HasView, inputs_in}
+use Rattle.lists.specs.Each.{Each}
 
 pub has_asked : {I O : Type 0} (xs ys : List (Item I O)) (i : I) → AreAsked xs ys → HasInput xs i → HasInput ys i
 has_asked [] ys i all h = absurd h

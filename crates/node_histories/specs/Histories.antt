@@ -2,10 +2,10 @@
 -- state what its handlers say, and nothing else.
 use Rattle.std.specs.Prelude.{ℕ, ◌<◌, ◌==◌, true, List, [], ◌∷◌, ◌++◌, Contains, Option, Some, None, IsTrue, if◌then◌else◌}
 use Rattle.handler_trait.specs.Handling.{Effect, Meaning, Recovery}
-use Rattle.linearizability.specs.Linearizable.{Each}
 use Rattle.net_semantics.specs.Steps.{items_of_event}
 use Rattle.net_semantics.specs.Worlds.{Packet, World, sent_by}
 use Rattle.vst_base.specs.declared.step.Item.{Item}
+use Rattle.lists.specs.Each.{Each}
 
 -- what a node acts on: a client gives it an input, a message of a node comes to it, or its timer fires
 pub data Event (I M : Type 0) : Type 0 where

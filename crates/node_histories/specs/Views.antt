@@ -1,12 +1,13 @@
 -- Two views of one run: what was seen of it at one place, and what of that shows at another, where requests may come earlier or be
 -- more, and replies may be lost, come later or come again.
 use Rattle.std.specs.Prelude.{◌≡◌, List, [], ◌∷◌, Any, Contains}
-use Rattle.linearizability.specs.Linearizable.{Each, HasInput, Seen, Told, told_since}
+use Rattle.linearizability.specs.Linearizable.{HasInput, Seen, Told, told_since}
 use Rattle.net_semantics.specs.Runs.{outputs_in}
 use Rattle.raft_types.specs.declared.client.RaftOut.{RaftOut}
 use Rattle.raft_types.specs.declared.client.RaftOut.TheVariants as told
 use Rattle.vst_base.specs.declared.step.Item.{Item}
 use Rattle.vst_base.specs.declared.step.Item.TheVariants as item
+use Rattle.lists.specs.Each.{Each}
 
 -- the inputs that clients gave, in order
 abbrev pub inputs_in : {I O : Type 0} → List (Item I O) → List I

@@ -3,11 +3,10 @@ use Rattle.std.proofs.Common.{◌≡◌, ℕ, ◌≤◌, List, [], ◌∷◌, �
 use Rattle.std.proofs.lemmas.List.{append-nil}
 use Rattle.disk.specs.Acts.{Act}
 use Rattle.disk.specs.Disk.{Disk}
-use Rattle.disk.specs.DiskLaws.{Every, IsCutShort}
+use Rattle.disk.specs.DiskLaws.{IsCutShort}
 use Rattle.raft_types.specs.Keeping.{KeptView}
 use Rattle.slots.specs.Opening.{Found}
 use Rattle.slots.specs.Turns.{Says, datagrams}
-use Rattle.slots.specs.TurnLaws.{IsFront}
 use Rattle.vst_base.specs.Machines.{MachineMeaning}
 use Rattle.vst_base.specs.declared.stack.StackId.{StackId}
 use Rattle.wire_fields.specs.Formats.{Format}
@@ -25,6 +24,8 @@ use Rattle.node_records.proofs.Leaving.{event_leaves, hearing}
 use Rattle.node_records.proofs.Turning.{event_stops, heard_stops}
 use Rattle.node_progress.specs.Progress.{Halts}
 use Rattle.node_progress.proofs.Turns.{event_moments, rests, same_disk, told_thrice}
+use Rattle.lists.specs.Each.{Each}
+use Rattle.lists.specs.Prefixes.{IsPrefix}
 
 module _ {S C D O : Type 0} (settings : Settings) (m : MachineMeaning S C O) (s : StackId) (f : Format C) (t : StackId) (h : Format D)
     (g : Format O) (who : Who) where
@@ -49,7 +50,7 @@ module _ {S C D O : Type 0} (settings : Settings) (m : MachineMeaning S C O) (s 
   stops : (stage : Stage S C O) (kept : KeptView C) (store : StoreView) (count : ℕ) (node : NodeView S C O) (d : Done C)
       (hs saves said : List Act) →
       settings.stack ≡ s → HearsAs settings m f g stage hs (d ∷ []) count (Between node) → IsCutShort (state_acts s f store d.kept) saves →
-      Every Says said → IsFront (datagrams said) d.said → IsStopped settings m f g stage store count (hs ++ (saves ++ said))
+      Each Says said → IsPrefix (datagrams said) d.said → IsStopped settings m f g stage store count (hs ++ (saves ++ said))
   stops stage kept store count node d hs saves said stack heard short q front =
       event_stops settings m f g stage store count node d hs saves said heard
       (subst (λ (x : StackId). IsCutShort (state_acts x f store d.kept) saves) (sym stack) short) q front
@@ -63,10 +64,10 @@ module _ {S C D O : Type 0} (settings : Settings) (m : MachineMeaning S C O) (s 
   save_halts stage kept store count node d hs did before now stack heard held is short either e = record {
     did = hs ++ (did ++ []);
     acts = e ∙ (append_assoc before.acts hs did ∙ ap (λ xs. before.acts ++ (hs ++ xs)) (sym (append-nil did)));
-    stopped = stops stage kept store count node d hs did [] stack heard short tt (d.said, refl);
+    stopped = stops stage kept store count node d hs did [] stack heard short tt refl;
     leaves = (event_leaves settings m f g found stage kept store.selector before.disk count node d hs did [] heard
         (rests settings m s f t h g who store kept before.disk held is)
-        (short_stores (state_acts s f store d.kept) did (save_on_areas s f store d.kept) short) tt (d.said, refl)
+        (short_stores (state_acts s f store d.kept) did (save_on_areas s f store d.kept) short) tt refl
         (subst (λ (disk : Disk). OpensAsEither found kept d.kept disk did)
         (same_disk settings m s f t h g who stage (Between node) (d ∷ []) count hs before heard) either) (inl refl)).0;
   }
@@ -75,7 +76,7 @@ module _ {S C D O : Type 0} (settings : Settings) (m : MachineMeaning S C O) (s 
       (hs said : List Act) (before now : Told) →
       settings.stack ≡ s → HearsAs settings m f g stage hs (d ∷ []) count (Between node) → Holds s f t h store kept before.disk →
       store.who ≡ who →
-      StateSaved s f t h store kept d.kept (told_after before hs).disk → Every Says said → IsFront (datagrams said) d.said →
+      StateSaved s f t h store kept d.kept (told_after before hs).disk → Each Says said → IsPrefix (datagrams said) d.said →
       now ≡ told_after (told_after (told_after before hs) (state_acts s f store d.kept)) said →
       Halts settings m s f t h g who stage kept store count before now
   say_halts stage kept store count node d hs said before now stack heard held is saved q front e =

@@ -3,13 +3,11 @@ use Rattle.std.proofs.Common.{◌≡◌, ℕ, true, List, [], ◌∷◌, ◌++�
 use Rattle.std.proofs.lemmas.List.{append-nil}
 use Rattle.disk.specs.Acts.{Act, Now}
 use Rattle.disk.specs.Disk.{Disk, Image, after, may_hold}
-use Rattle.disk.specs.DiskLaws.{Every}
 use Rattle.raft_types.specs.Keeping.{KeptView}
 use Rattle.raft_xform.specs.Raft.{raft_recovery}
 use Rattle.slots.specs.Opening.{Found, OpensAs}
 use Rattle.slots.specs.SavingLaws.{Rests}
 use Rattle.slots.specs.Turns.{Says, datagrams}
-use Rattle.slots.specs.TurnLaws.{IsFront}
 use Rattle.slots.proofs.Turning.{rests_opens}
 use Rattle.vst_base.specs.Machines.{MachineMeaning}
 use Rattle.vst_base.specs.declared.stack.StackId.{StackId}
@@ -31,6 +29,8 @@ use Rattle.node_records.proofs.Saved.{event_saves, quiet_saves}
 use Rattle.node_records.proofs.Turning.{event_turn, quiet_turn, turn, turn_follows, turns_hear}
 use Rattle.node_progress.specs.Progress.{Goes}
 use Rattle.node_progress.proofs.Going.{told_twice, who_after}
+use Rattle.lists.specs.Each.{Each}
+use Rattle.lists.specs.Prefixes.{IsPrefix, prefix_of}
 
 -- what was heard, then what was stored, and then what was said
 pub told_thrice : (told : Told) (hs saves said : List Act) →
@@ -99,7 +99,7 @@ module _ {S C D O : Type 0} (settings : Settings) (m : MachineMeaning S C O) (s 
   pub event_moments : (stage : Stage S C O) (kept : KeptView C) (store : StoreView) (count : ℕ) (node : NodeView S C O) (d : Done C)
       (hs said : List Act) (before : Told) →
       HearsAs settings m f g stage hs (d ∷ []) count (Between node) → Holds s f t h store kept before.disk → store.who ≡ who →
-      StateSaved s f t h store kept d.kept (told_after before hs).disk → Every Says said → IsFront (datagrams said) d.said →
+      StateSaved s f t h store kept d.kept (told_after before hs).disk → Each Says said → IsPrefix (datagrams said) d.said →
       Leaves settings m f g found stage kept before.disk (hs ++ (state_acts s f store d.kept ++ said))
   event_moments stage kept store count node d hs said before heard held is saved q front =
       let e = same_disk stage (Between node) (d ∷ []) count hs before heard in
@@ -112,7 +112,7 @@ module _ {S C D O : Type 0} (settings : Settings) (m : MachineMeaning S C O) (s 
       (hs said : List Act) (before now : Told) →
       settings.stack ≡ s → HearsAs settings m f g stage hs (d ∷ []) count (Between node) → Holds s f t h store kept before.disk →
       store.who ≡ who →
-      StateSaved s f t h store kept d.kept (told_after before hs).disk → Every Says said → datagrams said ≡ d.said →
+      StateSaved s f t h store kept d.kept (told_after before hs).disk → Each Says said → datagrams said ≡ d.said →
       now ≡ told_after (told_after (told_after before hs) (state_acts s f store d.kept)) said →
       Goes settings m s f t h g who stage kept store count node d.kept (store_after s f store d.kept) before now
   event_goes stage kept store count node d hs said before now stack heard held is saved q all e =
@@ -135,7 +135,7 @@ module _ {S C D O : Type 0} (settings : Settings) (m : MachineMeaning S C O) (s 
         knows = ap (λ ds. store_by settings.stack f store ds) decided.events ∙ ap (λ (x : StackId). store_after x f store d.kept) stack;
         leaves = event_saves settings m f g found stage kept store store.selector before.disk count node d hs saves said heard
             (rests store kept before.disk held is) (ap (λ (x : StackId). state_acts x f store d.kept) (sym stack)) whole.0 q
-            ([], append-nil (datagrams said) ∙ all) whole.1 whole.2;
+            (prefix_of _ [] _ (append-nil (datagrams said) ∙ all)) whole.1 whole.2;
         holds = held_then;
         ends = λ image may. ends_as (store_after s f store d.kept) d.kept now.disk image held_then (who_after s f store d.kept ∙ is) may;
       }

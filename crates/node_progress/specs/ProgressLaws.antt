@@ -1,11 +1,10 @@
 -- How turns follow each other, what one turn is, and each way in which one is cut short.
 use Rattle.std.specs.Prelude.{◌≡◌, ℕ, ◌+◌, ◌≤◌, List, [], ◌∷◌, ◌++◌, length}
 use Rattle.disk.specs.Acts.{Act, Now}
-use Rattle.disk.specs.DiskLaws.{Every, IsCutShort}
+use Rattle.disk.specs.DiskLaws.{IsCutShort}
 use Rattle.raft_types.specs.Keeping.{KeptView}
 use Rattle.raft_xform.specs.Raft.{raft_recovery}
 use Rattle.slots.specs.Turns.{Says, datagrams}
-use Rattle.slots.specs.TurnLaws.{IsFront}
 use Rattle.vst_base.specs.Machines.{MachineMeaning}
 use Rattle.vst_base.specs.declared.stack.StackId.{StackId}
 use Rattle.wire_fields.specs.Formats.{Format}
@@ -19,6 +18,8 @@ use Rattle.node_run.specs.Settings.{Settings, later}
 use Rattle.node_records.specs.Records.{HearsAs}
 use Rattle.node_records.specs.MomentLaws.{OpensAsEither}
 use Rattle.node_progress.specs.Progress.{Goes, Halts}
+use Rattle.lists.specs.Each.{Each}
+use Rattle.lists.specs.Prefixes.{IsPrefix}
 
 module _ {C D O : Type 0} (S : Type 0) (s : StackId) (f : Format C) (t : StackId) (h : Format D) (g : Format O) where
   -- Whole turns, and then whole turns.
@@ -77,7 +78,7 @@ module _ {C D O : Type 0} (S : Type 0) (s : StackId) (f : Format C) (t : StackId
       (settings : Settings) (m : MachineMeaning S C O) (who : Who) (stage : Stage S C O) (kept : KeptView C) (store : StoreView)
       (count : ℕ) (node : NodeView S C O) (d : Done C) (hs said : List Act) (before now : Told) → settings.stack ≡ s →
       HearsAs settings m f g stage hs (d ∷ []) count (Between node) → Holds s f t h store kept before.disk → store.who ≡ who →
-      StateSaved s f t h store kept d.kept (told_after before hs).disk → Every Says said → datagrams said ≡ d.said →
+      StateSaved s f t h store kept d.kept (told_after before hs).disk → Each Says said → datagrams said ≡ d.said →
       now ≡ told_after (told_after (told_after before hs) (state_acts s f store d.kept)) said →
       Goes settings m s f t h g who stage kept store count node d.kept (store_after s f store d.kept) before now
 
@@ -105,6 +106,6 @@ module _ {C D O : Type 0} (S : Type 0) (s : StackId) (f : Format C) (t : StackId
       (settings : Settings) (m : MachineMeaning S C O) (who : Who) (stage : Stage S C O) (kept : KeptView C) (store : StoreView)
       (count : ℕ) (node : NodeView S C O) (d : Done C) (hs said : List Act) (before now : Told) → settings.stack ≡ s →
       HearsAs settings m f g stage hs (d ∷ []) count (Between node) → Holds s f t h store kept before.disk → store.who ≡ who →
-      StateSaved s f t h store kept d.kept (told_after before hs).disk → Every Says said → IsFront (datagrams said) d.said →
+      StateSaved s f t h store kept d.kept (told_after before hs).disk → Each Says said → IsPrefix (datagrams said) d.said →
       now ≡ told_after (told_after (told_after before hs) (state_acts s f store d.kept)) said →
       Halts settings m s f t h g who stage kept store count before now

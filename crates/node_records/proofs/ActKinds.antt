@@ -2,7 +2,7 @@
 use Rattle.std.proofs.Common.{◌≡◌, Bool, true, false, List, [], ◌∷◌, ◌++◌, refl, ap, ◌∙◌, if◌then◌else◌, ◌==◌, inl, inr}
 use Rattle.disk.specs.Acts.{Act, Now, Took, Quiet, ReceiveFailed, Sent, SendFailed, Wrote, Cut, Synced, StoreFailed}
 use Rattle.disk.specs.Disk.{Disk, effect, after}
-use Rattle.disk.specs.DiskLaws.{Every, Fails, IsReadFault, IsCutShort}
+use Rattle.disk.specs.DiskLaws.{Fails, IsReadFault, IsCutShort}
 use Rattle.raft_types.specs.Keeping.{KeptView}
 use Rattle.slots.specs.Opening.{named}
 use Rattle.slots.specs.Saving.{save_acts}
@@ -13,10 +13,7 @@ use Rattle.node_body.specs.Slots.{base_of}
 use Rattle.node_acts.specs.StateActs.{append_acts, record_bytes, state_acts}
 use Rattle.node_acts.specs.Stores.{StoreView, is_held}
 use Rattle.node_records.specs.Records.{Stores, IsNoFault, IsOfTurns, store_acts}
-
-pub every_as : {T : Type 0} (P Q : T → Type 0) (xs : List T) → ((x : T) → P x → Q x) → Every P xs → Every Q xs
-every_as P Q [] so h = tt
-every_as P Q (x ∷ xs) so h = (so x h.0, every_as P Q xs so h.1)
+use Rattle.lists.specs.Each.{Each, each_weaker}
 
 -- acts that hear
 
@@ -33,20 +30,20 @@ hears_one (Quiet wait) h = record { effect = λ d. refl; silent = λ a. refl; st
 hears_one (ReceiveFailed wait) h = record { effect = λ d. refl; silent = λ a. refl; stores = λ a. refl; of_turns = tt }
 hears_one act h = absurd h
 
-pub hears_after : (acts : List Act) (disk : Disk) → Every Hears acts → after disk acts ≡ disk
+pub hears_after : (acts : List Act) (disk : Disk) → Each Hears acts → after disk acts ≡ disk
 hears_after [] disk h = refl
 hears_after (act ∷ acts) disk h = ap (λ d. after d acts) ((hears_one act h.0).effect disk) ∙ hears_after acts disk h.1
 
-pub hears_silent : (acts : List Act) → Every Hears acts → datagrams acts ≡ []
+pub hears_silent : (acts : List Act) → Each Hears acts → datagrams acts ≡ []
 hears_silent [] h = refl
 hears_silent (act ∷ acts) h = (hears_one act h.0).silent acts ∙ hears_silent acts h.1
 
-pub hears_store : (acts : List Act) → Every Hears acts → store_acts acts ≡ []
+pub hears_store : (acts : List Act) → Each Hears acts → store_acts acts ≡ []
 hears_store [] h = refl
 hears_store (act ∷ acts) h = (hears_one act h.0).stores acts ∙ hears_store acts h.1
 
-pub hears_of_turns : (acts : List Act) → Every Hears acts → Every IsOfTurns acts
-hears_of_turns acts h = every_as Hears IsOfTurns acts (λ act s. (hears_one act s).of_turns) h
+pub hears_of_turns : (acts : List Act) → Each Hears acts → Each IsOfTurns acts
+hears_of_turns acts h = each_weaker Hears IsOfTurns (λ act s. (hears_one act s).of_turns) acts h
 
 -- acts that say
 
@@ -61,19 +58,19 @@ says_one (Sent to bytes) h = record { effect = λ d. refl; stores = λ a. refl; 
 says_one (SendFailed to bytes) h = record { effect = λ d. refl; stores = λ a. refl; faultless = tt; of_turns = tt }
 says_one act h = absurd h
 
-pub says_after : (acts : List Act) (disk : Disk) → Every Says acts → after disk acts ≡ disk
+pub says_after : (acts : List Act) (disk : Disk) → Each Says acts → after disk acts ≡ disk
 says_after [] disk h = refl
 says_after (act ∷ acts) disk h = ap (λ d. after d acts) ((says_one act h.0).effect disk) ∙ says_after acts disk h.1
 
-pub says_store : (acts : List Act) → Every Says acts → store_acts acts ≡ []
+pub says_store : (acts : List Act) → Each Says acts → store_acts acts ≡ []
 says_store [] h = refl
 says_store (act ∷ acts) h = (says_one act h.0).stores acts ∙ says_store acts h.1
 
-pub says_faultless : (acts : List Act) → Every Says acts → Every IsNoFault acts
-says_faultless acts h = every_as Says IsNoFault acts (λ act s. (says_one act s).faultless) h
+pub says_faultless : (acts : List Act) → Each Says acts → Each IsNoFault acts
+says_faultless acts h = each_weaker Says IsNoFault (λ act s. (says_one act s).faultless) acts h
 
-pub says_of_turns : (acts : List Act) → Every Says acts → Every IsOfTurns acts
-says_of_turns acts h = every_as Says IsOfTurns acts (λ act s. (says_one act s).of_turns) h
+pub says_of_turns : (acts : List Act) → Each Says acts → Each IsOfTurns acts
+says_of_turns acts h = each_weaker Says IsOfTurns (λ act s. (says_one act s).of_turns) acts h
 
 -- acts that store
 
@@ -89,16 +86,16 @@ stores_one (Synced area) h = record { silent = λ a. refl; stores = λ a. refl; 
 stores_one (StoreFailed call) h = record { silent = λ a. refl; stores = λ a. refl; of_turns = tt }
 stores_one act h = absurd h
 
-pub stores_silent : (acts : List Act) → Every Stores acts → datagrams acts ≡ []
+pub stores_silent : (acts : List Act) → Each Stores acts → datagrams acts ≡ []
 stores_silent [] h = refl
 stores_silent (act ∷ acts) h = (stores_one act h.0).silent acts ∙ stores_silent acts h.1
 
-pub stores_store : (acts : List Act) → Every Stores acts → store_acts acts ≡ acts
+pub stores_store : (acts : List Act) → Each Stores acts → store_acts acts ≡ acts
 stores_store [] h = refl
 stores_store (act ∷ acts) h = (stores_one act h.0).stores acts ∙ ap (λ r. act ∷ r) (stores_store acts h.1)
 
-pub stores_of_turns : (acts : List Act) → Every Stores acts → Every IsOfTurns acts
-stores_of_turns acts h = every_as Stores IsOfTurns acts (λ act s. (stores_one act s).of_turns) h
+pub stores_of_turns : (acts : List Act) → Each Stores acts → Each IsOfTurns acts
+stores_of_turns acts h = each_weaker Stores IsOfTurns (λ act s. (stores_one act s).of_turns) acts h
 
 pub areas_store : (act : Act) → OnAreas act → Stores act
 areas_store (Wrote area at bytes) h = tt
@@ -112,17 +109,17 @@ areas_no_fault (Cut area len) h = tt
 areas_no_fault (Synced area) h = tt
 areas_no_fault act h = absurd h
 
-pub areas_faultless : (acts : List Act) → Every OnAreas acts → Every IsNoFault acts
-areas_faultless acts h = every_as OnAreas IsNoFault acts areas_no_fault h
+pub areas_faultless : (acts : List Act) → Each OnAreas acts → Each IsNoFault acts
+areas_faultless acts h = each_weaker OnAreas IsNoFault areas_no_fault acts h
 
 -- a save is acts on the areas
 by_test : {C : Type 0} (s : StackId) (f : Format C) (store : StoreView) (kept : KeptView C) (same full : Bool) →
-    Every OnAreas (if same then [] else if full then save_acts store.selector (base_of s f store.who kept) else append_acts (named store.selector) store.gate (record_bytes f store kept))
+    Each OnAreas (if same then [] else if full then save_acts store.selector (base_of s f store.who kept) else append_acts (named store.selector) store.gate (record_bytes f store kept))
 by_test s f store kept true full = tt
 by_test s f store kept false true = (tt, (tt, (tt, (tt, (tt, tt)))))
 by_test s f store kept false false = (tt, (tt, (tt, (tt, tt))))
 
-pub save_on_areas : {C : Type 0} (s : StackId) (f : Format C) (store : StoreView) (kept : KeptView C) → Every OnAreas (state_acts s f store kept)
+pub save_on_areas : {C : Type 0} (s : StackId) (f : Format C) (store : StoreView) (kept : KeptView C) → Each OnAreas (state_acts s f store kept)
 save_on_areas s f store kept = by_test s f store kept (is_held store kept) (store.left == 0)
 
 -- also where a fault cuts them short
@@ -137,10 +134,10 @@ read_stores : (did : Act) → IsReadFault did → Stores did
 read_stores (StoreFailed call) h = tt
 read_stores did h = absurd h
 
-ends_storing : (did : Act) (more : List Act) → Stores did → more ≡ [] → Every Stores (did ∷ more)
+ends_storing : (did : Act) (more : List Act) → Stores did → more ≡ [] → Each Stores (did ∷ more)
 ends_storing did more h e = rw e (h, tt)
 
-pub short_stores : (acts did : List Act) → Every OnAreas acts → IsCutShort acts did → Every Stores did
+pub short_stores : (acts did : List Act) → Each OnAreas acts → IsCutShort acts did → Each Stores did
 short_stores acts [] on c = tt
 short_stores [] (d ∷ did) on c = ends_storing d did (read_stores d c.0) c.1
 short_stores (act ∷ acts) (d ∷ did) on (inl c) = (rw c.0 (areas_store act on.0), short_stores acts did on.1 c.1)

@@ -2,9 +2,9 @@
 use Rattle.std.proofs.Common.{◌≡◌, ℕ, zero, suc, Bool, true, false, List, [], ◌∷◌, ◌++◌, take, refl, ap, ◌∙◌, ◌||◌, if◌then◌else◌, ◌⊎◌, inl, inr}
 use Rattle.std.proofs.lemmas.Bool.{or_parts}
 use Rattle.disk.specs.Acts.{Act, Now}
-use Rattle.disk.specs.DiskLaws.{Every}
 use Rattle.slots.specs.Turns.{Says}
 use Rattle.node_records.specs.Records.{Stores, begins_turn, ended_turns, reads_clock}
+use Rattle.lists.specs.Each.{Each}
 
 -- whether a turn begins
 
@@ -78,6 +78,6 @@ follows_one : (act : Act) → Stores act ⊎ Says act → reads_clock act ≡ fa
 follows_one (Now ms) h = absurd (elim h [ inl s ↦ s | inr s ↦ s ])
 follows_one act h = refl
 
-pub follows_begins : (acts : List Act) → Every (λ act. Stores act ⊎ Says act) acts → begins_turn acts ≡ false
+pub follows_begins : (acts : List Act) → Each (λ act. Stores act ⊎ Says act) acts → begins_turn acts ≡ false
 follows_begins [] h = refl
 follows_begins (act ∷ acts) h = ap (λ b. b || begins_turn acts) (follows_one act h.0) ∙ follows_begins acts h.1

@@ -1,10 +1,9 @@
 -- Records one after the other.
-use Rattle.std.proofs.Common.{◌≡◌, ℕ, ◌+◌, List, [], ◌++◌, sym, ap, subst, ◌∙◌, append_assoc, arith}
+use Rattle.std.proofs.Common.{◌≡◌, ℕ, ◌+◌, List, [], ◌++◌, sym, ap, subst, ◌∙◌, arith}
 use Rattle.std.proofs.lemmas.List.{append-nil}
 use Rattle.disk.specs.Acts.{Act}
 use Rattle.disk.specs.DiskLaws.{IsCutShort}
 use Rattle.slots.specs.Turns.{datagrams}
-use Rattle.slots.proofs.Elsewhere.{every_append}
 use Rattle.vst_base.specs.Machines.{MachineMeaning}
 use Rattle.wire_fields.specs.Formats.{Format}
 use Rattle.node_acts.specs.Stores.{StoreView}
@@ -13,6 +12,8 @@ use Rattle.node_run.specs.Settings.{Settings}
 use Rattle.node_records.specs.Records.{AreRecord, IsNoFault, IsOfTurns, IsStopped, saves_of, store_acts, store_by}
 use Rattle.node_records.proofs.ActKinds.{cut_short_behind, datagrams_append, whole, store_acts_append}
 use Rattle.node_records.proofs.Folds.{done_append, orderly_append, said_append, saves_append, turns_append}
+use Rattle.lists.specs.Each.{each_append}
+use Rattle.lists.specs.Prefixes.{prefix_behind, prefix_of}
 
 module _ {S C O : Type 0} (settings : Settings) (m : MachineMeaning S C O) (f : Format C) (g : Format O) where
   abbrev decides : Stage S C O → List Act → List (Done C)
@@ -45,20 +46,20 @@ module _ {S C O : Type 0} (settings : Settings) (m : MachineMeaning S C O) (f : 
   pub records_grow : (stage : Stage S C O) (store : StoreView) (a b : ℕ) (xs ys : List Act) → AreRecord settings m f g stage store a xs →
       AreRecord settings m f g (stands stage xs) (store_by settings.stack f store (decides stage xs)) b ys → AreRecord settings m f g stage store (a + b) (xs ++ ys)
   records_grow stage store a b xs ys x y = record {
-    of_turns = every_append IsOfTurns xs ys x.of_turns y.of_turns;
+    of_turns = each_append IsOfTurns xs ys x.of_turns y.of_turns;
     orderly = orderly_append settings m f g stage xs ys x.orderly y.orderly;
     turns = let e = turns_append settings m f g stage xs ys in let p = x.turns in let q = y.turns in omega arith;
     stored = stored_first stage store a xs ys x
         ∙ (ap (λ r. saves_of settings.stack f store (decides stage xs) ++ r) y.stored ∙ sym (saves_both stage store xs ys));
     said = said_first stage xs ys x.said ∙ (ap (λ r. said_in (decides stage xs) ++ r) y.said ∙ sym (said_both stage xs ys));
-    faultless = every_append IsNoFault xs ys x.faultless y.faultless;
+    faultless = each_append IsNoFault xs ys x.faultless y.faultless;
   }
 
   pub stops_grow : (stage : Stage S C O) (store : StoreView) (a b : ℕ) (xs ys : List Act) → AreRecord settings m f g stage store a xs →
       IsStopped settings m f g (stands stage xs) (store_by settings.stack f store (decides stage xs)) b ys →
       IsStopped settings m f g stage store (a + b) (xs ++ ys)
   stops_grow stage store a b xs ys x y = record {
-    of_turns = every_append IsOfTurns xs ys x.of_turns y.of_turns;
+    of_turns = each_append IsOfTurns xs ys x.of_turns y.of_turns;
     orderly = orderly_append settings m f g stage xs ys x.orderly y.orderly;
     turns = let e = turns_append settings m f g stage xs ys in let p = x.turns in let q = y.turns in omega arith;
     stored = subst (λ (r : List Act). IsCutShort (saves_of settings.stack f store (decides stage (xs ++ ys))) r)
@@ -66,12 +67,7 @@ module _ {S C O : Type 0} (settings : Settings) (m : MachineMeaning S C O) (f : 
         (subst (λ (r : List Act). IsCutShort r (saves_of settings.stack f store (decides stage xs) ++ store_acts ys)) (sym (saves_both stage store xs ys))
         (cut_short_behind (saves_of settings.stack f store (decides stage xs))
         (saves_of settings.stack f (store_by settings.stack f store (decides stage xs)) (decides (stands stage xs) ys)) (store_acts ys) y.stored));
-    said = (
-      y.said.0,
-      ap (λ r. r ++ y.said.0) (said_first stage xs ys x.said)
-          ∙ (append_assoc (said_in (decides stage xs)) (datagrams ys) y.said.0
-          ∙ (ap (λ r. said_in (decides stage xs) ++ r) y.said.1 ∙ sym (said_both stage xs ys))),
-    );
+    said = rw (said_first stage xs ys x.said, said_both stage xs ys) (prefix_behind (said_in (decides stage xs)) _ y.said);
   }
 
   pub record_stops : (stage : Stage S C O) (store : StoreView) (count : ℕ) (acts : List Act) → AreRecord settings m f g stage store count acts →
@@ -82,5 +78,5 @@ module _ {S C O : Type 0} (settings : Settings) (m : MachineMeaning S C O) (f : 
     turns = let e = x.turns in omega arith;
     stored = subst (λ (r : List Act). IsCutShort (saves_of settings.stack f store (decides stage acts)) r) (sym x.stored)
         (whole (saves_of settings.stack f store (decides stage acts)));
-    said = ([], append-nil (datagrams acts) ∙ x.said);
+    said = prefix_of _ [] _ (append-nil (datagrams acts) ∙ x.said);
   }

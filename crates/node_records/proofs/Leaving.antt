@@ -1,18 +1,18 @@
 -- What a crash leaves of one turn, and of acts one after the other.
-use Rattle.std.proofs.Common.{◌≡◌, ℕ, zero, suc, Bool, true, false, ◌+◌, ◌-◌, ◌<◌, ◌≤◌, List, [], ◌∷◌, ◌++◌, length, take, drop, refl, sym, ap, subst, ◌∙◌, arith, ◌⊎◌, inl, inr, append_assoc, length-append, take-append-drop}
+use Rattle.std.proofs.Common.{◌≡◌, ℕ, zero, suc, Bool, true, false, ◌+◌, ◌-◌, ◌<◌, ◌≤◌, List, [], ◌∷◌, ◌++◌, length, take, drop, refl, sym, ap, subst, ◌∙◌, arith, ◌⊎◌, inl, inr, length-append, take-append-drop}
 use Rattle.std.proofs.lemmas.Bool.{cases_lt}
 use Rattle.std.proofs.lemmas.List.{append-nil, take-append-le, take_all}
 use Rattle.outside.specs.declared.device.Address.{Address}
 use Rattle.disk.specs.Acts.{Act}
 use Rattle.disk.specs.Disk.{Disk, Image, after, may_hold, may_leave}
-use Rattle.disk.specs.DiskLaws.{Every, IsCutShort}
+use Rattle.disk.specs.DiskLaws.{IsCutShort}
 use Rattle.disk.proofs.CutShort.{faults_add_nothing, fronts_are_cut_short}
 use Rattle.raft_types.specs.Keeping.{KeptView}
 use Rattle.slots.specs.Opening.{Found, OpensAs}
 use Rattle.slots.specs.SavingLaws.{Rests}
 use Rattle.slots.specs.Turns.{Hears, Says, OnAreas, datagrams}
-use Rattle.slots.specs.TurnLaws.{IsFront, Keeps}
-use Rattle.slots.proofs.Elsewhere.{after_append, every_take, take_both}
+use Rattle.slots.specs.TurnLaws.{Keeps}
+use Rattle.slots.proofs.Elsewhere.{after_append}
 use Rattle.slots.proofs.Turning.{rests_opens}
 use Rattle.vst_base.specs.Machines.{MachineMeaning}
 use Rattle.wire_fields.specs.Formats.{Format}
@@ -21,16 +21,19 @@ use Rattle.node_run.specs.Settings.{Settings}
 use Rattle.node_records.specs.Records.{Stores, HearsAs, begins_turn, ended_turns, kept_by}
 use Rattle.node_records.specs.Moments.{IsAt, Leaves}
 use Rattle.node_records.specs.MomentLaws.{OpensAsEither, OpensThenAs, IsSaving}
-use Rattle.node_records.proofs.ActKinds.{every_as, areas_store, datagrams_append, hears_after, hears_silent, says_after, short_stores, stores_silent}
+use Rattle.node_records.proofs.ActKinds.{areas_store, datagrams_append, hears_after, hears_silent, says_after, short_stores, stores_silent}
 use Rattle.node_records.proofs.Ended.{ended_before, ended_first, ended_later, ended_take, follows_begins}
 use Rattle.node_records.proofs.Folds.{done_append, kept_append, said_append}
 use Rattle.node_records.proofs.Growing.{said_first}
 use Rattle.node_records.proofs.Turning.{Follows, turn_follows, turn_said, turn}
+use Rattle.lists.specs.Each.{Each, each_take, each_weaker}
+use Rattle.lists.specs.Prefixes.{IsPrefix, prefix_behind, prefix_of, prefix_trans}
+use Rattle.lists.specs.Places.{take-append}
 
 -- moments and fronts
 
 pub past : {T : Type 0} (n : ℕ) (xs ys : List T) → length xs ≤ n → take n (xs ++ ys) ≡ xs ++ take (n - length xs) ys
-past n xs ys l = take_both n xs ys ∙ ap (λ r. r ++ take (n - length xs) ys) (take_all n xs l)
+past n xs ys l = take-append n xs ys ∙ ap (λ r. r ++ take (n - length xs) ys) (take_all n xs l)
 
 past_all : {T : Type 0} (xs ys : List T) (c : ℕ) → take (length xs + c) (xs ++ ys) ≡ xs ++ take c ys
 past_all xs ys c =
@@ -38,12 +41,10 @@ past_all xs ys c =
     past (length xs + c) xs ys (omega arith) ∙ ap (λ k. xs ++ take k ys) e
 
 -- so many of the datagrams that were said
-said_front : (said : List Act) (n : ℕ) (ys : List (Address × List ℕ)) → IsFront (datagrams said) ys → IsFront (datagrams (take n said)) ys
-said_front said n ys front = (
-  datagrams (drop n said) ++ front.0,
-  sym (append_assoc (datagrams (take n said)) (datagrams (drop n said)) front.0)
-      ∙ (ap (λ r. r ++ front.0) (sym (datagrams_append (take n said) (drop n said)) ∙ ap datagrams (take-append-drop n said)) ∙ front.1),
-)
+said_front : (said : List Act) (n : ℕ) (ys : List (Address × List ℕ)) → IsPrefix (datagrams said) ys → IsPrefix (datagrams (take n said)) ys
+said_front said n ys front =
+    let taken : datagrams (take n said) ++ datagrams (drop n said) ≡ datagrams said = sym (datagrams_append (take n said) (drop n said)) ∙ ap datagrams (take-append-drop n said) in
+    prefix_trans ys (prefix_of (datagrams (take n said)) (datagrams (drop n said)) (datagrams said) taken) front
 
 -- acts that make a state durable
 
@@ -58,7 +59,7 @@ pub keeps_is_saving : {K : Type 0} (found : List ℕ → Found K) (old new : K) 
 keeps_is_saving found old new selector acts disk k = record {
   short = λ did c. (short_stores acts did k.only c, cut_either found old new selector acts disk k did c);
   whole = (
-    every_as OnAreas Stores acts areas_store k.only,
+    each_weaker OnAreas Stores areas_store acts k.only,
     k.each,
     λ image m. rests_opens found new selector (after disk acts) image k.done m,
   );
@@ -102,10 +103,10 @@ module _ {S C O : Type 0} (settings : Settings) (m : MachineMeaning S C O) (f : 
   few (suc zero) l = inr refl
   few (suc (suc k)) l = absurd (omega arith)
 
-  pub hearing : (found : List ℕ → Found (KeptView C)) (stage : Stage S C O) (kept : KeptView C) (selector : ℕ) (disk : Disk) (hs : List Act) → Every Hears hs →
+  pub hearing : (found : List ℕ → Found (KeptView C)) (stage : Stage S C O) (kept : KeptView C) (selector : ℕ) (disk : Disk) (hs : List Act) → Each Hears hs →
       length (decides stage hs) ≤ 1 → decides stage (ended_turns hs) ≡ [] → Rests found kept selector disk → Leaves settings m f g found stage kept disk hs
   hearing found stage kept selector disk hs h l last r n image held =
-      let q : Every Hears (take n hs) = every_take Hears n hs h in
+      let q : Each Hears (take n hs) = each_take Hears n hs h in
       let some = fewer stage n hs in
       let all = said_in (take 0 (decides stage (take n hs))) in
       record {
@@ -113,7 +114,7 @@ module _ {S C O : Type 0} (settings : Settings) (m : MachineMeaning S C O) (f : 
         near = few (length (decides stage (take n hs))) (omega arith);
         ended = omega (arith, none_early stage n hs last);
         opens = rests_opens found kept selector disk image r (subst (λ (d : Disk). may_hold d image ≡ true) (hears_after (take n hs) disk q) held);
-        sent = ([], append-nil (datagrams (take n hs)) ∙ hears_silent (take n hs) q);
+        sent = prefix_of _ [] _ (append-nil (datagrams (take n hs)) ∙ hears_silent (take n hs) q);
       }
 
   pub quiet_leaves : (found : List ℕ → Found (KeptView C)) (stage next : Stage S C O) (kept : KeptView C) (selector : ℕ) (disk : Disk) (count : ℕ) (hs : List Act) →
@@ -126,8 +127,8 @@ module _ {S C O : Type 0} (settings : Settings) (m : MachineMeaning S C O) (f : 
   -- and after that
 
   pub settling : (found : List ℕ → Found (KeptView C)) (stage : Stage S C O) (kept : KeptView C) (count : ℕ) (node : NodeView S C O) (d : Done C) (hs more : List Act)
-      (image : Image) → HearsAs settings m f g stage hs (d ∷ []) count (Between node) → Every Follows more →
-      (OpensAs found kept image × (datagrams more ≡ [])) ⊎ (OpensAs found d.kept image × IsFront (datagrams more) d.said) →
+      (image : Image) → HearsAs settings m f g stage hs (d ∷ []) count (Between node) → Each Follows more →
+      (OpensAs found kept image × (datagrams more ≡ [])) ⊎ (OpensAs found d.kept image × IsPrefix (datagrams more) d.said) →
       At found stage kept (hs ++ more) image
   settling found stage kept count node d hs more image h fs is = go is
     where
@@ -144,69 +145,66 @@ module _ {S C O : Type 0} (settings : Settings) (m : MachineMeaning S C O) (f : 
       out : datagrams (hs ++ more) ≡ datagrams more
       out = datagrams_append hs more ∙ ap (λ r. r ++ datagrams more) (hears_silent hs h.hears)
 
-      go : (OpensAs found kept image × (datagrams more ≡ [])) ⊎ (OpensAs found d.kept image × IsFront (datagrams more) d.said) → At found stage kept (hs ++ more) image
-      go (inl o) = record { c = 0; near = inr (sym one); ended = omega (arith, early); opens = o.0; sent = ([], append-nil (datagrams (hs ++ more)) ∙ (out ∙ o.1)) }
+      go : (OpensAs found kept image × (datagrams more ≡ [])) ⊎ (OpensAs found d.kept image × IsPrefix (datagrams more) d.said) → At found stage kept (hs ++ more) image
+      go (inl o) = record { c = 0; near = inr (sym one); ended = omega (arith, early); opens = o.0; sent = prefix_of _ [] _ (append-nil (datagrams (hs ++ more)) ∙ (out ∙ o.1)) }
       go (inr o) = record {
         c = 1;
         near = inl (sym one);
         ended = omega (arith, early);
         opens = subst (λ (ds : List (Done C)). OpensAs found (kept_by kept (take 1 ds)) image) (sym events) o.0;
-        sent = (
-          o.1.0,
-          ap (λ r. r ++ o.1.0) out ∙ (o.1.1 ∙ (sym (append-nil d.said) ∙ ap (λ ds. said_in (take 1 ds)) (sym events))),
-        );
+        sent = rw (out, events, append-nil d.said) o.1;
       }
 
   -- as the new state it is after the event
   pub settling_counts : (found : List ℕ → Found (KeptView C)) (stage : Stage S C O) (kept : KeptView C) (count : ℕ) (node : NodeView S C O) (d : Done C)
-      (hs more : List Act) (image : Image) (h : HearsAs settings m f g stage hs (d ∷ []) count (Between node)) (fs : Every Follows more)
-      (o : OpensAs found d.kept image × IsFront (datagrams more) d.said) → (settling found stage kept count node d hs more image h fs (inr o)).c ≡ 1
+      (hs more : List Act) (image : Image) (h : HearsAs settings m f g stage hs (d ∷ []) count (Between node)) (fs : Each Follows more)
+      (o : OpensAs found d.kept image × IsPrefix (datagrams more) d.said) → (settling found stage kept count node d hs more image h fs (inr o)).c ≡ 1
   unfolding settling
   settling_counts found stage kept count node d hs more image h fs o = refl
 
   -- the moments after what was heard, and after the saves
 
   pub said_then : (found : List ℕ → Found (KeptView C)) (kept : KeptView C) (disk : Disk) (d : Done C) (saves said : List Act) (n : ℕ) (image : Image) →
-      Every Stores saves → Every Says said → IsFront (datagrams said) d.said → OpensThenAs found d.kept disk saves → length saves ≤ n →
-      may_leave disk (take n (saves ++ said)) image ≡ true → OpensAs found d.kept image × IsFront (datagrams (take n (saves ++ said))) d.said
+      Each Stores saves → Each Says said → IsPrefix (datagrams said) d.said → OpensThenAs found d.kept disk saves → length saves ≤ n →
+      may_leave disk (take n (saves ++ said)) image ≡ true → OpensAs found d.kept image × IsPrefix (datagrams (take n (saves ++ said))) d.said
   said_then found kept disk d saves said n image st q front then l held =
       let more = take (n - length saves) said in
       let e : take n (saves ++ said) ≡ saves ++ more = past n saves said l in
       let quiet : after disk (saves ++ more) ≡ after disk saves =
-      after_append disk saves more ∙ says_after more (after disk saves) (every_take Says (n - length saves) said q) in
-      let some = said_front said (n - length saves) d.said front in (
+      after_append disk saves more ∙ says_after more (after disk saves) (each_take Says (n - length saves) said q) in
+      let sent : datagrams (take n (saves ++ said)) ≡ datagrams more = ap datagrams e ∙ turn_said saves more st in (
         then image (subst (λ (x : Disk). may_hold x image ≡ true) (ap (λ acts. after disk acts) e ∙ quiet) held),
-        (some.0, ap (λ r. r ++ some.0) (ap datagrams e ∙ turn_said saves more st) ∙ some.1),
+        rw sent (said_front said (n - length saves) d.said front),
       )
 
   pub after_hearing : (found : List ℕ → Found (KeptView C)) (kept : KeptView C) (disk : Disk) (d : Done C) (saves said : List Act) (n : ℕ) (image : Image) →
-      Every Stores saves → Every Says said → IsFront (datagrams said) d.said → OpensAsEither found kept d.kept disk saves →
+      Each Stores saves → Each Says said → IsPrefix (datagrams said) d.said → OpensAsEither found kept d.kept disk saves →
       (said ≡ []) ⊎ OpensThenAs found d.kept disk saves → may_leave disk (take n (saves ++ said)) image ≡ true →
-      (OpensAs found kept image × (datagrams (take n (saves ++ said)) ≡ [])) ⊎ (OpensAs found d.kept image × IsFront (datagrams (take n (saves ++ said))) d.said)
+      (OpensAs found kept image × (datagrams (take n (saves ++ said)) ≡ [])) ⊎ (OpensAs found d.kept image × IsPrefix (datagrams (take n (saves ++ said))) d.said)
   after_hearing found kept disk d saves said n image st q front either settled held = go settled (cases_lt n (length saves))
     where
       -- within the saves
       saving : take n (saves ++ said) ≡ take n saves →
-          (OpensAs found kept image × (datagrams (take n (saves ++ said)) ≡ [])) ⊎ (OpensAs found d.kept image × IsFront (datagrams (take n (saves ++ said))) d.said)
+          (OpensAs found kept image × (datagrams (take n (saves ++ said)) ≡ [])) ⊎ (OpensAs found d.kept image × IsPrefix (datagrams (take n (saves ++ said))) d.said)
       saving e =
-          let none : datagrams (take n (saves ++ said)) ≡ [] = ap datagrams e ∙ stores_silent (take n saves) (every_take Stores n saves st) in
+          let none : datagrams (take n (saves ++ said)) ≡ [] = ap datagrams e ∙ stores_silent (take n saves) (each_take Stores n saves st) in
           elim (either n image (leaves_by disk (take n (saves ++ said)) (take n saves) image e held)) [
             | inl o ↦ inl (o, none)
-            | inr o ↦ inr (o, (d.said, ap (λ r. r ++ d.said) none))
+            | inr o ↦ inr (o, rw none refl)
           ]
 
       go : (said ≡ []) ⊎ OpensThenAs found d.kept disk saves → (n < length saves) ⊎ (length saves ≤ n) →
-          (OpensAs found kept image × (datagrams (take n (saves ++ said)) ≡ [])) ⊎ (OpensAs found d.kept image × IsFront (datagrams (take n (saves ++ said))) d.said)
+          (OpensAs found kept image × (datagrams (take n (saves ++ said)) ≡ [])) ⊎ (OpensAs found d.kept image × IsPrefix (datagrams (take n (saves ++ said))) d.said)
       go s (inl l) = saving (take-append-le n saves said (omega arith))
       go (inl nothing) (inr l) = saving (ap (λ r. take n (saves ++ r)) nothing ∙ ap (λ r. take n r) (append-nil saves))
       go (inr then) (inr l) = inr (said_then found kept disk d saves said n image st q front then l held)
 
-  follows_take : (n : ℕ) (saves said : List Act) → Every Stores saves → Every Says said → Every Follows (take n (saves ++ said))
-  follows_take n saves said st q = every_take Follows n (saves ++ said) (turn_follows saves said st q)
+  follows_take : (n : ℕ) (saves said : List Act) → Each Stores saves → Each Says said → Each Follows (take n (saves ++ said))
+  follows_take n saves said st q = each_take Follows n (saves ++ said) (turn_follows saves said st q)
 
   event_moments : (found : List ℕ → Found (KeptView C)) (stage : Stage S C O) (kept : KeptView C) (selector : ℕ) (disk : Disk) (count : ℕ) (node : NodeView S C O)
       (d : Done C) (hs saves said : List Act) → HearsAs settings m f g stage hs (d ∷ []) count (Between node) → Rests found kept selector disk →
-      Every Stores saves → Every Says said → IsFront (datagrams said) d.said → OpensAsEither found kept d.kept disk saves →
+      Each Stores saves → Each Says said → IsPrefix (datagrams said) d.said → OpensAsEither found kept d.kept disk saves →
       (said ≡ []) ⊎ OpensThenAs found d.kept disk saves → Leaves settings m f g found stage kept disk (hs ++ (saves ++ said))
   event_moments found stage kept selector disk count node d hs saves said h r st q front either settled n image held = go (cases_lt n (length hs))
     where
@@ -226,14 +224,14 @@ module _ {S C O : Type 0} (settings : Settings) (m : MachineMeaning S C O) (f : 
           (settling found stage kept count node d hs more image h (follows_take k saves said st q)
           (after_hearing found kept disk d saves said k image st q front either settled left))
 
-  event_disk : (disk : Disk) (hs saves said : List Act) → Every Hears hs → Every Says said → after disk (hs ++ (saves ++ said)) ≡ after disk saves
+  event_disk : (disk : Disk) (hs saves said : List Act) → Each Hears hs → Each Says said → after disk (hs ++ (saves ++ said)) ≡ after disk saves
   event_disk disk hs saves said h q =
       after_append disk hs (saves ++ said)
       ∙ (ap (λ x. after x (saves ++ said)) (hears_after hs disk h) ∙ (after_append disk saves said ∙ says_after said (after disk saves) q))
 
   pub event_leaves : (found : List ℕ → Found (KeptView C)) (stage : Stage S C O) (kept : KeptView C) (selector : ℕ) (disk : Disk) (count : ℕ) (node : NodeView S C O)
       (d : Done C) (hs saves said : List Act) → HearsAs settings m f g stage hs (d ∷ []) count (Between node) → Rests found kept selector disk →
-      Every Stores saves → Every Says said → IsFront (datagrams said) d.said → OpensAsEither found kept d.kept disk saves →
+      Each Stores saves → Each Says said → IsPrefix (datagrams said) d.said → OpensAsEither found kept d.kept disk saves →
       (said ≡ []) ⊎ OpensThenAs found d.kept disk saves →
       Leaves settings m f g found stage kept disk (hs ++ (saves ++ said)) × (after disk (hs ++ (saves ++ said)) ≡ after disk saves)
   event_leaves found stage kept selector disk count node d hs saves said h r st q front either settled = (
@@ -270,12 +268,7 @@ module _ {S C O : Type 0} (settings : Settings) (m : MachineMeaning S C O) (f : 
         near = elim (w.near) [ inl e ↦ inl (omega (arith, e, size)) | inr e ↦ inr (omega (arith, e, size)) ];
         ended = ended_both stage xs ys w.c (begins_turn ys) refl w.ended;
         opens = subst (λ (k : KeptView C). OpensAs found k image) (sym (ap (λ r. kept_by kept r) first ∙ kept_append kept ds (take w.c es))) w.opens;
-        sent = (
-          w.sent.0,
-          ap (λ r. r ++ w.sent.0) (said_first settings m f g stage xs ys said)
-              ∙ (append_assoc (said_in ds) (datagrams ys) w.sent.0
-              ∙ (ap (λ r. said_in ds ++ r) w.sent.1 ∙ sym (ap said_in first ∙ said_append ds (take w.c es)))),
-        );
+        sent = rw (said_first settings m f g stage xs ys said, first, said_append ds (take w.c es)) (prefix_behind (said_in ds) _ w.sent);
       }
 
   pub later_counts : (found : List ℕ → Found (KeptView C)) (stage : Stage S C O) (kept : KeptView C) (xs ys : List Act) (image : Image)

@@ -4,13 +4,11 @@ use Rattle.std.proofs.lemmas.Bool.{cases_lt, le-leb, lt-leb}
 use Rattle.std.proofs.lemmas.List.{take-append-le}
 use Rattle.disk.specs.Acts.{Act}
 use Rattle.disk.specs.Disk.{Disk, Image, after, may_hold, may_leave}
-use Rattle.disk.specs.DiskLaws.{Every}
 use Rattle.raft_types.specs.Keeping.{KeptView}
 use Rattle.slots.specs.Opening.{Found, OpensAs}
 use Rattle.slots.specs.SavingLaws.{Rests}
 use Rattle.slots.specs.Turns.{Hears, Says, datagrams}
-use Rattle.slots.specs.TurnLaws.{IsFront}
-use Rattle.slots.proofs.Elsewhere.{after_append, every_take}
+use Rattle.slots.proofs.Elsewhere.{after_append}
 use Rattle.vst_base.specs.Machines.{MachineMeaning}
 use Rattle.vst_base.specs.declared.stack.StackId.{StackId}
 use Rattle.wire_fields.specs.Formats.{Format}
@@ -25,6 +23,8 @@ use Rattle.node_records.proofs.ActKinds.{hears_after, hears_silent, hears_store,
 use Rattle.node_records.proofs.Folds.{done_append}
 use Rattle.node_records.proofs.Leaving.{after_hearing, hearing, later, later_counts, none_early, past, said_then, settling, settling_counts}
 use Rattle.node_records.proofs.Turning.{Follows, turn, turn_follows}
+use Rattle.lists.specs.Each.{Each, each_take}
+use Rattle.lists.specs.Prefixes.{IsPrefix, prefix_of}
 
 -- events that are saved
 
@@ -101,24 +101,24 @@ module _ {S C O : Type 0} (settings : Settings) (m : MachineMeaning S C O) (f : 
 
   module _ (found : List ℕ → Found (KeptView C)) (stage : Stage S C O) (kept : KeptView C) (store : StoreView) (selector : ℕ) (disk : Disk) (count : ℕ)
       (node : NodeView S C O) (d : Done C) (hs saves said : List Act) (h : HearsAs settings m f g stage hs (d ∷ []) count (Between node))
-      (r : Rests found kept selector disk) (is : saves ≡ state_acts settings.stack f store d.kept) (st : Every Stores saves) (q : Every Says said)
-      (front : IsFront (datagrams said) d.said) (either : OpensAsEither found kept d.kept disk saves) (new : OpensThenAs found d.kept disk saves) where
+      (r : Rests found kept selector disk) (is : saves ≡ state_acts settings.stack f store d.kept) (st : Each Stores saves) (q : Each Says said)
+      (front : IsPrefix (datagrams said) d.said) (either : OpensAsEither found kept d.kept disk saves) (new : OpensThenAs found d.kept disk saves) where
     size : length saves ≡ length (state_acts settings.stack f store d.kept)
     size = ap (λ acts. length acts) is
 
     -- within what was heard
 
     heard_disk : (n : ℕ) → after disk (take n hs) ≡ disk
-    heard_disk n = hears_after (take n hs) disk (every_take Hears n hs h.hears)
+    heard_disk n = hears_after (take n hs) disk (each_take Hears n hs h.hears)
 
     unstored : (n : ℕ) → length (store_acts (take n hs)) ≡ 0
-    unstored n = ap (λ acts. length acts) (hears_store (take n hs) (every_take Hears n hs h.hears))
+    unstored n = ap (λ acts. length acts) (hears_store (take n hs) (each_take Hears n hs h.hears))
 
     -- an event whose save has no act is saved as it comes
     at_once : (n : ℕ) (image : Image) → saves ≡ [] → decides stage (take n hs) ≡ d ∷ [] → may_leave disk (take n hs) image ≡ true →
         SavedAt found stage kept store (take n hs) image
     at_once n image none decided held =
-        let silent : datagrams (take n hs) ≡ [] = hears_silent (take n hs) (every_take Hears n hs h.hears) in
+        let silent : datagrams (take n hs) ≡ [] = hears_silent (take n hs) (each_take Hears n hs h.hears) in
         let rested : may_leave disk saves image ≡ true =
         subst (λ (acts : List Act). may_leave disk acts image ≡ true) (sym none) (subst (λ (x : Disk). may_hold x image ≡ true) (heard_disk n) held) in
         record {
@@ -127,7 +127,7 @@ module _ {S C O : Type 0} (settings : Settings) (m : MachineMeaning S C O) (f : 
             near = inl (sym (ap (λ ds. length ds) decided));
             ended = omega (arith, none_early settings m f g stage n hs h.last);
             opens = subst (λ (ds : List (Done C)). OpensAs found (kept_by kept (take 1 ds)) image) (sym decided) (new image rested);
-            sent = (said_in (take 1 (decides stage (take n hs))), ap (λ r. r ++ said_in (take 1 (decides stage (take n hs)))) silent);
+            sent = prefix_of _ (said_in (take 1 (decides stage (take n hs)))) _ (ap (λ r. r ++ said_in (take 1 (decides stage (take n hs)))) silent);
           };
           saved = omega (
             arith,
@@ -166,7 +166,7 @@ module _ {S C O : Type 0} (settings : Settings) (m : MachineMeaning S C O) (f : 
 
     decided_then : (k : ℕ) → decides stage (hs ++ take k (saves ++ said)) ≡ d ∷ []
     decided_then k =
-        (turn settings m f g stage (d ∷ []) count node hs (take k (saves ++ said)) h (every_take Follows k (saves ++ said) (turn_follows saves said st q))).events
+        (turn settings m f g stage (d ∷ []) count node hs (take k (saves ++ said)) h (each_take Follows k (saves ++ said) (turn_follows saves said st q))).events
 
     settled : (k : ℕ) (image : Image) → may_leave disk (take k (saves ++ said)) image ≡ true →
         SavedAt found stage kept store (hs ++ take k (saves ++ said)) image
@@ -182,12 +182,12 @@ module _ {S C O : Type 0} (settings : Settings) (m : MachineMeaning S C O) (f : 
         by : (k < length saves) ⊎ (length saves ≤ k) → SavedAt found stage kept store (hs ++ take k (saves ++ said)) image
         by (inl l) =
             let begun : store_acts (take k (saves ++ said)) ≡ take k saves =
-            ap store_acts (take-append-le k saves said (omega (arith, l))) ∙ stores_store (take k saves) (every_take Stores k saves st) in
+            ap store_acts (take-append-le k saves said (omega (arith, l))) ∙ stores_store (take k saves) (each_take Stores k saves st) in
             let stored = ap (λ acts. length acts) (acts_then k ∙ begun) in
             let early = not_yet settings.stack f store d (length (take k saves)) (omega (arith, size, l, length-take-le k saves)) in
             record {
               at = settling settings m f g found stage kept count node d hs (take k (saves ++ said)) image h
-                  (every_take Follows k (saves ++ said) (turn_follows saves said st q))
+                  (each_take Follows k (saves ++ said) (turn_follows saves said st q))
                   (after_hearing settings m f g found kept disk d saves said k image st q front either (inr new) held);
               saved = omega (
                 arith,
@@ -197,7 +197,7 @@ module _ {S C O : Type 0} (settings : Settings) (m : MachineMeaning S C O) (f : 
               );
             }
         by (inr l) =
-            let follows : Every Follows (take k (saves ++ said)) = every_take Follows k (saves ++ said) (turn_follows saves said st q) in
+            let follows : Each Follows (take k (saves ++ said)) = each_take Follows k (saves ++ said) (turn_follows saves said st q) in
             let opens = said_then settings m f g found kept disk d saves said k image st q front new l held in
             record {
               at = settling settings m f g found stage kept count node d hs (take k (saves ++ said)) image h follows (inr opens);
@@ -207,7 +207,7 @@ module _ {S C O : Type 0} (settings : Settings) (m : MachineMeaning S C O) (f : 
 
   pub event_saves : (found : List ℕ → Found (KeptView C)) (stage : Stage S C O) (kept : KeptView C) (store : StoreView) (selector : ℕ) (disk : Disk) (count : ℕ)
       (node : NodeView S C O) (d : Done C) (hs saves said : List Act) → HearsAs settings m f g stage hs (d ∷ []) count (Between node) → Rests found kept selector disk →
-      saves ≡ state_acts settings.stack f store d.kept → Every Stores saves → Every Says said → IsFront (datagrams said) d.said →
+      saves ≡ state_acts settings.stack f store d.kept → Each Stores saves → Each Says said → IsPrefix (datagrams said) d.said →
       OpensAsEither found kept d.kept disk saves → OpensThenAs found d.kept disk saves →
       LeavesSaved settings m f g found stage kept store disk (hs ++ (saves ++ said))
   event_saves found stage kept store selector disk count node d hs saves said h r is st q front either new n image held = go (cases_lt n (length hs))

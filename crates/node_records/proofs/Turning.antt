@@ -2,10 +2,8 @@
 use Rattle.std.proofs.Common.{◌≡◌, ℕ, ◌+◌, Bool, false, ◌||◌, if◌then◌else◌, List, [], ◌∷◌, ◌++◌, refl, sym, ap, subst, ◌∙◌, arith, ◌⊎◌, inl, inr}
 use Rattle.std.proofs.lemmas.List.{append-nil}
 use Rattle.disk.specs.Acts.{Act, Now, Took, Quiet, ReceiveFailed, Sent, SendFailed, Wrote, Cut, Synced, StoreFailed}
-use Rattle.disk.specs.DiskLaws.{Every, IsCutShort}
+use Rattle.disk.specs.DiskLaws.{IsCutShort}
 use Rattle.slots.specs.Turns.{Hears, Says, OnAreas, datagrams}
-use Rattle.slots.specs.TurnLaws.{IsFront}
-use Rattle.slots.proofs.Elsewhere.{every_append}
 use Rattle.vst_base.specs.Machines.{MachineMeaning}
 use Rattle.wire_fields.specs.Formats.{Format}
 use Rattle.node_acts.specs.StateActs.{state_acts}
@@ -17,24 +15,26 @@ use Rattle.node_run.specs.declared.due.Due.TheVariants.{Timeout, Wait}
 use Rattle.node_run.specs.declared.event.Event.TheVariants.{Tick}
 use Rattle.node_records.specs.Records.{Stores, IsNoFault, IsOfTurns, AreRecord, IsStopped, HearsAs, ended_turns, reads_clock, saves_of, store_acts}
 use Rattle.node_records.specs.RecordLaws.{Turns}
-use Rattle.node_records.proofs.ActKinds.{every_as, areas_faultless, areas_store, datagrams_append, hears_of_turns, hears_silent, hears_store, save_on_areas, says_faultless, says_of_turns, says_store, short_stores, store_acts_append, stores_of_turns, stores_silent, stores_store}
+use Rattle.node_records.proofs.ActKinds.{areas_faultless, areas_store, datagrams_append, hears_of_turns, hears_silent, hears_store, save_on_areas, says_faultless, says_of_turns, says_store, short_stores, store_acts_append, stores_of_turns, stores_silent, stores_store}
 use Rattle.node_records.proofs.Folds.{done_append, orderly_append, stage_append, turns_append}
+use Rattle.lists.specs.Each.{Each, each_append, each_weaker}
+use Rattle.lists.specs.Prefixes.{IsPrefix, prefix_of}
 
 -- an act that follows what was heard
 abbrev pub Follows : Act → Type 0
 Follows act = Stores act ⊎ Says act
 
-pub turn_follows : (saves said : List Act) → Every Stores saves → Every Says said → Every Follows (saves ++ said)
+pub turn_follows : (saves said : List Act) → Each Stores saves → Each Says said → Each Follows (saves ++ said)
 turn_follows saves said s q =
-    every_append Follows saves said (every_as Stores Follows saves (λ act h. inl h) s) (every_as Says Follows said (λ act h. inr h) q)
+    each_append Follows saves said (each_weaker Stores Follows (λ act h. inl h) saves s) (each_weaker Says Follows (λ act h. inr h) said q)
 
 -- what was heard, and then such acts, are of turns
-pub turn_of_turns : (hs saves said : List Act) → Every Hears hs → Every Stores saves → Every Says said → Every IsOfTurns (hs ++ (saves ++ said))
+pub turn_of_turns : (hs saves said : List Act) → Each Hears hs → Each Stores saves → Each Says said → Each IsOfTurns (hs ++ (saves ++ said))
 turn_of_turns hs saves said h s q =
-    every_append IsOfTurns hs (saves ++ said) (hears_of_turns hs h) (every_append IsOfTurns saves said (stores_of_turns saves s) (says_of_turns said q))
+    each_append IsOfTurns hs (saves ++ said) (hears_of_turns hs h) (each_append IsOfTurns saves said (stores_of_turns saves s) (says_of_turns said q))
 
 -- only a datagram among them is sent
-pub turn_said : (saves said : List Act) → Every Stores saves → datagrams (saves ++ said) ≡ datagrams said
+pub turn_said : (saves said : List Act) → Each Stores saves → datagrams (saves ++ said) ≡ datagrams said
 turn_said saves said s = datagrams_append saves said ∙ ap (λ r. r ++ datagrams said) (stores_silent saves s)
 
 module _ {S C O : Type 0} (settings : Settings) (m : MachineMeaning S C O) (f : Format C) (g : Format O) where
@@ -77,7 +77,7 @@ module _ {S C O : Type 0} (settings : Settings) (m : MachineMeaning S C O) (f : 
     stands = ap (λ (x : Step S C O). stage_after settings m f g x.stage acts) s ∙ r.stands;
   }
 
-  follows : (node : NodeView S C O) (acts : List Act) → Every Follows acts → Decides (Between node) acts [] 0 (Between node)
+  follows : (node : NodeView S C O) (acts : List Act) → Each Follows acts → Decides (Between node) acts [] 0 (Between node)
   follows node [] h = ends (Between node)
   follows node (act ∷ acts) h =
       let s = follows_one node act h.0 in
@@ -85,7 +85,7 @@ module _ {S C O : Type 0} (settings : Settings) (m : MachineMeaning S C O) (f : 
 
   -- what was heard decides the turn
   pub turn : (stage : Stage S C O) (done : List (Done C)) (count : ℕ) (node : NodeView S C O) (hs more : List Act) →
-      HearsAs settings m f g stage hs done count (Between node) → Every Follows more → Decides stage (hs ++ more) done count (Between node)
+      HearsAs settings m f g stage hs done count (Between node) → Each Follows more → Decides stage (hs ++ more) done count (Between node)
   turn stage done count node hs more h fs =
       let r = follows node more fs in
       record {
@@ -114,8 +114,8 @@ module _ {S C O : Type 0} (settings : Settings) (m : MachineMeaning S C O) (f : 
   receive_failed (Waiting n time) wait acts node o e = broken_ends acts node o.1 e
   receive_failed Broken wait acts node o e = o.0
 
-  hears_faultless : (stage : Stage S C O) (acts : List Act) (node : NodeView S C O) → Every Hears acts → AreOrderly settings m f g stage acts →
-      stage_after settings m f g stage acts ≡ Between node → Every IsNoFault acts
+  hears_faultless : (stage : Stage S C O) (acts : List Act) (node : NodeView S C O) → Each Hears acts → AreOrderly settings m f g stage acts →
+      stage_after settings m f g stage acts ≡ Between node → Each IsNoFault acts
   hears_faultless stage [] node h o e = tt
   hears_faultless stage (Now ms ∷ acts) node h o e = (tt, hears_faultless (goes stage (Now ms)).stage acts node h.1 o.1 e)
   hears_faultless stage (Took wait from bytes ∷ acts) node h o e = (tt, hears_faultless (goes stage (Took wait from bytes)).stage acts node h.1 o.1 e)
@@ -139,23 +139,23 @@ module _ {S C O : Type 0} (settings : Settings) (m : MachineMeaning S C O) (f : 
     faultless = hears_faultless stage hs node h.hears h.orderly h.stands;
   }
 
-  stored_in_turn : (hs saves said : List Act) → Every Hears hs → Every Stores saves → Every Says said → store_acts (hs ++ (saves ++ said)) ≡ saves
+  stored_in_turn : (hs saves said : List Act) → Each Hears hs → Each Stores saves → Each Says said → store_acts (hs ++ (saves ++ said)) ≡ saves
   stored_in_turn hs saves said h s q =
       store_acts_append hs (saves ++ said)
       ∙ (ap (λ r. r ++ store_acts (saves ++ said)) (hears_store hs h)
       ∙ (store_acts_append saves said
       ∙ (ap (λ r. r ++ store_acts said) (stores_store saves s) ∙ (ap (λ r. saves ++ r) (says_store said q) ∙ append-nil saves))))
 
-  pub said_in_turn : (hs saves said : List Act) → Every Hears hs → Every Stores saves → datagrams (hs ++ (saves ++ said)) ≡ datagrams said
+  pub said_in_turn : (hs saves said : List Act) → Each Hears hs → Each Stores saves → datagrams (hs ++ (saves ++ said)) ≡ datagrams said
   said_in_turn hs saves said h s =
       datagrams_append hs (saves ++ said) ∙ (ap (λ r. r ++ datagrams (saves ++ said)) (hears_silent hs h) ∙ turn_said saves said s)
 
   pub event_turn : (stage : Stage S C O) (store : StoreView) (count : ℕ) (node : NodeView S C O) (d : Done C) (hs saves said : List Act) →
-      HearsAs settings m f g stage hs (d ∷ []) count (Between node) → saves ≡ state_acts settings.stack f store d.kept → Every Says said →
+      HearsAs settings m f g stage hs (d ∷ []) count (Between node) → saves ≡ state_acts settings.stack f store d.kept → Each Says said →
       datagrams said ≡ d.said → AreRecord settings m f g stage store count (hs ++ (saves ++ said))
   event_turn stage store count node d hs saves said h is q e =
-      let on : Every OnAreas saves = subst (λ (xs : List Act). Every OnAreas xs) (sym is) (save_on_areas settings.stack f store d.kept) in
-      let st : Every Stores saves = every_as OnAreas Stores saves areas_store on in
+      let on : Each OnAreas saves = subst (λ (xs : List Act). Each OnAreas xs) (sym is) (save_on_areas settings.stack f store d.kept) in
+      let st : Each Stores saves = each_weaker OnAreas Stores areas_store saves on in
       let t = turn stage (d ∷ []) count node hs (saves ++ said) h (turn_follows saves said st q) in
       record {
         of_turns = turn_of_turns hs saves said h.hears st q;
@@ -164,8 +164,8 @@ module _ {S C O : Type 0} (settings : Settings) (m : MachineMeaning S C O) (f : 
         stored = stored_in_turn hs saves said h.hears st q
             ∙ (is ∙ (sym (append-nil (state_acts settings.stack f store d.kept)) ∙ sym (ap (λ r. saves_of settings.stack f store r) t.events)));
         said = said_in_turn hs saves said h.hears st ∙ (e ∙ (sym (append-nil d.said) ∙ sym (ap said_in t.events)));
-        faultless = every_append IsNoFault hs (saves ++ said) (hears_faultless stage hs node h.hears h.orderly h.stands)
-            (every_append IsNoFault saves said (areas_faultless saves on) (says_faultless said q));
+        faultless = each_append IsNoFault hs (saves ++ said) (hears_faultless stage hs node h.hears h.orderly h.stands)
+            (each_append IsNoFault saves said (areas_faultless saves on) (says_faultless said q));
       }
 
   -- a turn that was cut short
@@ -177,16 +177,16 @@ module _ {S C O : Type 0} (settings : Settings) (m : MachineMeaning S C O) (f : 
     orderly = h.orderly;
     turns = let e = h.turns in omega arith;
     stored = subst (λ (r : List Act). IsCutShort (saves_of settings.stack f store (decides stage hs)) r) (sym (hears_store hs h.hears)) tt;
-    said = (said_in (decides stage hs), ap (λ r. r ++ said_in (decides stage hs)) (hears_silent hs h.hears));
+    said = prefix_of _ (said_in (decides stage hs)) _ (ap (λ r. r ++ said_in (decides stage hs)) (hears_silent hs h.hears));
   }
 
   pub event_stops : (stage : Stage S C O) (store : StoreView) (count : ℕ) (node : NodeView S C O) (d : Done C) (hs saves said : List Act) →
-      HearsAs settings m f g stage hs (d ∷ []) count (Between node) → IsCutShort (state_acts settings.stack f store d.kept) saves → Every Says said →
-      IsFront (datagrams said) d.said → IsStopped settings m f g stage store count (hs ++ (saves ++ said))
+      HearsAs settings m f g stage hs (d ∷ []) count (Between node) → IsCutShort (state_acts settings.stack f store d.kept) saves → Each Says said →
+      IsPrefix (datagrams said) d.said → IsStopped settings m f g stage store count (hs ++ (saves ++ said))
   event_stops stage store count node d hs saves said h short q front =
       let all = hs ++ (saves ++ said) in
       let whole_save = state_acts settings.stack f store d.kept in
-      let st : Every Stores saves = short_stores whole_save saves (save_on_areas settings.stack f store d.kept) short in
+      let st : Each Stores saves = short_stores whole_save saves (save_on_areas settings.stack f store d.kept) short in
       let t = turn stage (d ∷ []) count node hs (saves ++ said) h (turn_follows saves said st q) in
       let owed : saves_of settings.stack f store (decides stage all) ≡ whole_save =
       ap (λ r. saves_of settings.stack f store r) t.events ∙ append-nil whole_save in
@@ -196,15 +196,12 @@ module _ {S C O : Type 0} (settings : Settings) (m : MachineMeaning S C O) (f : 
         turns = let e = t.turns in omega arith;
         stored = subst (λ (r : List Act). IsCutShort (saves_of settings.stack f store (decides stage all)) r)
             (sym (stored_in_turn hs saves said h.hears st q)) (subst (λ (r : List Act). IsCutShort r saves) (sym owed) short);
-        said = (
-          front.0,
-          ap (λ r. r ++ front.0) (said_in_turn hs saves said h.hears st) ∙ (front.1 ∙ (sym (append-nil d.said) ∙ sym (ap said_in t.events))),
-        );
+        said = rw (said_in_turn hs saves said h.hears st, t.events, append-nil d.said) front;
       }
 
   -- what a node hears
 
-  abbrev hears_as : (stage next : Stage S C O) (acts : List Act) (done : List (Done C)) (count : ℕ) → Every Hears acts → Decides stage acts done count next →
+  abbrev hears_as : (stage next : Stage S C O) (acts : List Act) (done : List (Done C)) (count : ℕ) → Each Hears acts → Decides stage acts done count next →
       decides stage (ended_turns acts) ≡ [] →
       HearsAs settings m f g stage acts done count next
   hears_as stage next acts done count h r last =

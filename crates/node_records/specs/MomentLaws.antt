@@ -2,12 +2,12 @@
 use Rattle.std.specs.Prelude.{◌≡◌, ℕ, true, List, [], ◌∷◌, ◌++◌, length, take, ◌⊎◌}
 use Rattle.disk.specs.Acts.{Act}
 use Rattle.disk.specs.Disk.{Disk, Image, after, may_leave}
-use Rattle.disk.specs.DiskLaws.{Every, IsCutShort}
+use Rattle.disk.specs.DiskLaws.{IsCutShort}
 use Rattle.raft_types.specs.Keeping.{KeptView}
 use Rattle.slots.specs.Opening.{Found, OpensAs}
 use Rattle.slots.specs.SavingLaws.{Rests}
 use Rattle.slots.specs.Turns.{Says, datagrams}
-use Rattle.slots.specs.TurnLaws.{Keeps, IsFront}
+use Rattle.slots.specs.TurnLaws.{Keeps}
 use Rattle.vst_base.specs.Machines.{MachineMeaning}
 use Rattle.wire_fields.specs.Formats.{Format}
 use Rattle.node_run.specs.Runs.{Done, NodeView, Stage, Between, Waiting, done_in, said_in, stage_after}
@@ -16,6 +16,8 @@ use Rattle.node_acts.specs.StateActs.{state_acts}
 use Rattle.node_acts.specs.Stores.{StoreView}
 use Rattle.node_records.specs.Records.{Stores, HearsAs, kept_by, saves_of, store_acts, store_by}
 use Rattle.node_records.specs.Moments.{IsAt, Leaves, LeavesSaved}
+use Rattle.lists.specs.Each.{Each}
+use Rattle.lists.specs.Prefixes.{IsPrefix}
 
 -- at each moment of these acts the areas open as the old state or the new one
 abbrev pub OpensAsEither : {K : Type 0} → (List ℕ → Found K) → K → K → Disk → List Act → Type 0
@@ -29,8 +31,8 @@ OpensThenAs found kept disk acts = (image : Image) → may_leave disk acts image
 -- Acts that make a state durable, whole or cut short, are store acts, at each moment of which the areas open as either. If they are
 -- whole, they open as the new state after them.
 pub record IsSaving {K : Type 0} (found : List ℕ → Found K) (old new : K) (acts : List Act) (disk : Disk) : Type 0 where
-  pub short : (did : List Act) → IsCutShort acts did → Every Stores did × OpensAsEither found old new disk did
-  pub whole : Every Stores acts × OpensAsEither found old new disk acts × OpensThenAs found new disk acts
+  pub short : (did : List Act) → IsCutShort acts did → Each Stores did × OpensAsEither found old new disk did
+  pub whole : Each Stores acts × OpensAsEither found old new disk acts × OpensThenAs found new disk acts
 
 -- Acts that nothing cut short are the longest of those that were.
 abbrev pub WholeIsCutShort : Type 0
@@ -63,7 +65,7 @@ EventTurnsLeave {C} {O} S f g =
     (settings : Settings) (m : MachineMeaning S C O) (found : List ℕ → Found (KeptView C)) (stage : Stage S C O) (kept : KeptView C)
     (selector : ℕ) (disk : Disk) (count : ℕ) (node : NodeView S C O) (d : Done C) (hs saves said : List Act) →
     HearsAs settings m f g stage hs (d ∷ []) count (Between node) → Rests found kept selector disk →
-    Every Stores saves → Every Says said → IsFront (datagrams said) d.said → OpensAsEither found kept d.kept disk saves →
+    Each Stores saves → Each Says said → IsPrefix (datagrams said) d.said → OpensAsEither found kept d.kept disk saves →
     (said ≡ []) ⊎ OpensThenAs found d.kept disk saves →
     Leaves settings m f g found stage kept disk (hs ++ (saves ++ said)) × (after disk (hs ++ (saves ++ said)) ≡ after disk saves)
 
@@ -96,6 +98,6 @@ EventTurnsSave {C} {O} S f g =
     (settings : Settings) (m : MachineMeaning S C O) (found : List ℕ → Found (KeptView C)) (stage : Stage S C O) (kept : KeptView C)
     (store : StoreView) (selector : ℕ) (disk : Disk) (count : ℕ) (node : NodeView S C O) (d : Done C) (hs saves said : List Act) →
     HearsAs settings m f g stage hs (d ∷ []) count (Between node) → Rests found kept selector disk →
-    saves ≡ state_acts settings.stack f store d.kept → Every Stores saves → Every Says said → IsFront (datagrams said) d.said →
+    saves ≡ state_acts settings.stack f store d.kept → Each Stores saves → Each Says said → IsPrefix (datagrams said) d.said →
     OpensAsEither found kept d.kept disk saves → OpensThenAs found d.kept disk saves →
     LeavesSaved settings m f g found stage kept store disk (hs ++ (saves ++ said))

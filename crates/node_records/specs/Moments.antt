@@ -5,7 +5,6 @@ use Rattle.disk.specs.Disk.{Disk, Image, may_leave}
 use Rattle.raft_types.specs.Keeping.{KeptView}
 use Rattle.slots.specs.Opening.{Found, OpensAs}
 use Rattle.slots.specs.Turns.{datagrams}
-use Rattle.slots.specs.TurnLaws.{IsFront}
 use Rattle.vst_base.specs.Machines.{MachineMeaning}
 use Rattle.vst_base.specs.declared.stack.StackId.{StackId}
 use Rattle.wire_fields.specs.Formats.{Format}
@@ -14,6 +13,7 @@ use Rattle.node_acts.specs.Stores.{StoreView}
 use Rattle.node_run.specs.Runs.{Done, Stage, done_in, said_in}
 use Rattle.node_run.specs.Settings.{Settings}
 use Rattle.node_records.specs.Records.{ended_turns, kept_by, store_acts}
+use Rattle.lists.specs.Prefixes.{IsPrefix}
 
 -- How many of these events are saved by so many store acts: each by the last one of its save, or as it comes where that has none.
 abbrev pub saved_by : {C : Type 0} → StackId → Format C → StoreView → List (Done C) → ℕ → ℕ
@@ -30,7 +30,7 @@ module _ {S C O : Type 0} (settings : Settings) (m : MachineMeaning S C O) (f : 
     pub near : (c ≡ length (done_in settings m f g stage acts)) ⊎ (suc c ≡ length (done_in settings m f g stage acts))
     pub ended : length (done_in settings m f g stage (ended_turns acts)) ≤ c
     pub opens : OpensAs found (kept_by kept (take c (done_in settings m f g stage acts))) image
-    pub sent : IsFront (datagrams acts) (said_in (take c (done_in settings m f g stage acts)))
+    pub sent : IsPrefix (datagrams acts) (said_in (take c (done_in settings m f g stage acts)))
 
   -- so it is at each moment of these acts
   abbrev pub Leaves : (List ℕ → Found (KeptView C)) → Stage S C O → KeptView C → Disk → List Act → Type 0

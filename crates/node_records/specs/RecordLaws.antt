@@ -3,10 +3,9 @@ use Rattle.std.specs.Prelude.{◌≡◌, ℕ, ◌+◌, List, [], ◌∷◌, ◌+
 use Rattle.outside.specs.declared.device.Address.{Address}
 use Rattle.disk.specs.Acts.{Act, Now, Took, Quiet, ReceiveFailed}
 use Rattle.disk.specs.Disk.{Disk, after}
-use Rattle.disk.specs.DiskLaws.{Every, IsCutShort}
+use Rattle.disk.specs.DiskLaws.{IsCutShort}
 use Rattle.raft_types.specs.Keeping.{KeptView}
 use Rattle.slots.specs.Turns.{Says, datagrams}
-use Rattle.slots.specs.TurnLaws.{IsFront}
 use Rattle.vst_base.specs.Machines.{MachineMeaning}
 use Rattle.wire_fields.specs.Formats.{Format}
 use Rattle.node_acts.specs.StateActs.{state_acts}
@@ -18,6 +17,8 @@ use Rattle.node_run.specs.declared.due.Due.TheVariants.{Timeout, Wait}
 use Rattle.node_run.specs.declared.event.Event.{Event}
 use Rattle.node_run.specs.declared.event.Event.TheVariants.{Tick}
 use Rattle.node_records.specs.Records.{AreRecord, HearsAs, IsStopped, kept_by, store_by}
+use Rattle.lists.specs.Each.{Each}
+use Rattle.lists.specs.Prefixes.{IsPrefix}
 
 module _ {S C O : Type 0} (settings : Settings) (m : MachineMeaning S C O) (f : Format C) (g : Format O) where
   -- what two lists of acts make, the one after the other
@@ -85,7 +86,7 @@ abbrev pub EventTurnIsRecord : {C O : Type 0} → Type 0 → Format C → Format
 EventTurnIsRecord {C} {O} S f g =
     (settings : Settings) (m : MachineMeaning S C O) (stage : Stage S C O) (store : StoreView) (count : ℕ) (node : NodeView S C O) (d : Done C)
     (hs saves said : List Act) → HearsAs settings m f g stage hs (d ∷ []) count (Between node) →
-    saves ≡ state_acts settings.stack f store d.kept → Every Says said → datagrams said ≡ d.said →
+    saves ≡ state_acts settings.stack f store d.kept → Each Says said → datagrams said ≡ d.said →
     AreRecord settings m f g stage store count (hs ++ (saves ++ said))
 
 -- Whole turns, and none that was cut short.
@@ -104,7 +105,7 @@ abbrev pub EventIsStopped : {C O : Type 0} → Type 0 → Format C → Format O 
 EventIsStopped {C} {O} S f g =
     (settings : Settings) (m : MachineMeaning S C O) (stage : Stage S C O) (store : StoreView) (count : ℕ) (node : NodeView S C O) (d : Done C)
     (hs saves said : List Act) → HearsAs settings m f g stage hs (d ∷ []) count (Between node) →
-    IsCutShort (state_acts settings.stack f store d.kept) saves → Every Says said → IsFront (datagrams said) d.said →
+    IsCutShort (state_acts settings.stack f store d.kept) saves → Each Says said → IsPrefix (datagrams said) d.said →
     IsStopped settings m f g stage store count (hs ++ (saves ++ said))
 
 -- Whole turns, and then one that was cut short.

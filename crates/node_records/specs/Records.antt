@@ -1,10 +1,9 @@
 -- What the whole record of a node's device is: turn after turn what was heard, the save of each event, and then what it says.
 use Rattle.std.specs.Prelude.{◌≡◌, ℕ, ◌≤◌, Bool, true, false, ◌||◌, List, [], ◌∷◌, ◌++◌, if◌then◌else◌}
 use Rattle.disk.specs.Acts.{Act, Began, BeginFailed, Now, ReceiveFailed, Wrote, Cut, Synced, StoreFailed}
-use Rattle.disk.specs.DiskLaws.{Every, IsCutShort}
+use Rattle.disk.specs.DiskLaws.{IsCutShort}
 use Rattle.raft_types.specs.Keeping.{KeptView}
 use Rattle.slots.specs.Turns.{Hears, datagrams}
-use Rattle.slots.specs.TurnLaws.{IsFront}
 use Rattle.vst_base.specs.Machines.{MachineMeaning}
 use Rattle.vst_base.specs.declared.stack.StackId.{StackId}
 use Rattle.wire_fields.specs.Formats.{Format}
@@ -12,6 +11,8 @@ use Rattle.node_acts.specs.StateActs.{state_acts, store_after}
 use Rattle.node_acts.specs.Stores.{StoreView}
 use Rattle.node_run.specs.Runs.{Done, Stage, AreOrderly, done_in, said_in, stage_after, turns_in}
 use Rattle.node_run.specs.Settings.{Settings}
+use Rattle.lists.specs.Each.{Each}
+use Rattle.lists.specs.Prefixes.{IsPrefix}
 
 -- an act on the areas, or one that failed
 abbrev pub Stores : Act → Type 0
@@ -74,25 +75,25 @@ module _ {S C O : Type 0} (settings : Settings) (m : MachineMeaning S C O) (f : 
   -- From this stage on, where the node knows this of its areas, the acts are so many whole turns: the areas were touched by the saves
   -- of their events alone, what these say was sent or lost, and nothing failed.
   pub record AreRecord (stage : Stage S C O) (store : StoreView) (count : ℕ) (acts : List Act) : Type 0 where
-    pub of_turns : Every IsOfTurns acts
+    pub of_turns : Each IsOfTurns acts
     pub orderly : AreOrderly settings m f g stage acts
     pub turns : turns_in settings m f g stage acts ≡ count
     pub stored : store_acts acts ≡ saves_of settings.stack f store (done_in settings m f g stage acts)
     pub said : datagrams acts ≡ said_in (done_in settings m f g stage acts)
-    pub faultless : Every IsNoFault acts
+    pub faultless : Each IsNoFault acts
 
   -- The same of acts that a fault, or want of memory, cut short: at most so many turns, the saves of their events cut short, and a
   -- front of what these say.
   pub record IsStopped (stage : Stage S C O) (store : StoreView) (most : ℕ) (acts : List Act) : Type 0 where
-    pub of_turns : Every IsOfTurns acts
+    pub of_turns : Each IsOfTurns acts
     pub orderly : AreOrderly settings m f g stage acts
     pub turns : turns_in settings m f g stage acts ≤ most
     pub stored : IsCutShort (saves_of settings.stack f store (done_in settings m f g stage acts)) (store_acts acts)
-    pub said : IsFront (datagrams acts) (said_in (done_in settings m f g stage acts))
+    pub said : IsPrefix (datagrams acts) (said_in (done_in settings m f g stage acts))
 
   -- The acts only hear: they decide these events, none before the last turn, and so many turns, and then the node stands there.
   pub record HearsAs (stage : Stage S C O) (acts : List Act) (done : List (Done C)) (count : ℕ) (next : Stage S C O) : Type 0 where
-    pub hears : Every Hears acts
+    pub hears : Each Hears acts
     pub orderly : AreOrderly settings m f g stage acts
     pub events : done_in settings m f g stage acts ≡ done
     pub last : done_in settings m f g stage (ended_turns acts) ≡ []

@@ -21,10 +21,6 @@ use Rattle.node_state.specs.Crashes.{StoppedWith}
 use Rattle.node_state.specs.Ends.{NewFits, new_acts}
 use Rattle.node_state.specs.declared.store.JournalEnd.{JournalEnd}
 
--- what stands after the first entries, as a slice gives it
-pub slice_after : {T : Type 0} (n : ℕ) (xs : List T) → take (length xs - n) (drop n xs) ≡ drop n xs
-slice_after n xs = rw (← length-drop n xs) (take-length (drop n xs))
-
 module _ {C : Type 0} (s : StackId) (f : Format C) (who : Who) (end : JournalEnd) (keep : ℕ) (kept : KeptView C) where
   abbrev pub EntriesFit : List (EntryView C) → Type 0
   EntriesFit entries = (nodes : ℕ) → nodes ≤ MAX_NODES → VoteAmong nodes kept.voted → (change nodes (entry f)).Fits (change_as kept.term kept.voted keep entries)

@@ -4,6 +4,7 @@ use Rattle.std.proofs.lemmas.List.{take-append-le, drop-drop}
 use Rattle.disk.specs.Areas.{area_at}
 use Rattle.node_device.specs.Telling.{Told}
 use Rattle.outside.specs.Streams.{Gives}
+use Rattle.lists.specs.Places.{take_short}
 
 whole : (all bytes sub rest got before : List ℕ) (l n m at : ℕ) → n ≤ length sub → at ≡ l → m ≡ l + n → got ≡ bytes ++ take n (sub ++ rest) → bytes ++ drop l all ≡ all →
     Gives (drop at all) n before sub → got ++ drop m all ≡ all
@@ -19,11 +20,6 @@ pub more : (told : Option Told) (area : ℕ) (bytes sub rest got before : List �
     IfSome told (λ told. got ++ drop m (area_at told.disk area).bytes ≡ (area_at told.disk area).bytes)
 more None area bytes sub rest got before l n m at h a e g i o = tt
 more (Some t) area bytes sub rest got before l n m at h a e g i o = whole (area_at t.disk area).bytes bytes sub rest got before l n m at h a e g i o
-
-take_short : (n : ℕ) (xs : List ℕ) → length (take n xs) < n → take n xs ≡ xs
-take_short zero xs l = absurd (omega (arith, l))
-take_short (suc n) [] l = refl
-take_short (suc n) (x ∷ xs) l = ap (λ r. x ∷ r) (take_short n xs (omega (arith, l)))
 
 -- what is shorter than was asked for is all
 pub all_read : (told : Option Told) (area most : ℕ) (bytes : List ℕ) → length bytes < most → IfSome told (λ told. bytes ≡ take most (area_at told.disk area).bytes) →

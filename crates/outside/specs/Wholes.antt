@@ -5,8 +5,8 @@ use Rattle.std.specs.Prelude.{◌≡◌, ℕ, List, ◌++◌, take, Option, Some
 abbrev pub Gained : Option (List ℕ) → Option (List ℕ) → List ℕ → Type 0
 Gained old new text = IfSome old (λ held. new ≡ Some (held ++ text))
 
-abbrev pub GainedFront : Option (List ℕ) → Option (List ℕ) → List ℕ → Type 0
-GainedFront old new text = IfSome old (λ held. (n : ℕ) × (new ≡ Some (held ++ take n text)))
+abbrev pub GainedPrefix : Option (List ℕ) → Option (List ℕ) → List ℕ → Type 0
+GainedPrefix old new text = IfSome old (λ held. (n : ℕ) × (new ≡ Some (held ++ take n text)))
 
 -- a source has given these bytes, and the rest is left
 abbrev pub Gave : Option (List ℕ) → Option (List ℕ) → List ℕ → Type 0

@@ -1,6 +1,6 @@
 ghost use Rattle.std.specs.Prelude.{◌≡◌, ◌≤◌, OnOk, OnErr, IsErrOf};
 ghost use Rattle.outside.specs.Counting.{Rose};
-ghost use Rattle.outside.specs.Wholes.{Gained, GainedFront};
+ghost use Rattle.outside.specs.Wholes.{Gained, GainedPrefix};
 
 use crate::{Sink, WriteOutcome};
 
@@ -17,7 +17,7 @@ pub enum WriteFault {
 /// or wanted memory, at `Failed` none wanted memory, and at `Memory` none failed.
 pub fn write_all<K: Sink>(sink: &mut K, bytes: &[u8]) -> Result<(), WriteFault>
     ensures ok { OnOk result (Gained (K.written sink.old) (K.written sink.new) bytes.now) }
-    ensures err { OnErr result (GainedFront (K.written sink.old) (K.written sink.new) bytes.now) }
+    ensures err { OnErr result (GainedPrefix (K.written sink.old) (K.written sink.new) bytes.now) }
     ensures failed { IsErrOf result WriteFault.Failed → Rose (K.faults sink.old) (K.faults sink.new)
         × (K.wants sink.new ≡ K.wants sink.old) }
     ensures memory { IsErrOf result WriteFault.Memory → (K.faults sink.new ≡ K.faults sink.old)

@@ -9,7 +9,6 @@ use Rattle.check_text.specs.Reading.{Whole}
 use Rattle.claim_verdicts.specs.Backups.{BackupClaim}
 use Rattle.claim_verdicts.specs.Laws.{AreSpelledReplies, IsExplained, IsSpelledReply}
 use Rattle.claim_verdicts.proofs.Decided.{yes-one-machine}
-use Rattle.linearizability.specs.Linearizable.{Each}
 use Rattle.net_semantics.specs.BelowPb.{below_pb, inputs_at, outputs_at, replies_in}
 use Rattle.schedule_text.specs.Printing.{step_text}
 use Rattle.stacks.specs.Kinds.{Application, IsOneMachine, backed, pb_texts}
@@ -19,12 +18,12 @@ use Rattle.vst_base.specs.declared.pb_out.PbOut.TheVariants as pb
 use Rattle.vst_base.specs.declared.step.Item.{Item}
 use Rattle.vst_base.specs.declared.step.Item.TheVariants as item
 use Rattle.permitted_claims.specs.Spelled.{HasInputText, HasOutputText, IsSpelledMachine, IsTextItem}
-use Rattle.permitted_claims.proofs.Eaches.{each-take, each-weaker}
 use Rattle.permitted_claims.proofs.ImageSteps.{same-steps}
 use Rattle.permitted_claims.proofs.PbRuns.{alone-spellable, inputs-text}
 use Rattle.permitted_claims.proofs.ReadClaims.{AreApart}
 use Rattle.permitted_claims.proofs.ScheduleClaims.{IsReadSchedule, schedule-read, schedule_form}
 use Rattle.permitted_claims.proofs.Verdicts.{IsDecided}
+use Rattle.lists.specs.Each.{Each, each_take, each_weaker}
 
 reply-spelled : {C O : Type 0} (nodes : ℕ) (HasIn : C → Type 0) (HasOut : O → Type 0) (x : Item C (PbOut O)) → IsTextItem nodes HasIn (IsPbOutput HasOut) x → IsSpelledReply HasOut x
 reply-spelled nodes HasIn HasOut (item.Input n c) has = tt
@@ -47,7 +46,7 @@ module _ (apart : AreApart) (nodes : ℕ) (p : Application) (spelled : IsSpelled
 
     replies-spelled : AreSpelledReplies HasOut p.machine c
     replies-spelled = record {
-      trace = each-weaker (IsTextItem nodes HasIn (IsPbOutput HasOut)) (IsSpelledReply HasOut) (reply-spelled nodes HasIn HasOut) c.trace read.trace;
+      trace = each_weaker (IsTextItem nodes HasIn (IsPbOutput HasOut)) (IsSpelledReply HasOut) (reply-spelled nodes HasIn HasOut) c.trace read.trace;
       outputs = spelled.answers (inputs_at 0 c.trace) inputs;
     }
 
@@ -55,7 +54,7 @@ module _ (apart : AreApart) (nodes : ℕ) (p : Application) (spelled : IsSpelled
     one-machine by = record {
       machine = by.machine;
       image = same-steps p.texts.input_of p.texts.input_text HasIn spelled.texts.inputs c.image (alone (below_pb c.trace)) read.image
-          (alone-spellable HasIn (below_pb c.trace) (each-take HasIn (replies_in (outputs_at 0 c.trace)) (inputs_at 0 c.trace) inputs)) by.image;
+          (alone-spellable HasIn (below_pb c.trace) (each_take HasIn (replies_in (outputs_at 0 c.trace)) (inputs_at 0 c.trace) inputs)) by.image;
     }
 
     explained : IsOneMachine p.machine c → IsExplained p.texts.input_text p.machine c

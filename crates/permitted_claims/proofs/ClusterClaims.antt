@@ -7,7 +7,6 @@ use Rattle.claim_verdicts.specs.Clusters.{ClusterClaim}
 use Rattle.claim_verdicts.specs.Laws.{AreSpelled, IsSpelledItem}
 use Rattle.claim_verdicts.proofs.Decided.{yes-linearizable}
 use Rattle.line_reader.specs.declared.why.Why.TheVariants as why
-use Rattle.linearizability.specs.Linearizable.{Each}
 use Rattle.raft_text.specs.RaftTexts.{IsRaftInput, IsRaftOutput, raft_input_of, raft_output_of}
 use Rattle.raft_text.specs.RaftTextLaws.{raft_inputs_are_spelled, raft_outputs_are_spelled}
 use Rattle.raft_types.specs.declared.client.RaftInput.{RaftInput}
@@ -19,9 +18,9 @@ use Rattle.stacks.specs.Stack.{Texts}
 use Rattle.vst_base.specs.declared.step.Item.{Item}
 use Rattle.vst_base.specs.declared.step.Item.TheVariants as item
 use Rattle.permitted_claims.specs.Spelled.{HasInputText, HasOutputText, IsSpelledMachine, IsTextItem}
-use Rattle.permitted_claims.proofs.Eaches.{each-weaker}
 use Rattle.permitted_claims.proofs.ReadClaims.{AreApart, IfSays, read-whole, said-there}
 use Rattle.permitted_claims.proofs.Verdicts.{IsDecided}
+use Rattle.lists.specs.Each.{Each, each_weaker}
 
 commands-text : {C : Type 0} (HasIn : C → Type 0) (order : List (RaftInput C)) → Each (IsRaftInput HasIn) order → Each HasIn (map (λ r. r.cmd) order)
 commands-text HasIn [] all = tt
@@ -64,8 +63,8 @@ module _ (apart : AreApart) (nodes : ℕ) (p : Application) (spelled : IsSpelled
       let read = read-whole apart (order_form nodes p.texts) (IsRaftInput HasIn) (IsRaftOutput HasOut) (IsRaftInput HasIn) requests.has_text answers.has_text
       (order-text (raft_input_of p.texts.input_of) (IsRaftInput HasIn) requests.has_text) ls c is in
       record {
-        trace = each-weaker (IsTextItem nodes (IsRaftInput HasIn) (IsRaftOutput HasOut)) (IsSpelledItem HasIn HasOut) (item-spelled nodes HasIn HasOut) c.trace read.trace;
-        order = each-weaker (IsRaftInput HasIn) (λ r. HasIn r.cmd) (λ r has. has.2) c.image read.image;
+        trace = each_weaker (IsTextItem nodes (IsRaftInput HasIn) (IsRaftOutput HasOut)) (IsSpelledItem HasIn HasOut) (item-spelled nodes HasIn HasOut) c.trace read.trace;
+        order = each_weaker (IsRaftInput HasIn) (λ r. HasIn r.cmd) (λ r has. has.2) c.image read.image;
         outputs = spelled.answers (map (λ r. r.cmd) c.image) (commands-text HasIn c.image read.image);
       }
 

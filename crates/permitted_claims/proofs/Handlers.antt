@@ -1,7 +1,6 @@
 -- Handlers that are a stack by themselves are spelled, where their states keep to something by which what they put out has texts.
 use Rattle.std.specs.Prelude.{◌≡◌, ℕ, List}
 use Rattle.std.proofs.Common.{subst}
-use Rattle.linearizability.specs.Linearizable.{Each}
 use Rattle.net_semantics.specs.Runs.{IsAllowed, no_recovery, trace}
 use Rattle.net_semantics.specs.Worlds.{first_world}
 use Rattle.schedule_text.specs.Spellable.{IsSpellable}
@@ -12,10 +11,10 @@ use Rattle.vst_base.specs.declared.step.Item.TheVariants as item
 use Rattle.vst_base.specs.declared.step.Step.{Step}
 use Rattle.vst_base.specs.declared.step.Step.TheVariants as step
 use Rattle.permitted_claims.specs.Spelled.{AreSpelledHandlers, HasInputText, HasOutputText, IsTextItem}
-use Rattle.permitted_claims.proofs.Eaches.{each-weaker}
 use Rattle.permitted_claims.proofs.Machines.{AreShortTexts, own-input, texts-spelled}
 use Rattle.permitted_claims.proofs.Outputs.{TellsOnce, trace-length}
 use Rattle.permitted_claims.proofs.Runs.{KeepsTexts, trace-texts}
+use Rattle.lists.specs.Each.{Each, each_weaker}
 
 -- steps and items of which more holds
 step-weaker : {I : Type 0} (P Q : I → Type 0) → ((i : I) → P i → Q i) → (s : Step I) → IsSpellable P s → IsSpellable Q s
@@ -36,9 +35,9 @@ module _ (h : OwnHandlers) (HasIn : h.Input → Type 0) (HasOut : h.Output → T
   items : (n : ℕ) (ss : List (Step h.Input)) → IsAllowed (row_of h.own).net (h.handlers n) (no_recovery {S = h.State}) ss → Each (IsSpellable (HasInputText h.texts)) ss
       → Each (IsTextItem n (HasInputText h.texts) (HasOutputText h.texts)) (trace (h.handlers n) (no_recovery {S = h.State}) ss)
   items n ss allowed steps =
-      let own = each-weaker (IsSpellable (HasInputText h.texts)) (IsSpellable HasIn) (step-weaker (HasInputText h.texts) HasIn (own-input h.texts HasIn HasOut is)) ss steps in
+      let own = each_weaker (IsSpellable (HasInputText h.texts)) (IsSpellable HasIn) (step-weaker (HasInputText h.texts) HasIn (own-input h.texts HasIn HasOut is)) ss steps in
       let seen = trace-texts (row_of h.own).net (h.handlers n) (no_recovery {S = h.State}) HasIn HasOut (Sound n) Fine (keeps n) ss allowed own in
-      each-weaker (IsTextItem n HasIn HasOut) (IsTextItem n (HasInputText h.texts) (HasOutputText h.texts))
+      each_weaker (IsTextItem n HasIn HasOut) (IsTextItem n (HasInputText h.texts) (HasOutputText h.texts))
       (item-weaker n HasIn (HasInputText h.texts) HasOut (HasOutputText h.texts) is.ins.reads_back is.outs.reads_back) (trace (h.handlers n) (no_recovery {S = h.State}) ss)
       (subst (λ k. Each (IsTextItem k HasIn HasOut) (trace (h.handlers n) (no_recovery {S = h.State}) ss)) (nodes n) seen)
 

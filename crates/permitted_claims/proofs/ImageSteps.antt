@@ -6,7 +6,6 @@ use Rattle.check_text.specs.ImageLines.{begins_as_act, said_or_refused, step_say
 use Rattle.check_text.specs.declared.image_line.ImageLine.{ImageLine}
 use Rattle.check_text.specs.declared.image_line.ImageLine.TheVariants as line
 use Rattle.line_reader.specs.declared.why.Why.TheVariants as why
-use Rattle.linearizability.specs.Linearizable.{Each}
 use Rattle.schedule_text.specs.Printing.{step_text}
 use Rattle.schedule_text.specs.Reading.{step_of, step_or_refusal}
 use Rattle.schedule_text.specs.Spellable.{IsSpellable}
@@ -14,6 +13,8 @@ use Rattle.schedule_text.proofs.ReadBackLaws.{step-reads-back}
 use Rattle.vst_base.specs.declared.step.Step.{Step}
 use Rattle.schedule_text.proofs.SpellableLaws.{step-spellable}
 use Rattle.permitted_claims.proofs.ReadClaims.{IfSays, said-there}
+use Rattle.lists.specs.Each.{Each}
+use Rattle.std.proofs.lemmas.Option.{same_Some}
 
 -- lists of which each element has a text of its own are the same where their texts are
 pub same-by : {A : Type 0} (P : A → Type 0) (text : A → List ℕ) → ((a b : A) → P a → P b → text a ≡ text b → a ≡ b) → (xs ys : List A) → Each P xs → Each P ys → map text xs ≡ map text ys → xs ≡ ys
@@ -29,15 +30,12 @@ unless-act : {X : Type 0} (P : X → Type 0) (b : Bool) (l : ImageLine X) → If
 unless-act P true l has = tt
 unless-act P false l has = has
 
-some-same : {A : Type 0} (a b : A) → Some a ≡ Some b → a ≡ b
-some-same a b e = cc
-
 module _ {I : Type 0} (f : List ℕ → Option I) (t : I → List ℕ) (HasIn : I → Type 0) (spelled : IsSpelling HasIn f t) where
   pub step-text : (l : List ℕ) → IfSays (IsSpellable HasIn) (step_says f l)
   step-text l = unless-act (IsSpellable HasIn) (begins_as_act l) (said_or_refused (step_or_refusal f 0 l)) (said-there (IsSpellable HasIn) (step_or_refusal f 0 l) (step-spellable f HasIn spelled.has_text 0 l))
 
   step-apart : (a b : Step I) → IsSpellable HasIn a → IsSpellable HasIn b → step_text t a ≡ step_text t b → a ≡ b
-  step-apart a b one two e = some-same a b (sym (step-reads-back f t HasIn spelled.reads_back a one) ∙ (ap (step_of f) e ∙ step-reads-back f t HasIn spelled.reads_back b two))
+  step-apart a b one two e = same_Some a b (sym (step-reads-back f t HasIn spelled.reads_back a one) ∙ (ap (step_of f) e ∙ step-reads-back f t HasIn spelled.reads_back b two))
 
   pub same-steps : (ss ts : List (Step I)) → Each (IsSpellable HasIn) ss → Each (IsSpellable HasIn) ts → map (step_text t) ss ≡ map (step_text t) ts → ss ≡ ts
   same-steps = same-by (IsSpellable HasIn) (step_text t) step-apart

@@ -11,17 +11,17 @@ use Rattle.vst_base.specs.declared.lock.LockMsg.TheVariants as msg
 use Rattle.vst_base.specs.declared.lock.LockOutput.{LockOutput}
 use Rattle.vst_base.specs.declared.lock.LockOutput.TheVariants as told
 use Rattle.vst_base.specs.declared.net.Net.TheVariants as net
-use Rattle.linearizability.specs.Linearizable.{Each}
 use Rattle.lock_server.specs.declared.state.LockState.{LockState}
 use Rattle.lock_server.specs.declared.state.LockState.TheVariants.{Server, Client}
 use Rattle.lock_server.specs.Locks.{LockEffect, handed_at_once, handed_on, is_client, lock_server, stays}
 use Rattle.net_semantics.specs.Runs.{no_recovery}
 use Rattle.permitted_claims.specs.Spelled.{AreSpelledHandlers, most_bytes}
-use Rattle.permitted_claims.proofs.Eaches.{each-both, each-drop, either}
+use Rattle.permitted_claims.proofs.Eaches.{either}
 use Rattle.permitted_claims.proofs.Handlers.{handlers-spelled}
 use Rattle.permitted_claims.proofs.Machines.{AreShortTexts}
 use Rattle.permitted_claims.proofs.Outputs.{TellsOne, TellsOnce}
 use Rattle.permitted_claims.proofs.Runs.{IsFine, KeepsTexts}
+use Rattle.lists.specs.Each.{Each, each_append, each_drop}
 
 abbrev IsAny : {A : Type 0} → A → Type 0
 IsAny x = Unit {0}
@@ -54,8 +54,8 @@ module _ (nodes : ℕ) where
 
   message-fine : (n : ℕ) (s : LockState) (from : ℕ) (m : LockMsg) → from < nodes → WaitsBelow nodes n s → IsLockFine n ((lock_server nodes).message n s from m)
   message-fine n (Server queue) from msg.Lock below sound =
-      record { state = each-both (λ client. client < nodes) queue (from ∷ []) sound (below, tt); outputs = tt; sends = at-once-fine queue from below }
-  message-fine n (Server queue) from msg.Unlock below sound = record { state = each-drop (λ client. client < nodes) 1 queue sound; outputs = tt; sends = on-fine (drop 1 queue) (each-drop (λ client. client < nodes) 1 queue sound) }
+      record { state = each_append (λ client. client < nodes) queue (from ∷ []) sound (below, tt); outputs = tt; sends = at-once-fine queue from below }
+  message-fine n (Server queue) from msg.Unlock below sound = record { state = each_drop (λ client. client < nodes) 1 queue sound; outputs = tt; sends = on-fine (drop 1 queue) (each_drop (λ client. client < nodes) 1 queue sound) }
   message-fine n (Server queue) from msg.Locked below sound = stays-fine n (Server queue) sound
   message-fine n (Client held) from msg.Locked below sound = record { state = tt; outputs = (tt, tt); sends = tt }
   message-fine n (Client held) from msg.Lock below sound = stays-fine n (Client held) tt

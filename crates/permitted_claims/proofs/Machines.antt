@@ -2,7 +2,6 @@
 use Rattle.std.specs.Prelude.{◌≡◌, ◌≢◌, ℕ, ◌≤◌, List, [], ◌∷◌, ◌++◌, length, Option, Some, codes, refl}
 use Rattle.std.proofs.Common.{ap, ◌∙◌, sym, subst}
 use Rattle.app_text.specs.Spelling.{IsSpelling}
-use Rattle.linearizability.specs.Linearizable.{Each}
 use Rattle.net_semantics.specs.Runs.{no_recovery}
 use Rattle.single_node.specs.SingleNode.{single_node}
 use Rattle.stacks.specs.Kinds.{Application}
@@ -10,8 +9,8 @@ use Rattle.stacks.specs.Stack.{Texts}
 use Rattle.vst_base.specs.Machines.{MachineMeaning, fold, outputs_from, state_after}
 use Rattle.vst_base.specs.declared.net.Net.TheVariants as net
 use Rattle.permitted_claims.specs.Spelled.{AreSpelled, HasInputText, HasOutputText, IsSpelledMachine, most_bytes}
-use Rattle.permitted_claims.proofs.Eaches.{each-both, each-second, each-weaker}
 use Rattle.permitted_claims.proofs.Runs.{KeepsTexts}
+use Rattle.lists.specs.Each.{Each, each_append, each_back, each_weaker}
 
 -- a machine whose states stay sound, and whose outputs have texts, where its commands have texts
 pub record MachineKeeps {S C O : Type 0} (m : MachineMeaning S C O) (HasIn : C → Type 0) (HasOut : O → Type 0) (Sound : S → Type 0) : Type 0 where
@@ -78,8 +77,8 @@ module _ (p : Application) (HasIn : p.Command → Type 0) (HasOut : p.Output →
     texts = texts-spelled p.texts HasIn HasOut is;
     no_redirect = λ o e. no_redirect o (own-output p.texts HasIn HasOut is o e);
     answers = λ cs all.
-        each-weaker HasOut (HasOutputText p.texts) is.outs.reads_back (fold p.machine cs)
-        (outputs-text p.machine HasIn HasOut Sound keeps p.machine.init keeps.init cs (each-weaker (HasInputText p.texts) HasIn (own-input p.texts HasIn HasOut is) cs all));
+        each_weaker HasOut (HasOutputText p.texts) is.outs.reads_back (fold p.machine cs)
+        (outputs-text p.machine HasIn HasOut Sound keeps p.machine.init keeps.init cs (each_weaker (HasInputText p.texts) HasIn (own-input p.texts HasIn HasOut is) cs all));
   }
 
 -- what a machine does of more commands after some
@@ -102,16 +101,16 @@ module _ (p : Application) (is : IsSpelledMachine p) where
   next-state : (s : p.State) (c : p.Command) → IsTextState s → HasInputText p.texts c → IsTextState (p.machine.apply s c).0
   next-state s c reached has = record {
     commands = reached.commands ++ c ∷ [];
-    texts = each-both (HasInputText p.texts) reached.commands (c ∷ []) reached.texts (has, tt);
+    texts = each_append (HasInputText p.texts) reached.commands (c ∷ []) reached.texts (has, tt);
     after = ap (λ x. (p.machine.apply x c).0) reached.after ∙ sym (state-behind p.machine p.machine.init reached.commands (c ∷ []));
   }
 
   next-output : (s : p.State) (c : p.Command) → IsTextState s → HasInputText p.texts c → HasOutputText p.texts (p.machine.apply s c).1
   next-output s c reached has =
       let there = state_after p.machine p.machine.init reached.commands in
-      let all = is.answers (reached.commands ++ c ∷ []) (each-both (HasInputText p.texts) reached.commands (c ∷ []) reached.texts (has, tt)) in
+      let all = is.answers (reached.commands ++ c ∷ []) (each_append (HasInputText p.texts) reached.commands (c ∷ []) reached.texts (has, tt)) in
       let behind = subst (Each (HasOutputText p.texts)) (outputs-behind p.machine p.machine.init reached.commands (c ∷ [])) all in
-      let last = (each-second (HasOutputText p.texts) (fold p.machine reached.commands) ((p.machine.apply there c).1 ∷ []) behind).0 in
+      let last = (each_back (HasOutputText p.texts) (fold p.machine reached.commands) ((p.machine.apply there c).1 ∷ []) behind).0 in
       subst (λ x. HasOutputText p.texts (p.machine.apply x c).1) (sym reached.after) last
 
   pub spelled-keeps : MachineKeeps p.machine (HasInputText p.texts) (HasOutputText p.texts) IsTextState

@@ -4,12 +4,12 @@ use Rattle.std.proofs.Common.{length-append, arith}
 use Rattle.std.proofs.lemmas.List.{length-map}
 use Rattle.handler_trait.specs.Handling.{Effect, Meaning, Recovery}
 use Rattle.net_semantics.specs.Runs.{trace_from}
-use Rattle.net_semantics.specs.Steps.{Event, delivery, event_of, input_item, items_of, items_of_event, next}
+use Rattle.net_semantics.specs.Steps.{Event, delivered, delivery, event_in, event_of, input_item, items_of, items_of_event, next}
 use Rattle.net_semantics.specs.Worlds.{Packet, World}
+use Rattle.vst_base.specs.StepViews.{AtNode, OfPacket, Starts, StepView, Stops, view_of}
 use Rattle.vst_base.specs.declared.step.Item.{Item}
 use Rattle.vst_base.specs.declared.step.Item.TheVariants as item
 use Rattle.vst_base.specs.declared.step.Step.{Step}
-use Rattle.vst_base.specs.declared.step.Step.TheVariants as step
 use Rattle.permitted_claims.proofs.Eaches.{IfThere}
 
 abbrev pub TellsOne : {S O M : Type 0} → Effect S O M → Type 0
@@ -32,14 +32,12 @@ module _ {S K I O M : Type 0} (m : Meaning S I O M) (r : Recovery S K) (once : T
   delivery-one w None = tt
   delivery-one w (Some p) = once.message p.destination (w.state p.destination) p.source p.content
 
-  event-one : (w : World S K M) (s : Step I) → IfThere IsOneEvent (event_of m w s)
-  event-one w (step.In n i) = once.input n (w.state n) i
-  event-one w (step.Tick n) = once.timeout n (w.state n)
-  event-one w (step.Deliver k) = delivery-one w (slice_get w.packets k)
-  event-one w (step.Dup k) = tt
-  event-one w (step.Lose k) = tt
-  event-one w (step.Crash n) = tt
-  event-one w (step.Reboot n) = tt
+  event-one : (w : World S K M) (s : StepView I) → IfThere IsOneEvent (event_in m w s)
+  event-one w (AtNode n (Some i)) = once.input n (w.state n) i
+  event-one w (AtNode n None) = once.timeout n (w.state n)
+  event-one w (OfPacket k fate) = delivery-one w (delivered fate (slice_get w.packets k))
+  event-one w (Stops n) = tt
+  event-one w (Starts n) = tt
 
   abbrev told : Event S I O M → List (Item I O)
   told e = map (λ o. item.Output e.node o) e.effect.outputs
@@ -55,6 +53,6 @@ module _ {S K I O M : Type 0} (m : Meaning S I O M) (r : Recovery S K) (once : T
   pub trace-length : (w : World S K M) (ss : List (Step I)) → length (trace_from m r w ss) ≤ length ss + length ss
   trace-length w [] = omega arith
   trace-length w (s ∷ ss) =
-      let first = items-two (event_of m w s) (event-one w s) in
+      let first = items-two (event_of m w s) (event-one w (view_of s)) in
       let rest = trace-length (next m r w s) ss in
       omega (arith, first, rest, length-append (items_of m w s) (trace_from m r (next m r w s) ss))

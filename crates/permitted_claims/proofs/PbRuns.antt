@@ -2,7 +2,6 @@
 use Rattle.std.specs.Prelude.{ℕ, ◌<◌, ◌==◌, List, [], ◌∷◌, Option, Some, None, slice_get}
 use Rattle.std.proofs.Common.{arith}
 use Rattle.app_text.specs.PbTexts.{IsPbOutput}
-use Rattle.linearizability.specs.Linearizable.{Each}
 use Rattle.net_semantics.specs.BelowPb.{inputs_at}
 use Rattle.net_semantics.specs.Runs.{no_recovery}
 use Rattle.primary_backup.specs.Backed.{Backed}
@@ -17,9 +16,10 @@ use Rattle.vst_base.specs.declared.pb_out.PbOut.{PbOut}
 use Rattle.vst_base.specs.declared.step.Item.{Item}
 use Rattle.vst_base.specs.declared.step.Item.TheVariants as item
 use Rattle.permitted_claims.specs.Spelled.{IsTextItem}
-use Rattle.permitted_claims.proofs.Eaches.{IfThere, each-at, each-both, each-drop, either}
+use Rattle.permitted_claims.proofs.Eaches.{IfThere, each-at, either}
 use Rattle.permitted_claims.proofs.Machines.{MachineKeeps}
 use Rattle.permitted_claims.proofs.Runs.{IsFine, KeepsTexts}
+use Rattle.lists.specs.Each.{Each, each_append, each_drop}
 
 module _ {S C O : Type 0} (m : MachineMeaning S C O) (HasIn : C → Type 0) (HasOut : O → Type 0) (Sound : S → Type 0) (keeps : MachineKeeps m HasIn HasOut Sound) where
   -- the requests that a node remembers have texts, and so have those that are sent
@@ -42,14 +42,14 @@ module _ {S C O : Type 0} (m : MachineMeaning S C O) (HasIn : C → Type 0) (Has
 
   asked-fine : (n : ℕ) (s : Backed S C) (c : C) (o : Option C) → IsTextBacked n s → HasIn c → IsBackupFine n (asked s c o)
   asked-fine n s c None sound has = record { state = (sound.0, has, sound.2); outputs = tt; sends = next-fine (Some c) has }
-  asked-fine n s c (Some d) sound has = record { state = (sound.0, sound.1, each-both HasIn s.waiting (c ∷ []) sound.2 (has, tt)); outputs = tt; sends = tt }
+  asked-fine n s c (Some d) sound has = record { state = (sound.0, sound.1, each_append HasIn s.waiting (c ∷ []) sound.2 (has, tt)); outputs = tt; sends = tt }
 
   acked-fine : (n : ℕ) (s : Backed S C) (o : Option C) → IsTextBacked n s → IfThere HasIn o → IsBackupFine n (acked m s o)
   acked-fine n s None sound has = stays-fine n s sound
   acked-fine n s (Some c) sound has =
       let next = each-at HasIn s.waiting 0 sound.2 in
       record {
-        state = (keeps.state s.machine c sound.0 has, next, each-drop HasIn 1 s.waiting sound.2);
+        state = (keeps.state s.machine c sound.0 has, next, each_drop HasIn 1 s.waiting sound.2);
         outputs = (keeps.output s.machine c sound.0 has, tt);
         sends = next-fine (slice_get s.waiting 0) next;
       }

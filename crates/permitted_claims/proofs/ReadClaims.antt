@@ -11,7 +11,6 @@ use Rattle.vst_base.specs.declared.step.Item.TheVariants as item
 use Rattle.line_reader.specs.declared.why.Why.{Why}
 use Rattle.line_reader.specs.declared.why.Why.TheVariants as why
 use Rattle.line_reader.specs.Limits.{line_refusals}
-use Rattle.linearizability.specs.Linearizable.{Each}
 use Rattle.schedule_text.specs.declared.header.Header.{Header}
 use Rattle.schedule_text.specs.Headers.{header_of}
 use Rattle.schedule_text.specs.Reading.{number_of}
@@ -26,6 +25,7 @@ use Rattle.check_text.specs.declared.image_line.ImageLine.TheVariants as line
 use Rattle.check_text.proofs.ImageHeaders.{header-headed}
 use Rattle.permitted_claims.specs.Spelled.{IsTextItem}
 use Rattle.permitted_claims.proofs.Eaches.{IfThere}
+use Rattle.lists.specs.Each.{Each}
 
 -- what was read whole is so
 abbrev pub IfWhole : {A : Type 0} → (A → Type 0) → Reading A → Type 0

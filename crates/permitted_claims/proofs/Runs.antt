@@ -3,7 +3,6 @@ use Rattle.std.specs.Prelude.{◌≡◌, ℕ, zero, suc, Bool, true, false, not,
 use Rattle.std.proofs.Common.{sym, subst}
 use Rattle.std.proofs.lemmas.Bool.{eqb-true, ltb-true}
 use Rattle.handler_trait.specs.Handling.{Effect, Meaning, Recovery}
-use Rattle.linearizability.specs.Linearizable.{Each}
 use Rattle.vst_base.specs.declared.net.Net.{Net}
 use Rattle.vst_base.specs.declared.step.Item.TheVariants as item
 use Rattle.vst_base.specs.declared.step.Step.{Step}
@@ -11,12 +10,14 @@ use Rattle.vst_base.specs.declared.step.Step.TheVariants as step
 use Rattle.vst_base.specs.declared.step.StepRefusal.{StepRefusal}
 use Rattle.vst_base.specs.declared.step.StepRefusal.TheVariants as refusal
 use Rattle.vst_base.specs.Nets.{has_kind, kind_of}
+use Rattle.vst_base.specs.StepViews.{AtNode, Copied, Delivered, Fate, Lost, OfPacket, Starts, StepView, Stops, view_of}
 use Rattle.net_semantics.specs.Runs.{IsAllowed, first_refused_from, place_and_why, trace, trace_from}
-use Rattle.net_semantics.specs.Steps.{Event, after_event, after_network, delivery, event_of, fails, input_item, items_of, items_of_event, next, node_of, rebooted, refusal_of}
-use Rattle.net_semantics.specs.Worlds.{Packet, World, change_at, first_world, one_less, one_more, put, sent_by}
+use Rattle.net_semantics.specs.Steps.{Event, after_event, after_network, copied, delivery, network_after, event_of, fails, input_item, items_of, items_of_event, next, node_of, rebooted, refusal_of}
+use Rattle.net_semantics.specs.Worlds.{Packet, World, change_at, first_world, put, sent_by}
 use Rattle.schedule_text.specs.Spellable.{IsSpellable}
 use Rattle.permitted_claims.specs.Spelled.{IsTextItem}
-use Rattle.permitted_claims.proofs.Eaches.{IfThere, each-at, each-both}
+use Rattle.permitted_claims.proofs.Eaches.{IfThere, each-at}
+use Rattle.lists.specs.Each.{Each, each_append}
 
 -- a test that gives no refusal fails
 pub no-refusal : {W : Type 0} (t : Bool) (w : W) (o : Option W) → cond t (Some w) o ≡ None → (t ≡ false) × (o ≡ None)
@@ -105,18 +106,20 @@ module _ {S K I O M : Type 0} (net : Net) (m : Meaning S I O M) (r : Recovery S 
       packets = fine.packets;
     }
 
-    network-fine : (w : World S K M) (s : Step I) → IsFineWorld w → IsFineWorld (after_network r w s)
-    network-fine w (step.In n i) fine = fine
-    network-fine w (step.Tick n) fine = fine
-    network-fine w (step.Deliver k) fine = record { states = fine.states; kept = fine.kept; packets = changed-each IsFinePacket one_less (λ p has. has) k w.packets fine.packets }
-    network-fine w (step.Lose k) fine = record { states = fine.states; kept = fine.kept; packets = changed-each IsFinePacket one_less (λ p has. has) k w.packets fine.packets }
-    network-fine w (step.Dup k) fine = record { states = fine.states; kept = fine.kept; packets = changed-each IsFinePacket one_more (λ p has. has) k w.packets fine.packets }
-    network-fine w (step.Crash n) fine = record {
+    network-fine : (w : World S K M) (s : StepView I) → IsFineWorld w → IsFineWorld (network_after r w s)
+    network-fine w (AtNode n input) fine = fine
+    network-fine w (OfPacket k fate) fine = record { states = fine.states; kept = fine.kept; packets = changed-each IsFinePacket (copied fate) (fine-copied fate) k w.packets fine.packets }
+      where
+        fine-copied : (fate : Fate) (p : Packet M) → IsFinePacket p → IsFinePacket (copied fate p)
+        fine-copied Delivered p has = has
+        fine-copied Copied p has = has
+        fine-copied Lost p has = has
+    network-fine w (Stops n) fine = record {
       states = fine.states;
       kept = λ j. put-each IsKept w.kept n (Some (r.keep (w.state n))) (λ k e. let same : r.keep (w.state n) ≡ k = cc in subst (λ x. Sound n (r.reboot n x)) same (keeps.reboot n (w.state n) (fine.states n))) j (fine.kept j);
       packets = fine.packets;
     }
-    network-fine w (step.Reboot n) fine = rebooted-fine w n (w.kept n) fine (fine.kept n)
+    network-fine w (Starts n) fine = rebooted-fine w n (w.kept n) fine (fine.kept n)
 
     sent-fine : (n : ℕ) (sends : List (ℕ × M)) → n < m.nodes → Each (λ p. (p.0 < m.nodes) × Fine p.1) sends → Each IsFinePacket (sent_by n sends)
     sent-fine n [] below has = tt
@@ -127,7 +130,7 @@ module _ {S K I O M : Type 0} (net : Net) (m : Meaning S I O M) (r : Recovery S 
     after-fine w (Some e) fine has = record {
       states = λ j. put-each Sound w.state e.node e.effect.state has.2.state j (fine.states j);
       kept = fine.kept;
-      packets = each-both IsFinePacket w.packets (sent_by e.node e.effect.sends) fine.packets (sent-fine e.node e.effect.sends has.0 has.2.sends);
+      packets = each_append IsFinePacket w.packets (sent_by e.node e.effect.sends) fine.packets (sent-fine e.node e.effect.sends has.0 has.2.sends);
     }
 
     outputs-text : (n : ℕ) (os : List O) → n < m.nodes → Each HasOut os → Each (IsTextItem m.nodes HasIn HasOut) (map (λ o. item.Output n o) os)
@@ -141,15 +144,15 @@ module _ {S K I O M : Type 0} (net : Net) (m : Meaning S I O M) (r : Recovery S 
     items-text : (o : Option (Event S I O M)) → IfThere IsFineEvent o → Each (IsTextItem m.nodes HasIn HasOut) (items_of_event o)
     items-text None has = tt
     items-text (Some e) has =
-        each-both (IsTextItem m.nodes HasIn HasOut) (input_item e.node e.input) (map (λ o. item.Output e.node o) e.effect.outputs) (input-text e.node e.input has.0 has.1) (outputs-text e.node e.effect.outputs has.0 has.2.outputs)
+        each_append (IsTextItem m.nodes HasIn HasOut) (input_item e.node e.input) (map (λ o. item.Output e.node o) e.effect.outputs) (input-text e.node e.input has.0 has.1) (outputs-text e.node e.effect.outputs has.0 has.2.outputs)
 
     run-text : (w : World S K M) (ss : List (Step I)) → IsFineWorld w → first_refused_from net m r w ss ≡ None → Each (IsSpellable HasIn) ss → Each (IsTextItem m.nodes HasIn HasOut) (trace_from m r w ss)
     run-text w [] fine allowed has = tt
     run-text w (s ∷ ss) fine allowed has =
         let parts = not-refused (refusal_of net m w s) (first_refused_from net m r (next m r w s) ss) allowed in
         let event = event-fine w s fine parts.0 has.0 in
-        each-both (IsTextItem m.nodes HasIn HasOut) (items_of m w s) (trace_from m r (next m r w s) ss) (items-text (event_of m w s) event)
-        (run-text (next m r w s) ss (after-fine (after_network r w s) (event_of m w s) (network-fine w s fine) event) parts.1 has.1)
+        each_append (IsTextItem m.nodes HasIn HasOut) (items_of m w s) (trace_from m r (next m r w s) ss) (items-text (event_of m w s) event)
+        (run-text (next m r w s) ss (after-fine (after_network r w s) (event_of m w s) (network-fine w (view_of s) fine) event) parts.1 has.1)
 
     pub trace-texts : (ss : List (Step I)) → IsAllowed net m r ss → Each (IsSpellable HasIn) ss → Each (IsTextItem m.nodes HasIn HasOut) (trace m r ss)
     trace-texts ss allowed has = run-text (first_world m) ss (record { states = keeps.init; kept = λ n k e. cc; packets = tt }) allowed has

@@ -11,7 +11,6 @@ use Rattle.claim_verdicts.specs.Schedules.{ScheduleClaim, schedule_verdict}
 use Rattle.claim_verdicts.specs.declared.verdict.Verdict.TheVariants.{Yes}
 use Rattle.claim_verdicts.proofs.Decided.{yes-shown}
 use Rattle.handler_trait.specs.Handling.{Meaning}
-use Rattle.linearizability.specs.Linearizable.{Each}
 use Rattle.net_semantics.specs.Runs.{IsAllowed, no_recovery, trace}
 use Rattle.net_semantics.specs.Worlds.{first_world}
 use Rattle.schedule_text.specs.Headers.{IsBy, IsHeader}
@@ -35,6 +34,7 @@ use Rattle.permitted_claims.proofs.ReadClaims.{AreApart, IsReadClaim, read-whole
 use Rattle.permitted_claims.proofs.Runs.{trace-texts}
 use Rattle.permitted_claims.proofs.TextItems.{item-said, more-nodes}
 use Rattle.permitted_claims.proofs.Verdicts.{IsDecided}
+use Rattle.lists.specs.Each.{Each}
 
 -- how a claim is spelled whose image is a schedule of this stack, and what it is once it was read
 abbrev pub schedule_form : {I O : Type 0} → ℕ → StackId → Texts I O → Form I O (Step I)

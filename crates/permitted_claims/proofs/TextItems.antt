@@ -8,7 +8,6 @@ use Rattle.app_text.specs.Spelling.{IsSpelling}
 use Rattle.vst_base.specs.declared.step.Item.{Item}
 use Rattle.vst_base.specs.declared.step.Item.TheVariants as item
 use Rattle.line_reader.specs.declared.why.Why.TheVariants as why
-use Rattle.linearizability.specs.Linearizable.{Each}
 use Rattle.schedule_text.specs.Printing.{item_text}
 use Rattle.schedule_text.specs.Reading.{number_of}
 use Rattle.schedule_text.specs.Words.{cut, is_text}
@@ -17,6 +16,7 @@ use Rattle.schedule_text.proofs.ReadBackLaws.{cut-digits}
 use Rattle.check_text.specs.Forms.{Form}
 use Rattle.permitted_claims.specs.Spelled.{IsTextItem}
 use Rattle.check_text.specs.TraceLines.{ItemParts, is_beyond, item_of, item_or_refusal, item_parts, node_in, trace_says}
+use Rattle.lists.specs.Each.{Each}
 
 -- fewer nodes are below more
 pub more-nodes : {I O : Type 0} (few many : ℕ) (HasIn : I → Type 0) (HasOut : O → Type 0) → few ≤ many → (items : List (Item I O)) → Each (IsTextItem few HasIn HasOut) items → Each (IsTextItem many HasIn HasOut) items

@@ -1,7 +1,6 @@
 -- That what stands in the schedules and claims of a stack has texts, and that what the stack makes of it has too.
 use Rattle.std.specs.Prelude.{◌≡◌, ◌≢◌, ℕ, ◌<◌, ◌≤◌, ◌+◌, List, length, Some, codes}
 use Rattle.app_text.specs.Spelling.{IsSpelling}
-use Rattle.linearizability.specs.Linearizable.{Each}
 use Rattle.net_semantics.specs.Runs.{IsAllowed, no_recovery, trace}
 use Rattle.schedule_text.specs.Spellable.{IsSpellable}
 use Rattle.stacks.specs.Kinds.{Application, Kind, OwnHandlers, Plain, Numbered, Alone, Backed, BackedNumbered, Clustered}
@@ -11,6 +10,7 @@ use Rattle.vst_base.specs.Stacks.{row_of}
 use Rattle.vst_base.specs.declared.step.Item.{Item}
 use Rattle.vst_base.specs.declared.step.Item.TheVariants as item
 use Rattle.vst_base.specs.declared.step.Step.{Step}
+use Rattle.lists.specs.Each.{Each}
 
 -- the most bytes that a text of an application has
 abbrev pub most_bytes : ℕ

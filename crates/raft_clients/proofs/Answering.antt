@@ -10,7 +10,6 @@ use Rattle.vst_base.specs.Machines.{MachineMeaning}
 use Rattle.vst_base.specs.declared.entry.Entry.{Entry}
 use Rattle.raft_clients.proofs.Executing.{applied_new, applied_old, from_request, kept, next, noted, outcomes, told}
 use Rattle.raft_clients.proofs.Known.{Knows, knows_kept, knows_passed, session_of}
-use Rattle.raft_clients.proofs.Listed.{slice_get_seam}
 use Rattle.raft_clients.proofs.Views.{get-written}
 use Rattle.raft_clients.specs.Executed.{executed_after}
 use Rattle.raft_clients.specs.Executions.{IsAnswered, IsExecution}
@@ -18,11 +17,7 @@ use Rattle.raft_clients.specs.Requests.{request_of, requests}
 use Rattle.raft_clients.specs.Sessions.{Sessions, answer, applied_all, is_new}
 use Rattle.raft_clients.specs.declared.session.Session.{Session}
 use Rattle.raft_types.specs.declared.client.RaftInput.{RaftInput}
-
-slice_get_front : {A : Type 0} (xs ys : List A) (k : ℕ) (v : A) → slice_get xs k ≡ Some v → slice_get (xs ++ ys) k ≡ Some v
-slice_get_front [] ys k v h = absurd (cc)
-slice_get_front (x ∷ xs) ys zero v h = h
-slice_get_front (x ∷ xs) ys (suc k) v h = slice_get_front xs ys k v h
+use Rattle.lists.specs.Places.{slice_get_front, slice_get_seam}
 
 module _ {C O : Type 0} where
   later : (done more : List (RaftInput C × O)) (client request : ℕ) (output : O) → IsExecution done client request output → IsExecution (done ++ more) client request output

@@ -11,10 +11,7 @@ use Rattle.vst_base.specs.declared.entry.Entry.{Entry}
 use Rattle.raft_clients.specs.Executed.{exceeds, executed, executed_after, executed_entries, executed_places, is_executed}
 use Rattle.raft_clients.specs.Requests.{request_of, requests}
 use Rattle.raft_types.specs.declared.client.RaftInput.{RaftInput}
-
-pub slice_get_seam : {A : Type 0} (xs : List A) (y : A) (ys : List A) → slice_get (xs ++ y ∷ ys) (length xs) ≡ Some y
-slice_get_seam [] y ys = refl
-slice_get_seam (x ∷ xs) y ys = slice_get_seam xs y ys
+use Rattle.lists.specs.Places.{slice_get_seam}
 
 and_front : (a b : Bool) → (a && b) ≡ true → a ≡ true
 and_front true b h = refl

@@ -3,24 +3,24 @@ use Rattle.std.proofs.Common.{◌≡◌, ℕ, ◌<◌, ◌≤◌, Some, List, []
 use Rattle.std.proofs.lemmas.Bool.{eq-eqb}
 use Rattle.vst_base.specs.declared.entry.Entry.{Entry}
 use Rattle.raft_histories.specs.Histories.{Election, History, IsCommitted, IsSoundHistory}
-use Rattle.raft_histories.specs.Prefixes.{Front}
 use Rattle.raft_histories.proofs.Completing.{committed_in_candidacy}
 use Rattle.raft_histories.proofs.Growing.{committed_grow}
-use Rattle.raft_histories.proofs.Logs.{front_length, front_same, same_less, same_sym, same_trans}
+use Rattle.raft_histories.proofs.Logs.{front_same, same_less, same_sym, same_trans}
 use Rattle.raft_free.specs.Events.{Commit, Event, effect}
 use Rattle.raft_free.specs.Nodes.{FreeWorld}
 use Rattle.raft_free.specs.Runs.{Run}
 use Rattle.raft_free.specs.Safety.{CommittedKept, CommittedKeptBefore, Has, LeaderCompleteness, LeaderCompletenessBefore}
 use Rattle.raft_free.proofs.Running.{both}
+use Rattle.lists.specs.Prefixes.{IsPrefix, prefix_length}
 
 -- the first log of a leader of a greater term has it, and so the log that it has become
 leader_has : {C : Type 0} {m : ℕ} {g : History C} (x : List (Entry C)) (k : ℕ) {c t : ℕ} → IsSoundHistory m g → k ≤ c →
-    IsCommitted m g x c t → (u j : ℕ) → g.leader u ≡ Some j → t < u → (its log : List (Entry C)) → g.candidacy u j ≡ Some its → Front its log → Has log k x
+    IsCommitted m g x c t → (u j : ℕ) → g.leader u ≡ Some j → t < u → (its log : List (Entry C)) → g.candidacy u j ≡ Some its → IsPrefix its log → Has log k x
 leader_has x k ok le (inl e) u j ch lt its log b f = let z : k ≡ 0 = omega arith in rw z (omega arith, refl)
 leader_has x k ok le (inr s) u j ch lt its log b f =
     let r = committed_in_candidacy ok s u j ch lt its b in
-    let h = front_length f in
-    (omega (arith, r.0), (same_less k le (same_trans (same_sym (front_same _ r.0 f)) r.1)).eq)
+    let h = prefix_length _ f in
+    (omega (arith, r.0), (same_less k le (same_trans (same_sym (front_same _ _ r.0 f)) r.1)).eq)
 
 pub committed_kept : (C : Type 0) → CommittedKept C
 committed_kept C n v w i j k t le lw lt =

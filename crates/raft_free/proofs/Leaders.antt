@@ -1,9 +1,7 @@
 -- One leader in a term, whose log only grows, and from which all logs descend.
-use Rattle.std.proofs.Common.{length, drop}
-use Rattle.raft_histories.specs.Prefixes.{Agree, Front}
+use Rattle.raft_histories.specs.Prefixes.{Agree}
 use Rattle.raft_histories.proofs.Completing.{agree}
 use Rattle.raft_histories.proofs.Growing.{descends_grow}
-use Rattle.raft_histories.proofs.Logs.{front_rest}
 use Rattle.raft_free.specs.Safety.{ElectionSafety, LeaderAppendOnly, LogMatching}
 use Rattle.raft_free.proofs.Running.{both}
 
@@ -19,8 +17,7 @@ leader_append_only C n v w i t lv lw e =
     let b = both t in
     let p = (b.first.node i).leads lv in
     let q = (b.second.node i).leads lw in
-    let f : Front (v.node i).log (w.node i).log = rw (p.own, q.own, ← e) (b.grows.leader_log (v.node i).term) in
-    (drop (length (v.node i).log) (w.node i).log, front_rest f)
+    rw (p.own, q.own, ← e) (b.grows.leader_log (v.node i).term)
 
 pub log_matching : (C : Type 0) → LogMatching C
 log_matching C n v w i j k t p q e =

@@ -9,12 +9,12 @@ use Rattle.raft_histories.proofs.Acking.{acked, acked_at, follower_took, own_com
 use Rattle.raft_histories.proofs.Bookkeeping.{Leads, Noted, Replicated}
 use Rattle.raft_histories.proofs.Growing.{committed_front, committed_grow}
 use Rattle.raft_histories.proofs.Leading.{proposed, proposed_leads, proposed_noted}
-use Rattle.raft_histories.proofs.Logs.{front_append}
 use Rattle.raft_free.specs.Events.{Accept, Allowed, Commit, Propose, becomes}
 use Rattle.raft_free.specs.Nodes.{FreeWorld, NodeState}
 use Rattle.raft_free.proofs.Quiet.{follower_sound}
 use Rattle.raft_free.proofs.Sound.{IsSoundNode, IsSoundWorld}
 use Rattle.raft_free.proofs.Stepping.{Next, next, say_none, say_one}
+use Rattle.lists.specs.Prefixes.{prefix_append}
 
 pub propose : {C : Type 0} {m : ℕ} {w : FreeWorld C} {g : History C} (i : ℕ) (e : Entry C) → IsSoundWorld m w g →
     Allowed m w.sent (w.node i) (Propose i e) → Next m w (Propose i e) g
@@ -43,7 +43,7 @@ propose {C = C} {m = m} {w = w} {g = g} i e sound ok = next (Propose i e) h soun
       kept = noted.kept;
       leads = λ r. proposed_leads g i x.term x.log x.matched e l;
       stands = λ r. absurd (cc (ok.1));
-      committed = committed_front x.log new (front_append x.log (e ∷ [])) (committed_grow x.log noted.grows x.term (omega arith) nk.committed);
+      committed = committed_front x.log new (prefix_append x.log (e ∷ [])) (committed_grow x.log noted.grows x.term (omega arith) nk.committed);
       applied = nk.applied;
     }
 

@@ -2,7 +2,6 @@
 use Rattle.std.proofs.Common.{ℕ, None, List, [], ◌∷◌, inl, refl, arith}
 use Rattle.raft_histories.specs.Histories.{History, empty_history}
 use Rattle.raft_histories.proofs.Bookkeeping.{Grows, IsSoundKept}
-use Rattle.raft_histories.proofs.Logs.{front_trans}
 use Rattle.raft_histories.proofs.Worked.{empty_is_sound}
 use Rattle.raft_free.specs.Events.{Accept, Allowed, Apply, Ask, Commit, Count, Crash, Event, Grant, Lead, Learn, Match, Propose, Reboot, Refuse, Replicate, StepDown, Timeout, actor}
 use Rattle.raft_free.specs.Nodes.{FreeWorld, first_node, first_world}
@@ -12,6 +11,7 @@ use Rattle.raft_free.proofs.Quiet.{apply, ask, counted, crash, follower_sound, l
 use Rattle.raft_free.proofs.Replicating.{accepts, commits, propose}
 use Rattle.raft_free.proofs.Sound.{IsSoundWorld}
 use Rattle.raft_free.proofs.Stepping.{Next, grows_self}
+use Rattle.lists.specs.Prefixes.{prefix_trans}
 
 pub step : {C : Type 0} {m : ℕ} {w : FreeWorld C} {g : History C} (e : Event C) → IsSoundWorld m w g → Allowed m w.sent (w.node (actor e)) e → Next m w e g
 step (Timeout i) sound ok = timeout i sound ok
@@ -34,7 +34,7 @@ step (Reboot i commit applied) sound ok = reboot i commit applied sound ok
 grows_trans : {C : Type 0} {g h k : History C} → Grows g h → Grows h k → Grows g k
 grows_trans p q =
     record {
-      leader_log = λ u. front_trans (p.leader_log u) (q.leader_log u);
+      leader_log = λ u. prefix_trans _ (p.leader_log u) (q.leader_log u);
       candidacy = λ u c l e. q.candidacy u c l (p.candidacy u c l e);
       leader = λ u c e. q.leader u c (p.leader u c e);
       vote = λ u v c e. q.vote u v c (p.vote u v c e);

@@ -4,14 +4,14 @@ use Rattle.std.proofs.lemmas.Bool.Decides.{eqb_tells}
 use Rattle.vst_base.specs.declared.entry.Entry.{Entry}
 use Rattle.raft_histories.specs.Histories.{History}
 use Rattle.raft_histories.proofs.Bookkeeping.{Aside, Grows, Noted}
-use Rattle.raft_histories.proofs.Logs.{front_self}
 use Rattle.raft_free.specs.Events.{Event, In, actor, becomes, effect, put, says}
 use Rattle.raft_free.specs.Nodes.{FreeWorld, NodeState, Packet}
 use Rattle.raft_free.proofs.Sound.{IsSoundNode, IsSoundWorld, Told, node_grow, told_grow}
+use Rattle.lists.specs.Prefixes.{prefix_self}
 
 pub grows_self : {C : Type 0} (g : History C) → Grows g g
 grows_self g =
-    record { leader_log = λ u. front_self (g.leader_log u); candidacy = λ u c log e. e; leader = λ u c e. e; vote = λ u v c e. e; acked = λ u v. omega arith; frozen = λ u v c t e lt. omega arith }
+    record { leader_log = λ u. prefix_self (g.leader_log u); candidacy = λ u c log e. e; leader = λ u c e. e; vote = λ u v c e. e; acked = λ u v. omega arith; frozen = λ u v c t e lt. omega arith }
 
 aside_self : {C : Type 0} (j : ℕ) (g : History C) → Aside j g g
 aside_self j g = record { apart = record { acked = λ t. omega arith; vote = λ u c e. e; candidacy = λ u log e. e }; leader = λ u e. e; leader_log = λ u e. refl }

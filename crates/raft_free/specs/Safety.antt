@@ -1,11 +1,12 @@
 -- The safety of Raft with free choices (the Raft paper, Figure 3), over every run and any two moments of it.
-use Rattle.std.specs.Prelude.{◌≡◌, ◌≢◌, ℕ, ◌<◌, ◌≤◌, List, [], ◌∷◌, ◌++◌, length, take, IsFalse, IsTrue}
+use Rattle.std.specs.Prelude.{◌≡◌, ◌≢◌, ℕ, ◌<◌, ◌≤◌, List, [], ◌∷◌, length, take, IsFalse, IsTrue}
 use Rattle.vst_base.specs.declared.entry.Entry.{Entry}
 use Rattle.vst_base.specs.declared.what.What.TheVariants.{Request}
 use Rattle.vst_base.specs.Logs.{has_conflict, matches, term_at}
 use Rattle.raft_free.specs.Nodes.{Append, FreeWorld, Leader, first_world}
 use Rattle.raft_free.specs.Events.{Allowed, Comes, Commit, Event, In, Propose, effect}
 use Rattle.raft_free.specs.Runs.{Moments, Reached, Run}
+use Rattle.lists.specs.Prefixes.{IsPrefix}
 
 -- a log has the first k entries of another
 abbrev pub Has : {C : Type 0} → List (Entry C) → ℕ → List (Entry C) → Type 0
@@ -22,7 +23,7 @@ abbrev pub LeaderAppendOnly : Type 0 → Type 0
 LeaderAppendOnly C =
     (nodes : ℕ) (v w : FreeWorld C) (i : ℕ) → Moments C nodes v w →
     (v.node i).role ≡ Leader → (w.node i).role ≡ Leader → (v.node i).term ≡ (w.node i).term →
-    (rest : List (Entry C)) × ((v.node i).log ++ rest ≡ (w.node i).log)
+    IsPrefix (v.node i).log (w.node i).log
 
 -- logs with equal terms at an index agree up to it
 abbrev pub LogMatching : Type 0 → Type 0

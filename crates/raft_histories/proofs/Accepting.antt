@@ -5,8 +5,9 @@ use Rattle.std.proofs.lemmas.Bool.{and_parts, false≢true, leb-true}
 use Rattle.vst_base.specs.declared.entry.Entry.{Entry}
 use Rattle.vst_base.specs.Logs.{accepted, matches, merged, term_at}
 use Rattle.raft_histories.specs.Claims.{AcceptedIsTaken}
-use Rattle.raft_histories.specs.Prefixes.{Agree, Follows, Front, Same, Took}
-use Rattle.raft_histories.proofs.Logs.{front_append, front_length, front_nil, same_append, same_less, same_refl, same_sym, same_take, same_trans, term_append_in}
+use Rattle.raft_histories.specs.Prefixes.{Agree, Follows, Same, Took}
+use Rattle.raft_histories.proofs.Logs.{prefix_same, same_append, same_less, same_prefix, same_refl, same_sym, same_take, same_trans, term_append_in}
+use Rattle.lists.specs.Prefixes.{IsPrefix, prefix_append, prefix_length, prefix_nil}
 
 same_tail : {A : Type 0} (n : ℕ) (x y : A) (l m : List A) → Same (suc n) (x ∷ l) (y ∷ m) → Same n l m
 same_tail n x y l m s = record { eq = cc (s.eq) }
@@ -31,25 +32,25 @@ agree_front l m r a =
           same_trans (a.at n h (omega (arith, length-append m r)) (e ∙ sym (term_append_in m r n k))) (same_sym (same_append n m r k));
     }
 
-merged_cases : {C : Type 0} (old new : List (Entry C)) → Agree old new → (merged old new ≡ new) ⊎ ((merged old new ≡ old) × Front new old)
-merged_cases old [] a = inr (refl, front_nil old)
+merged_cases : {C : Type 0} (old new : List (Entry C)) → Agree old new → (merged old new ≡ new) ⊎ ((merged old new ≡ old) × IsPrefix new old)
+merged_cases old [] a = inr (refl, prefix_nil old)
 merged_cases [] (e ∷ es) a = inl refl
 merged_cases (o ∷ os) (e ∷ es) a = go (eqb o.term e.term) refl (merged_cases os es (agree_tail o e os es a))
   where
-    go : (b : Bool) → eqb o.term e.term ≡ b → (merged os es ≡ es) ⊎ ((merged os es ≡ os) × Front es os) →
-        (cond b (o ∷ merged os es) (e ∷ es) ≡ e ∷ es) ⊎ ((cond b (o ∷ merged os es) (e ∷ es) ≡ o ∷ os) × Front (e ∷ es) (o ∷ os))
+    go : (b : Bool) → eqb o.term e.term ≡ b → (merged os es ≡ es) ⊎ ((merged os es ≡ os) × IsPrefix es os) →
+        (cond b (o ∷ merged os es) (e ∷ es) ≡ e ∷ es) ⊎ ((cond b (o ∷ merged os es) (e ∷ es) ≡ o ∷ os) × IsPrefix (e ∷ es) (o ∷ os))
     go false t r = inl refl
     go true t r =
         let same : o ≡ e = same_head 0 o e os es (a.at 1 (omega arith) (omega arith) (eqb-true _ _ t)) in
-        elim r [ inl p ↦ inl (cc (p)) | inr p ↦ inr (cc (p.0), record { same = same_cons _ e o es os (sym same) p.1.same }) ]
+        elim r [ inl p ↦ inl (cc (p)) | inr p ↦ inr (cc (p.0), prefix_same (same_cons _ e o es os (sym same) (same_prefix _ p.1))) ]
 
-merged_same : {C : Type 0} (old new : List (Entry C)) → Front new old → merged old new ≡ old
+merged_same : {C : Type 0} (old new : List (Entry C)) → IsPrefix new old → merged old new ≡ old
 merged_same old [] f = refl
-merged_same [] (e ∷ es) f = absurd (let h = front_length f in omega arith)
-merged_same {C = C} (o ∷ os) (e ∷ es) f = go (eqb o.term e.term) refl (merged_same os es (record { same = same_tail _ e o es os f.same }))
+merged_same [] (e ∷ es) f = absurd (let h = prefix_length [] f in omega arith)
+merged_same {C = C} (o ∷ os) (e ∷ es) f = go (eqb o.term e.term) refl (merged_same os es (prefix_same (same_tail _ e o es os (same_prefix _ f))))
   where
     same : e ≡ o
-    same = same_head _ e o es os f.same
+    same = same_head _ e o es os (same_prefix _ f)
 
     go : (b : Bool) → eqb o.term e.term ≡ b → merged os es ≡ os → cond b (o ∷ merged os es) (e ∷ es) ≡ o ∷ os
     go true t rest = ap (λ r. o ∷ r) rest
@@ -62,7 +63,7 @@ accepted_cases : {C : Type 0} (x front es rest : List (Entry C)) → length fron
 accepted_cases x [] es rest h s a =
     elim (merged_cases x es (agree_front x es rest a)) [
       | inl p ↦ inr p
-      | inr p ↦ inl (p.0, same_less _ (omega arith) (same_trans (same_sym p.1.same) (front_append es rest).same))
+      | inr p ↦ inl (p.0, same_less _ (omega arith) (same_trans (same_sym (same_prefix _ p.1)) (same_prefix _ (prefix_append es rest))))
     ]
 accepted_cases [] (f ∷ fs) es rest h s a = absurd (omega arith)
 accepted_cases (x ∷ xs) (f ∷ fs) es rest h s a =
@@ -75,7 +76,7 @@ accepted_cases (x ∷ xs) (f ∷ fs) es rest h s a =
 accepted_same : {C : Type 0} (x front es rest : List (Entry C)) → length front ≤ length x → Same (length front + length es) x (front ++ (es ++ rest)) →
     take (length front) x ++ merged (drop (length front) x) es ≡ x
 accepted_same x [] es rest h s =
-    merged_same x es (record { same = same_trans (front_append es rest).same (same_sym (same_less (length es) (omega arith) s)) })
+    merged_same x es (prefix_same (same_trans (same_prefix _ (prefix_append es rest)) (same_sym (same_less (length es) (omega arith) s))))
 accepted_same [] (f ∷ fs) es rest h s = absurd (omega arith)
 accepted_same (x ∷ xs) (f ∷ fs) es rest h s =
     let t : Same (suc (length fs + length es)) (x ∷ xs) (f ∷ (fs ++ (es ++ rest))) = same_less _ (omega arith) s in

@@ -13,8 +13,9 @@ use Rattle.raft_histories.proofs.Accepting.{took}
 use Rattle.raft_histories.proofs.Bookkeeping.{Aside, Grows, IsSoundKept, Leads, Noted, Replicated}
 use Rattle.raft_histories.proofs.Completing.{agree, committed_leader}
 use Rattle.raft_histories.proofs.Growing.{candidacy_grow, cast_grow, committed_less, descends_grow, election_grow, has_or_lost_grow}
-use Rattle.raft_histories.proofs.Logs.{front_self, front_term, same_length, same_less, same_refl, same_take, same_term, same_trans, term_in}
+use Rattle.raft_histories.proofs.Logs.{front_term, same_length, same_less, same_refl, same_take, same_term, same_trans, term_in}
 use Rattle.raft_histories.proofs.Putting.{put2, put2_at, put2_cases, with_node_cases}
+use Rattle.lists.specs.Prefixes.{prefix_self}
 
 -- the history when the node i has had q entries of the leader of the term t, or more
 abbrev pub acked : {C : Type 0} → History C → ℕ → ℕ → ℕ → History C
@@ -26,7 +27,7 @@ acked_at g t i q = put2_at g.acked t i (max (g.acked t i) q)
 acked_grows : {C : Type 0} (g : History C) (i t q : ℕ) (voted : Option ℕ) (log : List (Entry C)) → IsSoundKept g i t voted log → Grows g (acked g t i q)
 acked_grows g i t q voted log k =
     record {
-      leader_log = λ u. front_self (g.leader_log u);
+      leader_log = λ u. prefix_self (g.leader_log u);
       candidacy = λ u c l e. e;
       leader = λ u c e. e;
       vote = λ u v c e. e;
@@ -199,7 +200,7 @@ taken_noted {C = C} {m = m} g i l t q voted log new ok k lead tk = acked_noted g
     earlier u n lt pos (inr s) = inr s
     earlier u n lt pos (inl e) =
         elim (eqb_tells (term_at el.log n) u) [
-          | inl c ↦ inl (stays u n pos e (sym (front_term n (term_in el.log n (omega (arith, c.1))) el.front) ∙ c.1))
+          | inl c ↦ inl (stays u n pos e (sym (front_term _ n (term_in el.log n (omega (arith, c.1))) el.front) ∙ c.1))
           | inr c ↦ inr (record { by = t; who = l; log = el.log; above = lt; below = omega arith; leader = lead; candidacy = el.candidacy; lacks = c.1 })
         ]
 

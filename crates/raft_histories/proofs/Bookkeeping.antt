@@ -3,7 +3,8 @@ use Rattle.std.proofs.Common.{◌≡◌, ◌≢◌, ℕ, suc, ◌<◌, ◌≤◌
 use Rattle.vst_base.specs.declared.entry.Entry.{Entry}
 use Rattle.vst_base.specs.Logs.{last_term, term_at}
 use Rattle.raft_histories.specs.Histories.{Acked, Descends, HasOrLost, History, IsCommitted, IsSoundHistory}
-use Rattle.raft_histories.specs.Prefixes.{Follows, Front}
+use Rattle.raft_histories.specs.Prefixes.{Follows}
+use Rattle.lists.specs.Prefixes.{IsPrefix}
 
 -- the node v has voted for the candidate c of the term u, whose log had all that v had had by then
 pub record Cast {C : Type 0} (g : History C) (u v c : ℕ) : Type 0 where
@@ -55,7 +56,7 @@ pub record Replicated {C : Type 0} (nodes : ℕ) (g : History C) (l i u prev pre
 -- what was noted stays noted: logs of leaders grow at their ends, and who has voted in a term acknowledges no
 -- more of an earlier one
 pub record Grows {C : Type 0} (g h : History C) : Type 0 where
-  pub leader_log : (u : ℕ) → Front (g.leader_log u) (h.leader_log u)
+  pub leader_log : (u : ℕ) → IsPrefix (g.leader_log u) (h.leader_log u)
   pub candidacy : (u c : ℕ) (log : List (Entry C)) → g.candidacy u c ≡ Some log → h.candidacy u c ≡ Some log
   pub leader : (u c : ℕ) → g.leader u ≡ Some c → h.leader u ≡ Some c
   pub vote : (u v c : ℕ) → g.vote u v ≡ Some c → h.vote u v ≡ Some c

@@ -47,7 +47,7 @@ majority_in_later : {C : Type 0} {m : ℕ} {g : History C} {t n : ℕ} → IsSou
 majority_in_later {m = m} {g = g} {t = t} {n = n} ok s u c ch lt =
     let el : Election m g u c = ok.elections u c ch in
     let b = majority_in_candidacy ok s u c ch lt el.log el.candidacy in
-    same_trans (same_sym (front_same n b.0 el.front)) b.1
+    same_trans (same_sym (front_same _ n b.0 el.front)) b.1
 
 record Elected {C : Type 0} (g : History C) (u : ℕ) : Type 0 where
   who : ℕ
@@ -126,7 +126,7 @@ of_a_later_term {C = C} {m = m} {g = g} {t = t} {its = its} ok b x u n lt ex mor
     short_at : (length its ≤ length el.log) ⊎ (length el.log < length its) → length el.log < length its
     short_at (inr l) = l
     short_at (inl l) =
-        absurd (let h = started.terms (length its) in let k = front_term (length its) l el.front in let j = same_term (length its) (omega arith) ours in omega arith)
+        absurd (let h = started.terms (length its) in let k = front_term _ (length its) l el.front in let j = same_term (length its) (omega arith) ours in omega arith)
 
     short : length el.log < length its
     short = short_at (grind arith)
@@ -134,7 +134,7 @@ of_a_later_term {C = C} {m = m} {g = g} {t = t} {its = its} ok b x u n lt ex mor
     go : ((eqb (term_at el.log n) u ≡ true) × (term_at el.log n ≡ u)) ⊎ ((eqb (term_at el.log n) u ≡ false) × (term_at el.log n ≢ u)) → HasOrLost g its u n (suc t)
     go (inl h) =
         let fits : n ≤ length el.log = term_in el.log n (omega (arith, h.1)) in
-        inl (same_term n (omega (arith, short)) ours ∙ (sym (front_term n fits el.front) ∙ h.1))
+        inl (same_term n (omega (arith, short)) ours ∙ (sym (front_term _ n fits el.front) ∙ h.1))
     go (inr h) =
         let below = b.terms (length its) in
         inr (record { by = x; who = who.who; log = el.log; above = more; below = omega arith; leader = who.leader; candidacy = el.candidacy; lacks = h.1 })

@@ -3,19 +3,20 @@ use Rattle.std.proofs.Common.{ℕ, suc, ◌<◌, ◌≤◌, Option, List, ◌++�
 use Rattle.vst_base.specs.declared.entry.Entry.{Entry}
 use Rattle.vst_base.specs.Logs.{term_at}
 use Rattle.raft_histories.specs.Histories.{Acked, CommittedBy, Descends, Election, HasOrLost, History, IsCandidacy, IsCommitted, IsSoundHistory, Lost, OnMajority}
-use Rattle.raft_histories.specs.Prefixes.{Follows, Front}
+use Rattle.raft_histories.specs.Prefixes.{Follows}
 use Rattle.raft_histories.proofs.Accepting.{follows_fits}
 use Rattle.raft_histories.proofs.Bookkeeping.{Apart, Cast, Grows, IsSoundKept}
-use Rattle.raft_histories.proofs.Logs.{front_rest, front_same, front_term, front_trans, same_length, same_less, same_sym, same_trans, term_in}
+use Rattle.raft_histories.proofs.Logs.{front_same, front_term, same_length, same_less, same_sym, same_trans, term_in}
+use Rattle.lists.specs.Prefixes.{IsPrefix, prefix_joined, prefix_trans}
 
 pub descends_grow : {C : Type 0} {g h : History C} {log : List (Entry C)} → Grows g h → Descends g log → Descends h log
 descends_grow {log = log} gr d =
-    record { at = λ n le. let s = d.at n le in same_trans s (front_same n (same_length s le) (gr.leader_log (term_at log n))) }
+    record { at = λ n le. let s = d.at n le in same_trans s (front_same _ n (same_length s le) (gr.leader_log (term_at log n))) }
 
 pub acked_back : {C : Type 0} {m : ℕ} {g h : History C} {t j n : ℕ} → IsSoundHistory m g → Grows g h → h.acked t j ≤ g.acked t j → Acked h t j n → Acked g t j n
 acked_back {g = g} {t = t} {j = j} {n = n} ok gr le a =
     let in_reach : n ≤ length (g.leader_log t) = omega (arith, a.reach, ok.reach t j) in
-    record { pos = a.pos; reach = omega (arith, a.reach); has = front_term n in_reach (gr.leader_log t) ∙ a.has }
+    record { pos = a.pos; reach = omega (arith, a.reach); has = front_term _ n in_reach (gr.leader_log t) ∙ a.has }
 
 pub lost_grow : {C : Type 0} {g h : History C} {t n u : ℕ} → Grows g h → (v : ℕ) → u ≤ v → Lost g t n u → Lost h t n v
 lost_grow gr v le l =
@@ -32,7 +33,7 @@ pub majority_grow : {C : Type 0} {m : ℕ} {g h : History C} {t n : ℕ} → Gro
 majority_grow {g = g} {h = h} {t = t} {n = n} gr s =
     record {
       pos = s.pos;
-      has = sym (front_term n (majority_in s) (gr.leader_log t)) ∙ s.has;
+      has = sym (front_term _ n (majority_in s) (gr.leader_log t)) ∙ s.has;
       quorum = s.quorum;
       most = s.most;
       held = λ v e. let a = s.held v e in let b = gr.acked t v in omega arith;
@@ -47,7 +48,7 @@ committed_by_grow gr v le s =
       le = omega (arith, s.le);
       upto = s.upto;
       on_majority = majority_grow gr s.on_majority;
-      same = same_trans s.same (front_same _ (let a = majority_in s.on_majority in let b = s.upto in omega arith) (gr.leader_log s.by));
+      same = same_trans s.same (front_same _ _ (let a = majority_in s.on_majority in let b = s.upto in omega arith) (gr.leader_log s.by));
     }
 
 pub committed_grow : {C : Type 0} {m : ℕ} {g h : History C} (log : List (Entry C)) {k u : ℕ} → Grows g h → (v : ℕ) → u ≤ v →
@@ -55,11 +56,11 @@ pub committed_grow : {C : Type 0} {m : ℕ} {g h : History C} (log : List (Entry
 committed_grow log gr v le (inl e) = inl e
 committed_grow log gr v le (inr s) = inr (committed_by_grow gr v le s)
 
-pub committed_front : {C : Type 0} {m : ℕ} {g : History C} (log new : List (Entry C)) {k u : ℕ} → Front log new → IsCommitted m g log k u → IsCommitted m g new k u
+pub committed_front : {C : Type 0} {m : ℕ} {g : History C} (log new : List (Entry C)) {k u : ℕ} → IsPrefix log new → IsCommitted m g log k u → IsCommitted m g new k u
 committed_front log new fr (inl e) = inl e
 committed_front log new {k = k} fr (inr s) =
     let fits : k ≤ length log = same_length (same_sym s.same) (let a = majority_in s.on_majority in let b = s.upto in omega arith) in
-    inr (record { by = s.by; index = s.index; le = s.le; upto = s.upto; on_majority = s.on_majority; same = same_trans (same_sym (front_same k fits fr)) s.same })
+    inr (record { by = s.by; index = s.index; le = s.le; upto = s.upto; on_majority = s.on_majority; same = same_trans (same_sym (front_same _ k fits fr)) s.same })
 
 pub committed_fits : {C : Type 0} {m : ℕ} {g : History C} (log : List (Entry C)) {k u : ℕ} → IsCommitted m g log k u → k ≤ length log
 committed_fits log (inl e) = omega arith
@@ -82,22 +83,22 @@ election_grow {u = u} {c = c} ok gr x =
     record {
       log = x.log;
       candidacy = gr.candidacy u c x.log x.candidacy;
-      front = front_trans x.front (gr.leader_log u);
+      front = prefix_trans _ x.front (gr.leader_log u);
       quorum = x.quorum;
       most = x.most;
       voted = λ v e. gr.vote u v c (x.voted v e);
       kept = λ v e t n lt a. has_or_lost_grow x.log gr u (omega arith) (x.kept v e t n lt (acked_back ok gr (gr.frozen u v c t (x.voted v e) lt) a));
     }
 
-pub follows_grow : {C : Type 0} {y z : List (Entry C)} {prev prev_t : ℕ} {es : List (Entry C)} → Front y z → Follows y prev prev_t es → Follows z prev prev_t es
+pub follows_grow : {C : Type 0} {y z : List (Entry C)} {prev prev_t : ℕ} {es : List (Entry C)} → IsPrefix y z → Follows y prev prev_t es → Follows z prev prev_t es
 follows_grow {y = y} {z = z} {prev = prev} {prev_t = prev_t} {es = es} fr f =
     record {
       front = f.front;
       rest = f.rest ++ drop (length y) z;
       whole = ap (λ r. f.front ++ r) (sym (append_assoc es f.rest (drop (length y) z)))
-          ∙ (sym (append_assoc f.front (es ++ f.rest) (drop (length y) z)) ∙ (ap (λ r. r ++ drop (length y) z) f.whole ∙ front_rest fr));
+          ∙ (sym (append_assoc f.front (es ++ f.rest) (drop (length y) z)) ∙ (ap (λ r. r ++ drop (length y) z) f.whole ∙ prefix_joined fr));
       at = f.at;
-      term = sym (front_term prev (let a = follows_fits y prev prev_t es f in omega arith) fr) ∙ f.term;
+      term = sym (front_term _ prev (let a = follows_fits y prev prev_t es f in omega arith) fr) ∙ f.term;
     }
 
 pub kept_grow : {C : Type 0} {m : ℕ} {g h : History C} {j term : ℕ} {voted : Option ℕ} {log : List (Entry C)} → IsSoundHistory m g → Grows g h → Apart j g h →

@@ -8,8 +8,9 @@ use Rattle.raft_histories.specs.Histories.{Acked, Descends, Election, HasOrLost,
 use Rattle.raft_histories.specs.Prefixes.{Same}
 use Rattle.raft_histories.proofs.Bookkeeping.{Apart, Aside, Cast, Grows, IsSoundKept, Leads, Noted, Stands}
 use Rattle.raft_histories.proofs.Growing.{acked_back, candidacy_grow, cast_grow, descends_grow, election_grow, has_or_lost_grow, kept_grow}
-use Rattle.raft_histories.proofs.Logs.{front_append, front_length, front_nil, front_self, same_append, same_refl, same_sym, same_trans, term_append_end, term_append_in, term_append_one, term_in}
+use Rattle.raft_histories.proofs.Logs.{same_append, same_refl, same_sym, same_trans, term_append_end, term_append_in, term_append_one, term_in}
 use Rattle.raft_histories.proofs.Putting.{put1, put1_at, put1_cases}
+use Rattle.lists.specs.Prefixes.{prefix_append, prefix_length, prefix_self}
 
 -- the history when the node i becomes the leader of the term t with this log
 abbrev pub led : {C : Type 0} → History C → ℕ → ℕ → List (Entry C) → History C
@@ -18,7 +19,7 @@ led g t i log = record g { leader = put1 g.leader t (Some i); leader_log = put1 
 led_grows : {C : Type 0} {m : ℕ} (g : History C) (i t : ℕ) (log : List (Entry C)) → IsSoundHistory m g → g.leader t ≡ None → Grows g (led g t i log)
 led_grows g i t log ok none =
     record {
-      leader_log = λ u. elim (put1_cases g.leader_log t log u) [ inl h ↦ rw (h.0, ok.none t none) (front_nil _) | inr h ↦ rw (h.1) (front_self (g.leader_log u)) ];
+      leader_log = λ u. elim (put1_cases g.leader_log t log u) [ inl h ↦ rw (h.0, ok.none t none) refl | inr h ↦ rw (h.1) (prefix_self (g.leader_log u)) ];
       candidacy = λ u c l e. e;
       leader = λ u c e. elim (put1_cases g.leader t (Some i) u) [ inl h ↦ absurd (cc (none, rw (h.0) at e)) | inr h ↦ h.1 ∙ e ];
       vote = λ u v c e. e;
@@ -71,7 +72,7 @@ led_noted {C = C} {m = m} g i t voted log votes ok k s most casts = record { pas
     election = record {
       log = log;
       candidacy = s.candidacy;
-      front = rw (put1_at g.leader_log t log) (front_self log);
+      front = rw (put1_at g.leader_log t log) (prefix_self log);
       quorum = votes;
       most = most;
       voted = s.cast;
@@ -86,7 +87,7 @@ led_noted {C = C} {m = m} g i t voted log votes ok k s most casts = record { pas
         | inl q ↦ absurd (cc (q.1, e))
         | inr q ↦ elim (put1_cases g.leader_log t log u) [ inl r ↦ absurd (q.0 r.0) | inr r ↦ r.1 ∙ ok.none u (sym q.1 ∙ e) ]
       ];
-      reach = λ u v. let a = ok.reach u v in let b = front_length (gr.leader_log u) in omega arith;
+      reach = λ u v. let a = ok.reach u v in let b = prefix_length _ (gr.leader_log u) in omega arith;
       candidacies = λ u c l e. candidacy_grow gr (ok.candidacies u c l e);
       elections = λ u c e. elim (put1_cases g.leader t (Some i) u)
           [ inl q ↦ (let same : i ≡ c = cc (q.1, e) in rw (q.0, ← same) election) | inr q ↦ election_grow ok gr (ok.elections u c (sym q.1 ∙ e)) ];
@@ -124,7 +125,7 @@ terms_append log e t et terms n = elim (term_append_one log e n) [ inl q ↦ (le
 proposed_grows : {C : Type 0} (g : History C) (t : ℕ) (log : List (Entry C)) (e : Entry C) → log ≡ g.leader_log t → Grows g (proposed g t (log ++ e ∷ []))
 proposed_grows g t log e own =
     record {
-      leader_log = λ u. elim (put1_cases g.leader_log t (log ++ e ∷ []) u) [ inl q ↦ rw (q.1, q.0, ← own) (front_append log (e ∷ [])) | inr q ↦ rw (q.1) (front_self (g.leader_log u)) ];
+      leader_log = λ u. elim (put1_cases g.leader_log t (log ++ e ∷ []) u) [ inl q ↦ rw (q.1, q.0, ← own) (prefix_append log (e ∷ [])) | inr q ↦ rw (q.1) (prefix_self (g.leader_log u)) ];
       candidacy = λ u c l e. e;
       leader = λ u c e. e;
       vote = λ u v c e. e;
@@ -153,7 +154,7 @@ proposed_noted {C = C} {m = m} g i t voted log matched e ok k l et = record { pa
       descend = λ u. elim (put1_cases g.leader_log t new u) [ inl q ↦ rw (q.1) descend | inr q ↦ rw (q.1) (descends_grow gr (ok.descend u)) ];
       terms = λ u n. elim (put1_cases g.leader_log t new u) [ inl q ↦ rw (q.1, q.0) (terms_append log e t et k.terms n) | inr q ↦ rw (q.1) (ok.terms u n) ];
       none = λ u e. elim (put1_cases g.leader_log t new u) [ inl q ↦ absurd (cc (l.leader, rw (q.0) at e)) | inr q ↦ q.1 ∙ ok.none u e ];
-      reach = λ u v. let a = ok.reach u v in let b = front_length (gr.leader_log u) in omega arith;
+      reach = λ u v. let a = ok.reach u v in let b = prefix_length _ (gr.leader_log u) in omega arith;
       candidacies = λ u c l e. candidacy_grow gr (ok.candidacies u c l e);
       elections = λ u c e. election_grow ok gr (ok.elections u c e);
     }

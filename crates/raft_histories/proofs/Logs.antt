@@ -1,10 +1,11 @@
 -- Logs that agree up to an index, and the terms in them.
-use Rattle.std.proofs.Common.{◌≡◌, ℕ, zero, suc, ◌<◌, ◌≤◌, List, [], ◌∷◌, ◌++◌, length, take, drop, refl, sym, ap, ◌∙◌, arith, ◌⊎◌, inl, inr}
-use Rattle.std.proofs.lemmas.List.{take-append-drop}
+use Rattle.std.proofs.Common.{◌≡◌, ℕ, zero, suc, ◌<◌, ◌≤◌, List, [], ◌∷◌, ◌++◌, length, take, refl, sym, ap, ◌∙◌, arith, ◌⊎◌, inl, inr}
 use Rattle.std.proofs.Math.Seq.{take-length}
 use Rattle.vst_base.specs.declared.entry.Entry.{Entry}
 use Rattle.vst_base.specs.Logs.{term_at}
-use Rattle.raft_histories.specs.Prefixes.{Front, Same}
+use Rattle.raft_histories.specs.Prefixes.{Same}
+use Rattle.lists.specs.Places.{take_less}
+use Rattle.lists.specs.Prefixes.{IsPrefix}
 
 pub same_refl : {A : Type 0} (k : ℕ) (l : List A) → Same k l l
 same_refl k l = record { eq = refl }
@@ -14,12 +15,6 @@ same_sym s = record { eq = sym s.eq }
 
 pub same_trans : {A : Type 0} {k : ℕ} {l m o : List A} → Same k l m → Same k m o → Same k l o
 same_trans s t = record { eq = s.eq ∙ t.eq }
-
-take_less : {A : Type 0} (j k : ℕ) (l : List A) → j ≤ k → take j (take k l) ≡ take j l
-take_less zero k l h = refl
-take_less (suc j) zero l h = absurd (omega arith)
-take_less (suc j) (suc k) [] h = refl
-take_less (suc j) (suc k) (x ∷ xs) h = ap (λ ys. x ∷ ys) (take_less j k xs (omega arith))
 
 pub same_less : {A : Type 0} {k : ℕ} {l m : List A} (j : ℕ) → j ≤ k → Same k l m → Same j l m
 same_less {k = k} {l = l} {m = m} j h s = record { eq = sym (take_less j k l h) ∙ (ap (take j) s.eq ∙ take_less j k m h) }
@@ -80,27 +75,15 @@ term_append_one (x ∷ l) e zero = inl refl
 term_append_one (x ∷ l) e (suc zero) = inl refl
 term_append_one (x ∷ l) e (suc (suc n)) = term_append_one l e (suc n)
 
-pub front_self : {A : Type 0} (l : List A) → Front l l
-front_self l = record { same = same_refl _ l }
+-- a prefix is equal to the whole up to its end
+pub same_prefix : {A : Type 0} {l : List A} (m : List A) → IsPrefix l m → Same (length l) l m
+same_prefix {l = l} m f = record { eq = take-length l ∙ sym f }
 
-pub front_nil : {A : Type 0} (l : List A) → Front [] l
-front_nil l = record { same = record { eq = refl } }
+pub prefix_same : {A : Type 0} {l m : List A} → Same (length l) l m → IsPrefix l m
+prefix_same {l = l} s = sym s.eq ∙ take-length l
 
-pub front_append : {A : Type 0} (l m : List A) → Front l (l ++ m)
-front_append l m = record { same = same_append _ l m (omega arith) }
+pub front_same : {A : Type 0} {l : List A} (m : List A) (k : ℕ) → k ≤ length l → IsPrefix l m → Same k l m
+front_same m k h f = same_less k h (same_prefix m f)
 
-pub front_length : {A : Type 0} {l m : List A} → Front l m → length l ≤ length m
-front_length f = same_length f.same (omega arith)
-
-pub front_same : {A : Type 0} {l m : List A} (k : ℕ) → k ≤ length l → Front l m → Same k l m
-front_same k h f = same_less k h f.same
-
-pub front_trans : {A : Type 0} {l m o : List A} → Front l m → Front m o → Front l o
-front_trans f g = record { same = same_trans f.same (front_same _ (front_length f) g) }
-
-pub front_term : {C : Type 0} {l m : List (Entry C)} (n : ℕ) → n ≤ length l → Front l m → term_at l n ≡ term_at m n
-front_term n h f = same_term n h f.same
-
--- what stands after a front
-pub front_rest : {A : Type 0} {l m : List A} → Front l m → l ++ drop (length l) m ≡ m
-front_rest {l = l} {m = m} f = ap (λ r. r ++ drop (length l) m) (sym (take-length l) ∙ f.same.eq) ∙ take-append-drop (length l) m
+pub front_term : {C : Type 0} {l : List (Entry C)} (m : List (Entry C)) (n : ℕ) → n ≤ length l → IsPrefix l m → term_at l n ≡ term_at m n
+front_term m n h f = same_term n h (same_prefix m f)

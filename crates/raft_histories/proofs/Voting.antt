@@ -8,8 +8,8 @@ use Rattle.raft_histories.specs.Histories.{Acked, HasOrLost, History, IsCandidac
 use Rattle.raft_histories.proofs.Bookkeeping.{Aside, Asked, Cast, Grows, IsSoundKept, Noted, Stands, Voted}
 use Rattle.raft_histories.proofs.Completing.{up_to_date}
 use Rattle.raft_histories.proofs.Growing.{acked_back, candidacy_grow, cast_grow, descends_grow, election_grow, has_or_lost_grow}
-use Rattle.raft_histories.proofs.Logs.{front_self}
 use Rattle.raft_histories.proofs.Putting.{put2, put2_at, put2_cases, with_node_cases}
+use Rattle.lists.specs.Prefixes.{prefix_self}
 
 -- the history when the node i, of the term t and with this log, becomes a candidate
 abbrev pub stood : {C : Type 0} → History C → ℕ → ℕ → List (Entry C) → History C
@@ -18,7 +18,7 @@ stood g t i log = record g { candidacy = put2 g.candidacy (suc t) i (Some log); 
 stood_grows : {C : Type 0} (g : History C) (i t : ℕ) (voted : Option ℕ) (log : List (Entry C)) → IsSoundKept g i t voted log → Grows g (stood g t i log)
 stood_grows g i t voted log k =
     record {
-      leader_log = λ u. front_self (g.leader_log u);
+      leader_log = λ u. prefix_self (g.leader_log u);
       candidacy = λ u c l e. elim (put2_cases g.candidacy (suc t) i (Some log) u c)
           [ inl h ↦ absurd (let le = k.candidacies u l (rw (h.1) at e) in omega (arith, h.0)) | inr h ↦ h.1 ∙ e ];
       leader = λ u c e. e;
@@ -110,7 +110,7 @@ voted_grows : {C : Type 0} (g : History C) (i t c : ℕ) (voted : Option ℕ) (l
     is_free_for voted c ≡ true → Grows g (voted_for g t i c)
 voted_grows g i t c voted log k free =
     record {
-      leader_log = λ u. front_self (g.leader_log u);
+      leader_log = λ u. prefix_self (g.leader_log u);
       candidacy = λ u c l e. e;
       leader = λ u c e. e;
       vote = λ u v d e. elim (put2_cases g.vote t i (Some c) u v) [

@@ -11,7 +11,7 @@ use Rattle.raft_histories.specs.Histories.{Descends, Election, History, IsCandid
 use Rattle.raft_histories.specs.HistoryExamples.{EmptyIsSound, ItsEntryIsCommitted, NoGreaterTerm, OneElectionIsSound, OneHolderCommitsNothing, OneVoteElectsNobody, WhatAVoterHadIsKept, entry, forgotten, one, one_election, two}
 use Rattle.raft_histories.specs.Prefixes.{Same}
 use Rattle.raft_histories.proofs.Completing.{majority_is_kept}
-use Rattle.raft_histories.proofs.Logs.{front_nil, same_refl}
+use Rattle.raft_histories.proofs.Logs.{same_refl}
 
 pub empty_is_sound : (C : Type 0) → EmptyIsSound C
 empty_is_sound C nodes = record {
@@ -75,7 +75,7 @@ election_sound {C = C} what holders = record {
     election = record {
       log = [];
       candidacy = refl;
-      front = front_nil _;
+      front = refl;
       quorum = two;
       most = refl;
       voted = λ v q. rw q refl;

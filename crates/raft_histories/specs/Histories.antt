@@ -4,7 +4,8 @@ use Rattle.std.specs.Prelude.{◌≡◌, ◌≢◌, ℕ, ◌<◌, ◌≤◌, ◌
 use Rattle.vst_base.specs.declared.entry.Entry.{Entry}
 use Rattle.vst_base.specs.Elections.{is_majority}
 use Rattle.vst_base.specs.Logs.{term_at}
-use Rattle.raft_histories.specs.Prefixes.{Front, Same}
+use Rattle.raft_histories.specs.Prefixes.{Same}
+use Rattle.lists.specs.Prefixes.{IsPrefix}
 
 pub record History (C : Type 0) : Type 0 where
   pub leader_log : ℕ → List (Entry C)  -- by term: its leader's log, as far as it has come
@@ -74,7 +75,7 @@ pub record IsCandidacy {C : Type 0} (g : History C) (u : ℕ) (log : List (Entry
 pub record Election {C : Type 0} (nodes : ℕ) (g : History C) (u c : ℕ) : Type 0 where
   pub log : List (Entry C)
   pub candidacy : g.candidacy u c ≡ Some log
-  pub front : Front log (g.leader_log u)
+  pub front : IsPrefix log (g.leader_log u)
   pub quorum : ℕ → Bool
   pub most : IsTrue (is_majority nodes quorum)
   pub voted : (v : ℕ) → quorum v ≡ true → g.vote u v ≡ Some c

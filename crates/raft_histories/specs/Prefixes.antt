@@ -7,10 +7,6 @@ use Rattle.vst_base.specs.Logs.{term_at}
 pub record Same {A : Type 0} (k : ℕ) (l m : List A) : Type 0 where
   pub eq : take k l ≡ take k m
 
--- the first list is a front of the second
-pub record Front {A : Type 0} (l m : List A) : Type 0 where
-  pub same : Same (length l) l m
-
 -- where two logs have equal terms at an index, they are equal up to it
 pub record Agree {C : Type 0} (l m : List (Entry C)) : Type 0 where
   pub at : (n : ℕ) → n ≤ length l → n ≤ length m → term_at l n ≡ term_at m n → Same n l m

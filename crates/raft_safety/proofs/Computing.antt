@@ -10,7 +10,7 @@ use Rattle.raft_xform.specs.Nodes.{RaftEffect, RaftView}
 use Rattle.raft_safety.specs.Applied.{applied_list}
 use Rattle.raft_safety.proofs.Acting.{in_right}
 use Rattle.raft_safety.proofs.Advancing.{Advances, news}
-use Rattle.raft_safety.proofs.Listing.{take_on}
+use Rattle.lists.specs.Places.{take_on}
 
 module _ {S C O : Type 0} (m : MachineMeaning S C O) where
   -- from the first state and no sessions on

@@ -10,11 +10,10 @@ use Rattle.raft_clients.specs.Executed.{exceeds, executed, executed_after}
 use Rattle.raft_clients.specs.Executions.{IsExecution, executions}
 use Rattle.raft_clients.specs.Requests.{commands, request_of, requests}
 use Rattle.raft_free.specs.Events.{In}
-use Rattle.raft_histories.proofs.Logs.{front_append, front_rest}
-use Rattle.raft_histories.specs.Prefixes.{Front}
 use Rattle.raft_types.specs.declared.client.RaftInput.{RaftInput}
 use Rattle.linearizability.specs.Linearizable.{HasInput, Told}
-use Rattle.raft_safety.proofs.Listing.{get_back, get_front}
+use Rattle.lists.specs.Places.{slice_get-front, slice_get_front}
+use Rattle.lists.specs.Prefixes.{IsPrefix, prefix_append, prefix_joined}
 
 -- an output that a client was told is that of an execution, and the requests that were executed up to it were put in
 -- before
@@ -60,8 +59,8 @@ in_requests {C = C} x (e ∷ es) h = go (request_of e) refl (in_requests x es) h
     go (Some r) is rest (inl q) = record { entry = e; one = inl refl; by = is ∙ ap (λ r. Some r) (sym q) }
     go (Some r) is rest (inr h) = later (rest h)
 
-pub requests_front : {C : Type 0} {es fs : List (Entry C)} → Front es fs → Front (requests es) (requests fs)
-requests_front {es = es} {fs = fs} f = rw (← front_rest f, filter_map-append) (front_append (requests es) (requests (drop (length es) fs)))
+pub requests_front : {C : Type 0} {es : List (Entry C)} (fs : List (Entry C)) → IsPrefix es fs → IsPrefix (requests es) (requests fs)
+requests_front {es = es} fs f = rw (← prefix_joined f, filter_map-append) (prefix_append (requests es) (requests (drop (length es) fs)))
 
 zip_within : {A B : Type 0} (xs : List A) (ys : List B) (k : ℕ) (p : A × B) → slice_get (zip xs ys) k ≡ Some p → k < length xs
 zip_within [] ys k p e = absurd (cc (e))
@@ -69,16 +68,16 @@ zip_within (x ∷ xs) [] k p e = absurd (cc (e))
 zip_within (x ∷ xs) (y ∷ ys) zero p e = omega arith
 zip_within (x ∷ xs) (y ∷ ys) (suc k) p e = let h = zip_within xs ys k p e in omega arith
 
-pub explained_more : {S C O : Type 0} (m : MachineMeaning S C O) (rs qs : List (RaftInput C)) (t : Told C O) → Front rs qs → IsExplained m rs t → IsExplained m qs t
-explained_more {S = S} {C = C} {O = O} m rs qs t f e = rw (← front_rest f) (record {
+pub explained_more : {S C O : Type 0} (m : MachineMeaning S C O) (rs qs : List (RaftInput C)) (t : Told C O) → IsPrefix rs qs → IsExplained m rs t → IsExplained m qs t
+explained_more {S = S} {C = C} {O = O} m rs qs t f e = rw (← prefix_joined f) (record {
   execution = record {
     place = x.place;
     executed = x.executed;
-    there = rw (executed-append rs rest, outcomes-append m m.init (executed rs) later) (get_front (executions m rs) (outcomes m (state_after m m.init (commands (executed rs))) later) x.place (x.executed, t.output) x.there);
+    there = rw (executed-append rs rest, outcomes-append m m.init (executed rs) later) (slice_get_front (executions m rs) (outcomes m (state_after m m.init (commands (executed rs))) later) x.place (x.executed, t.output) x.there);
     client = x.client;
     request = x.request;
   };
-  in_time = λ k y le at. e.in_time k y le (sym (get_back (executed rs) later k (within k le)) ∙ (ap (λ xs. slice_get xs k) (sym (executed-append rs rest)) ∙ at));
+  in_time = λ k y le at. e.in_time k y le (sym (slice_get-front (executed rs) later k (within k le)) ∙ (ap (λ xs. slice_get xs k) (sym (executed-append rs rest)) ∙ at));
 })
   where
     rest : List (RaftInput C)

@@ -3,8 +3,9 @@ use Rattle.std.proofs.Common.{◌≡◌, ◌≢◌, ℕ, zero, suc, ◌<◌, tru
 use Rattle.std.proofs.lemmas.Bool.Decides.{eqb_tells}
 use Rattle.net_semantics.specs.Runs.{first_refused_from, run_from, trace_from}
 use Rattle.net_semantics.specs.RunLaws.{place_and_why-none}
-use Rattle.net_semantics.specs.Steps.{Event, after_event, crashed, event_of, input_item, items_of, items_of_event, next, rebooted, refusal_of, with_packets}
-use Rattle.net_semantics.specs.Worlds.{Packet, change_at, first_world, one_less, one_more, put, sent_by}
+use Rattle.net_semantics.specs.StepLaws.{copied_content, copied_destination, copied_source}
+use Rattle.net_semantics.specs.Steps.{Event, after_event, copied, crashed, event_in, input_item, items_in, items_of, items_of_event, next, next_in, rebooted, refusal_of, with_packets}
+use Rattle.net_semantics.specs.Worlds.{Packet, change_at, first_world, put, sent_by}
 use Rattle.vst_base.specs.Elections.{nobody}
 use Rattle.vst_base.specs.Machines.{MachineMeaning}
 use Rattle.vst_base.specs.declared.entry.Entry.{Entry}
@@ -12,7 +13,7 @@ use Rattle.vst_base.specs.declared.net.Net.TheVariants as net
 use Rattle.vst_base.specs.declared.step.Item.{Item}
 use Rattle.vst_base.specs.declared.step.Item.TheVariants as item
 use Rattle.vst_base.specs.declared.step.Step.{Step}
-use Rattle.vst_base.specs.declared.step.Step.TheVariants as step
+use Rattle.vst_base.specs.StepViews.{AtNode, Fate, OfPacket, Starts, StepView, Stops, view_of}
 use Rattle.raft_election.proofs.Sets.{votes_are_sets}
 use Rattle.raft_free.specs.Events as events
 use Rattle.raft_free.specs.Events.{In, becomes, effect}
@@ -36,7 +37,7 @@ use Rattle.raft_safety.proofs.Freed.{free_node, mirrored, node_is}
 use Rattle.raft_safety.proofs.Peers.{matched_new}
 use Rattle.raft_safety.proofs.Refining.{up}
 use Rattle.raft_safety.proofs.Sending.{IsGood}
-use Rattle.raft_safety.proofs.Turning.{IsTaken, Stands, Turn, WasAsked, WasPutIn, taken_crash, taken_reboot, turn}
+use Rattle.raft_safety.proofs.Turning.{IsTaken, IsTakenIn, Stands, Turn, WasAsked, WasPutIn, taken_crash, taken_reboot, turn}
 
 pub puts : {A : Type 0} (P : ℕ → A → Type 0) (f : ℕ → A) (i : ℕ) (x : A) → P i x → ((j : ℕ) → j ≢ i → P j (f j)) → (j : ℕ) → P j (put f i x j)
 puts P f i x p q j = elim (eqb_tells j i) [ inl t ↦ rw (t.0, t.1) p | inr t ↦ rw (t.0) (q j t.1) ]
@@ -190,11 +191,9 @@ module _ {S C O : Type 0} (m : MachineMeaning S C O) (n : ℕ) where
       old_good : (p : Packet (RaftMsg C)) → IsLike w.packets p → IsGood n p.source p.destination p.content
       old_good p l = rw (l.source, l.destination, l.content) (stands.good l.was l.there)
 
-  fewer : (k : ℕ) (ps : List (Packet (RaftMsg C))) (p : Packet (RaftMsg C)) → In p (change_at one_less k ps) → IsLike ps p
-  fewer k ps p h = like_changed one_less (record { source = λ p. refl; destination = λ p. refl; content = λ p. refl }) k ps p h
-
-  more : (k : ℕ) (ps : List (Packet (RaftMsg C))) (p : Packet (RaftMsg C)) → In p (change_at one_more k ps) → IsLike ps p
-  more k ps p h = like_changed one_more (record { source = λ p. refl; destination = λ p. refl; content = λ p. refl }) k ps p h
+  as_before : (fate : Fate) (k : ℕ) (ps : List (Packet (RaftMsg C))) (p : Packet (RaftMsg C)) → In p (change_at (copied fate) k ps) → IsLike ps p
+  as_before fate =
+      like_changed (copied fate) (record { source = λ p. copied_source p fate; destination = λ p. copied_destination p fate; content = λ p. copied_content p fate })
 
   crash_goes : (w : RaftWorld S C O) (v : free.FreeWorld C) (seen : Seen C O) → Mirrors w v → Stands m n w → (i : ℕ) → w.is_up i ≡ true → Goes m n v (crashed (raft_recovery m) w i) seen
   crash_goes w v seen mirrors stands i is_up = record {
@@ -246,22 +245,21 @@ module _ {S C O : Type 0} (m : MachineMeaning S C O) (n : ℕ) where
       starts = ap (λ f. record (up first) { votes = f }) votes_are_sets.none ∙ ap (λ f. record (up first) { votes = nobody; matched = f }) (matched_new 0 0)
 
   -- each step that the network takes
-  pub step_goes : (w : RaftWorld S C O) (v : free.FreeWorld C) (seen : Seen C O) → Mirrors w v → Stands m n w → (s : Step (RaftInput C)) → IsTaken m n w s →
-      Goes m n v (next (raft n m) (raft_recovery m) w s) (seen ++ items_of (raft n m) w s)
-  step_goes w v seen mirrors stands (step.In i q) taken =
-      event_goes w v seen mirrors stands _ (turn m n w v seen mirrors stands (step.In i q) taken _ refl) w.packets (like_same w.packets)
-  step_goes w v seen mirrors stands (step.Tick i) taken =
-      event_goes w v seen mirrors stands _ (turn m n w v seen mirrors stands (step.Tick i) taken _ refl) w.packets (like_same w.packets)
-  step_goes w v seen mirrors stands (step.Deliver k) taken = by_event (event_of (raft n m) w (step.Deliver k)) refl
+  pub step_goes : (w : RaftWorld S C O) (v : free.FreeWorld C) (seen : Seen C O) → Mirrors w v → Stands m n w → (s : StepView (RaftInput C)) → IsTakenIn m n w s →
+      Goes m n v (next_in (raft n m) (raft_recovery m) w s) (seen ++ items_in (raft n m) w s)
+  step_goes w v seen mirrors stands (AtNode i q) taken =
+      event_goes w v seen mirrors stands _ (turn m n w v seen mirrors stands (AtNode i q) taken _ refl) w.packets (like_same w.packets)
+  step_goes w v seen mirrors stands (OfPacket k fate) taken = by_event (event_in (raft n m) w (OfPacket k fate)) refl
     where
-      by_event : (o : Option (Event (RaftView S C O) (RaftInput C) (RaftOut O) (RaftMsg C))) → event_of (raft n m) w (step.Deliver k) ≡ o →
-          Goes m n v (after_event (with_packets w (change_at one_less k w.packets)) o) (seen ++ items_of_event o)
-      by_event None at = rw (append-nil seen) (copies_go w v seen mirrors stands (change_at one_less k w.packets) (fewer k w.packets))
-      by_event (Some e) at = event_goes w v seen mirrors stands e (turn m n w v seen mirrors stands (step.Deliver k) taken e at) (change_at one_less k w.packets) (fewer k w.packets)
-  step_goes w v seen mirrors stands (step.Lose k) taken = rw (append-nil seen) (copies_go w v seen mirrors stands (change_at one_less k w.packets) (fewer k w.packets))
-  step_goes w v seen mirrors stands (step.Dup k) taken = rw (append-nil seen) (copies_go w v seen mirrors stands (change_at one_more k w.packets) (more k w.packets))
-  step_goes w v seen mirrors stands (step.Crash i) taken = rw (append-nil seen) (crash_goes w v seen mirrors stands i (taken_crash m n w i taken).1)
-  step_goes w v seen mirrors stands (step.Reboot i) taken = let t = taken_reboot m n w i taken in rw (append-nil seen) (reboot_goes w v seen mirrors stands i t.0 t.1)
+      ps : List (Packet (RaftMsg C))
+      ps = change_at (copied fate) k w.packets
+
+      by_event : (o : Option (Event (RaftView S C O) (RaftInput C) (RaftOut O) (RaftMsg C))) → event_in (raft n m) w (OfPacket k fate) ≡ o →
+          Goes m n v (after_event (with_packets w ps) o) (seen ++ items_of_event o)
+      by_event None at = rw (append-nil seen) (copies_go w v seen mirrors stands ps (as_before fate k w.packets))
+      by_event (Some e) at = event_goes w v seen mirrors stands e (turn m n w v seen mirrors stands (OfPacket k fate) taken e at) ps (as_before fate k w.packets)
+  step_goes w v seen mirrors stands (Stops i) taken = rw (append-nil seen) (crash_goes w v seen mirrors stands i (taken_crash m n w i taken).1)
+  step_goes w v seen mirrors stands (Starts i) taken = let t = taken_reboot m n w i taken in rw (append-nil seen) (reboot_goes w v seen mirrors stands i t.0 t.1)
 
 pub run_then : {C : Type 0} (n : ℕ) (es fs : List (events.Event C)) (u v w : free.FreeWorld C) → Run n u es v → Run n v fs w → Run n u (es ++ fs) w
 run_then n [] fs u v w r s = rw (← r) s
@@ -295,7 +293,7 @@ module _ {S C O : Type 0} (m : MachineMeaning S C O) (n : ℕ) where
   run_goes w v seen mirrors stands [] taken = rw (append-nil seen) (record { late = []; world = v; run = refl; mirrors = mirrors; stands = stands; proposed = λ x h. absurd h })
   run_goes w v seen mirrors stands (s ∷ ss) taken =
       let t = first_taken m n w s ss taken in
-      let a = step_goes m n w v seen mirrors stands s t.0 in
+      let a = step_goes m n w v seen mirrors stands (view_of s) t.0 in
       rw (append_assoc seen (items_of (raft n m) w s) (trace_from (raft n m) (raft_recovery m) (next (raft n m) (raft_recovery m) w s) ss)) at (goes_then (seen ++ items_of (raft n m) w s) (trace_from (raft n m) (raft_recovery m) (next (raft n m) (raft_recovery m) w s) ss) a
       (run_goes (next (raft n m) (raft_recovery m) w s) a.world (seen ++ items_of (raft n m) w s) a.mirrors a.stands ss t.1))
 

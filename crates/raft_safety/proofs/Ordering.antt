@@ -11,12 +11,14 @@ use Rattle.raft_free.specs.Events.{In}
 use Rattle.raft_types.specs.declared.client.RaftInput.{RaftInput}
 use Rattle.raft_safety.specs.Applied.{applied_by}
 use Rattle.raft_safety.specs.Runs.{seen}
-use Rattle.linearizability.specs.Linearizable.{AreDistinct, AreOther, Each, HasInput, Seen, Told, beside, is_named, told_since, up_to, with_outputs}
+use Rattle.linearizability.specs.Linearizable.{AreDistinct, AreOther, HasInput, Seen, Told, beside, is_named, told_since, up_to, with_outputs}
 use Rattle.raft_safety.specs.Safety.{RunsAreLinearizable}
 use Rattle.raft_safety.proofs.Explaining.{IsExplained, in_executed, in_requests}
 use Rattle.raft_safety.proofs.Growing.{whole}
 use Rattle.raft_safety.proofs.Listing.{each_from, each_in}
 use Rattle.raft_safety.proofs.Turning.{WasPutIn}
+use Rattle.lists.specs.Each.{Each}
+use Rattle.std.proofs.lemmas.Option.{same_Some}
 
 pairs_head : {C : Type 0} (x : RaftInput C) (xs : List (RaftInput C)) → AllPairs Rises (x ∷ xs) → All (Rises x) xs
 pairs_head x xs h k d lt = h zero (suc k) d (omega arith) (omega arith)
@@ -45,11 +47,8 @@ distinct : {C : Type 0} (xs : List (RaftInput C)) → AllPairs Rises xs → AreD
 distinct [] h = tt
 distinct (x ∷ xs) h = (others x xs (pairs_head x xs h), distinct xs (pairs_tail x xs h))
 
-some_is : {X : Type 0} (x y : X) → Some x ≡ Some y → x ≡ y
-some_is x y e = cc (e)
-
 parts_of : {A B : Type 0} (p q : A × B) → Some p ≡ Some q → (p.0 ≡ q.0) × (p.1 ≡ q.1)
-parts_of p q e = let s = some_is p q e in (ap (λ (q : _). q.0) s, ap (λ (q : _). q.1) s)
+parts_of p q e = let s = same_Some p q e in (ap (λ (q : _). q.0) s, ap (λ (q : _). q.1) s)
 
 in_zip : {A B : Type 0} (xs : List A) (ys : List B) (k : ℕ) (x : A) (y : B) → slice_get (zip xs ys) k ≡ Some (x, y) → In x xs
 in_zip [] ys k x y e = absurd (cc (e))

@@ -2,14 +2,14 @@
 use Rattle.std.proofs.Common.{◌≡◌, ℕ, ◌<◌, ◌≤◌, List, [], ◌∷◌, ◌++◌, map, take, Option, Some, None, inl, inr, refl, sym, ap, ◌∙◌, append_assoc, append-nil, arith}
 use Rattle.std.proofs.lemmas.Bool.{eq-eqb}
 use Rattle.net_semantics.specs.Runs.{run_from, trace_from}
-use Rattle.net_semantics.specs.Steps.{Event, after_event, event_of, input_item, items_of, items_of_event, next, rebooted, with_packets}
-use Rattle.net_semantics.specs.Worlds.{Packet, change_at, first_world, one_less, put}
+use Rattle.net_semantics.specs.Steps.{Event, after_event, copied, event_in, input_item, items_in, items_of, items_of_event, next, next_in, rebooted, with_packets}
+use Rattle.net_semantics.specs.Worlds.{Packet, change_at, first_world, put}
 use Rattle.vst_base.specs.Machines.{MachineMeaning}
 use Rattle.vst_base.specs.declared.entry.Entry.{Entry}
 use Rattle.vst_base.specs.declared.step.Item.{Item}
 use Rattle.vst_base.specs.declared.step.Item.TheVariants as item
 use Rattle.vst_base.specs.declared.step.Step.{Step}
-use Rattle.vst_base.specs.declared.step.Step.TheVariants as step
+use Rattle.vst_base.specs.StepViews.{AtNode, OfPacket, Starts, StepView, Stops, view_of}
 use Rattle.raft_clients.proofs.Once.{applied-answers}
 use Rattle.raft_clients.specs.Executed.{executed}
 use Rattle.raft_clients.specs.Executions.{IsAnswered, IsExecution, executions}
@@ -21,8 +21,6 @@ use Rattle.raft_free.specs.Runs.{Run}
 use Rattle.raft_free.proofs.Applied.{state_machine_safety}
 use Rattle.raft_free.proofs.Origins.{nothing_invented}
 use Rattle.raft_free.proofs.Stepping.{in_append}
-use Rattle.raft_histories.proofs.Logs.{front_nil, front_self, front_trans}
-use Rattle.raft_histories.specs.Prefixes.{Front}
 use Rattle.raft_types.specs.Keeping.{KeptView}
 use Rattle.raft_types.specs.Ranges.{IsClusterSize}
 use Rattle.raft_types.specs.declared.client.RaftInput.{RaftInput}
@@ -44,7 +42,8 @@ use Rattle.raft_safety.proofs.Listing.{all_in, got_in, in_take}
 use Rattle.raft_safety.proofs.Longest.{Best, WasApplied, longest_is_best, was_later}
 use Rattle.raft_safety.proofs.Mirroring.{AreTaken, Goes, asked_more, first_mirror, first_stands, first_taken, proposes_weaker, puts, run_then, step_goes}
 use Rattle.raft_safety.proofs.Told.{IsTold, told_since-append, told_outputs}
-use Rattle.raft_safety.proofs.Turning.{IsTaken, Stands, Turn, WasAsked, WasPutIn, turn}
+use Rattle.raft_safety.proofs.Turning.{IsTakenIn, Stands, Turn, WasAsked, WasPutIn, turn}
+use Rattle.lists.specs.Prefixes.{IsPrefix, prefix_nil, prefix_self, prefix_trans}
 
 -- of a cluster after what clients have seen, where this is the longest list that was applied
 pub record Sofar {S C O : Type 0} (m : MachineMeaning S C O) (n : ℕ) (w : RaftWorld S C O) (seen : Seen C O) (best : List (Entry C)) : Type 0 where
@@ -55,7 +54,7 @@ pub record Sofar {S C O : Type 0} (m : MachineMeaning S C O) (n : ℕ) (w : Raft
   pub stands : Stands m n w
   pub proposed : (e : events.Event C) → In e past → Proposes (WasPutIn seen) e
   pub was : WasApplied n world best
-  pub each : (i : ℕ) → i < n → Front (applied_list (w.state i)) best
+  pub each : (i : ℕ) → i < n → IsPrefix (applied_list (w.state i)) best
   pub computes : (i : ℕ) → Computes m (w.state i)
   pub put_in : (x : Entry C) → In x best → WasPutIn seen x
   pub told : (t : Told C O) → In t (told_since [] seen) → IsExplained m (requests best) t
@@ -63,7 +62,7 @@ pub record Sofar {S C O : Type 0} (m : MachineMeaning S C O) (n : ℕ) (w : Raft
 -- the same later, where what was applied has only grown
 pub record Further {S C O : Type 0} (m : MachineMeaning S C O) (n : ℕ) (w : RaftWorld S C O) (seen : Seen C O) (old new : List (Entry C)) : Type 0 where
   pub sofar : Sofar m n w seen new
-  pub front : Front old new
+  pub front : IsPrefix old new
 
 -- an output that a client was told is explained by what a node has applied
 pub record IsExplainedAt {S C O : Type 0} (m : MachineMeaning S C O) (n : ℕ) (w : RaftWorld S C O) (t : Told C O) : Type 0 where
@@ -130,8 +129,8 @@ module _ {S C O : Type 0} (m : MachineMeaning S C O) (n : ℕ) where
       computes = computes;
       put_in = b.all (λ x h. asked_more seen more (request_of x) (sf.put_in x h)) (λ i x h. from_log more sf g i x (in_take x (v.state i).applied (v.state i).log h));
       told = λ t h. elim (in_append t (told_since [] seen) (told_since seen more) (rw (told_since-append [] seen more) at h)) [
-        | inl q ↦ explained_more m (requests best) (requests (longest n (applied_lists v) best)) t (requests_front b.front) (sf.told t q)
-        | inr q ↦ (let x = explained t q in explained_more m (requests (applied_list (v.state x.node))) (requests (longest n (applied_lists v) best)) t (requests_front (b.each x.node x.below)) x.explained)
+        | inl q ↦ explained_more m (requests best) (requests (longest n (applied_lists v) best)) t (requests_front _ b.front) (sf.told t q)
+        | inr q ↦ (let x = explained t q in explained_more m (requests (applied_list (v.state x.node))) (requests (longest n (applied_lists v) best)) t (requests_front _ (b.each x.node x.below)) x.explained)
       ];
     };
     front = b.front;
@@ -206,23 +205,22 @@ module _ {S C O : Type 0} (m : MachineMeaning S C O) (n : ℕ) where
   quiet_on sf computes g = sofar_on [] sf g computes (λ t h. absurd h)
 
   -- a step that the network takes
-  step_on : {w : RaftWorld S C O} {seen : Seen C O} {best : List (Entry C)} (sf : Sofar m n w seen best) (s : Step (RaftInput C)) → IsTaken m n w s →
-      Further m n (next (raft n m) (raft_recovery m) w s) (seen ++ items_of (raft n m) w s) best (longest n (applied_lists (next (raft n m) (raft_recovery m) w s)) best)
-  step_on {w = w} {seen = seen} sf (step.In i q) taken =
-      event_on sf _ (turn m n w sf.world seen sf.mirrors sf.stands (step.In i q) taken _ refl) w.packets (step_goes m n w sf.world seen sf.mirrors sf.stands (step.In i q) taken)
-  step_on {w = w} {seen = seen} sf (step.Tick i) taken =
-      event_on sf _ (turn m n w sf.world seen sf.mirrors sf.stands (step.Tick i) taken _ refl) w.packets (step_goes m n w sf.world seen sf.mirrors sf.stands (step.Tick i) taken)
-  step_on {w = w} {seen = seen} {best = best} sf (step.Deliver k) taken = by_event (event_of (raft n m) w (step.Deliver k)) refl (step_goes m n w sf.world seen sf.mirrors sf.stands (step.Deliver k) taken)
+  step_on : {w : RaftWorld S C O} {seen : Seen C O} {best : List (Entry C)} (sf : Sofar m n w seen best) (s : StepView (RaftInput C)) → IsTakenIn m n w s →
+      Further m n (next_in (raft n m) (raft_recovery m) w s) (seen ++ items_in (raft n m) w s) best (longest n (applied_lists (next_in (raft n m) (raft_recovery m) w s)) best)
+  step_on {w = w} {seen = seen} sf (AtNode i q) taken =
+      event_on sf _ (turn m n w sf.world seen sf.mirrors sf.stands (AtNode i q) taken _ refl) w.packets (step_goes m n w sf.world seen sf.mirrors sf.stands (AtNode i q) taken)
+  step_on {w = w} {seen = seen} {best = best} sf (OfPacket k fate) taken = by_event (event_in (raft n m) w (OfPacket k fate)) refl (step_goes m n w sf.world seen sf.mirrors sf.stands (OfPacket k fate) taken)
     where
-      by_event : (o : Option (Event (RaftView S C O) (RaftInput C) (RaftOut O) (RaftMsg C))) → event_of (raft n m) w (step.Deliver k) ≡ o →
-          Goes m n sf.world (after_event (with_packets w (change_at one_less k w.packets)) o) (seen ++ items_of_event o) →
-          Further m n (after_event (with_packets w (change_at one_less k w.packets)) o) (seen ++ items_of_event o) best (longest n (applied_lists (after_event (with_packets w (change_at one_less k w.packets)) o)) best)
+      ps : List (Packet (RaftMsg C))
+      ps = change_at (copied fate) k w.packets
+
+      by_event : (o : Option (Event (RaftView S C O) (RaftInput C) (RaftOut O) (RaftMsg C))) → event_in (raft n m) w (OfPacket k fate) ≡ o →
+          Goes m n sf.world (after_event (with_packets w ps) o) (seen ++ items_of_event o) →
+          Further m n (after_event (with_packets w ps) o) (seen ++ items_of_event o) best (longest n (applied_lists (after_event (with_packets w ps) o)) best)
       by_event None at g = quiet_on sf sf.computes g
-      by_event (Some e) at g = event_on sf e (turn m n w sf.world seen sf.mirrors sf.stands (step.Deliver k) taken e at) (change_at one_less k w.packets) g
-  step_on {w = w} {seen = seen} sf (step.Dup k) taken = quiet_on sf sf.computes (step_goes m n w sf.world seen sf.mirrors sf.stands (step.Dup k) taken)
-  step_on {w = w} {seen = seen} sf (step.Lose k) taken = quiet_on sf sf.computes (step_goes m n w sf.world seen sf.mirrors sf.stands (step.Lose k) taken)
-  step_on {w = w} {seen = seen} sf (step.Crash i) taken = quiet_on sf sf.computes (step_goes m n w sf.world seen sf.mirrors sf.stands (step.Crash i) taken)
-  step_on {w = w} {seen = seen} sf (step.Reboot i) taken = quiet_on sf (rebooted_computes (w.kept i)) (step_goes m n w sf.world seen sf.mirrors sf.stands (step.Reboot i) taken)
+      by_event (Some e) at g = event_on sf e (turn m n w sf.world seen sf.mirrors sf.stands (OfPacket k fate) taken e at) ps g
+  step_on {w = w} {seen = seen} sf (Stops i) taken = quiet_on sf sf.computes (step_goes m n w sf.world seen sf.mirrors sf.stands (Stops i) taken)
+  step_on {w = w} {seen = seen} sf (Starts i) taken = quiet_on sf (rebooted_computes (w.kept i)) (step_goes m n w sf.world seen sf.mirrors sf.stands (Starts i) taken)
     where
       rebooted_computes : (o : Option (KeptView C)) (k : ℕ) → Computes m ((rebooted (raft_recovery m) w i o).state k)
       rebooted_computes None k = sf.computes k
@@ -230,13 +228,13 @@ module _ {S C O : Type 0} (m : MachineMeaning S C O) (n : ℕ) where
 
   pub run_on : (ss : List (Step (RaftInput C))) {w : RaftWorld S C O} {seen : Seen C O} {best : List (Entry C)} (sf : Sofar m n w seen best) → AreTaken m n w ss →
       Further m n (run_from (raft n m) (raft_recovery m) w ss) (seen ++ trace_from (raft n m) (raft_recovery m) w ss) best (longest_from applied_lists m n w best ss)
-  run_on [] {seen = seen} {best = best} sf taken = rw (append-nil seen) (record { sofar = sf; front = front_self best })
+  run_on [] {seen = seen} {best = best} sf taken = rw (append-nil seen) (record { sofar = sf; front = prefix_self best })
   run_on (s ∷ ss) {w = w} {seen = seen} {best = best} sf taken =
       let t = first_taken m n w s ss taken in
       let after = next (raft n m) (raft_recovery m) w s in
-      let a = step_on sf s t.0 in
+      let a = step_on sf (view_of s) t.0 in
       let b = rw (append_assoc seen (items_of (raft n m) w s) (trace_from (raft n m) (raft_recovery m) after ss)) at (run_on ss a.sofar t.1) in
-      record { sofar = b.sofar; front = front_trans a.front b.front }
+      record { sofar = b.sofar; front = prefix_trans _ a.front b.front }
 
   pub first_sofar : IsClusterSize n → Sofar m n (first_world (raft n m)) [] []
   first_sofar size = record {
@@ -247,7 +245,7 @@ module _ {S C O : Type 0} (m : MachineMeaning S C O) (n : ℕ) where
     stands = first_stands m n size;
     proposed = λ e h. absurd h;
     was = record { at = free.first_world C; who = 0; moments = record { early = []; late = []; before = refl; after = refl }; is = refl };
-    each = λ i below. front_nil [];
+    each = λ i below. prefix_nil [];
     computes = λ i. record { machine = refl; sessions = refl };
     put_in = λ x h. absurd h;
     told = λ t h. absurd h;

@@ -2,14 +2,13 @@
 use Rattle.std.proofs.Common.{◌≡◌, ℕ, true, ◌&&◌, List, [], ◌∷◌, Option, Some, None, eqb, ltb, refl, arith}
 use Rattle.std.proofs.lemmas.Bool.{and_parts, eqb-true}
 use Rattle.net_semantics.specs.RunLaws.{run_from-append}
-use Rattle.net_semantics.specs.Steps.{Event, after_event, event_of, next, rebooted, with_packets}
-use Rattle.net_semantics.specs.Worlds.{Packet, change_at, first_world, one_less}
+use Rattle.net_semantics.specs.Steps.{Event, after_event, copied, event_in, next_in, rebooted, with_packets}
+use Rattle.net_semantics.specs.Worlds.{Packet, change_at, first_world}
 use Rattle.vst_base.specs.Committing.{holders, may_commit}
 use Rattle.vst_base.specs.Elections.{is_majority}
 use Rattle.vst_base.specs.Logs.{term_at}
 use Rattle.vst_base.specs.Machines.{MachineMeaning}
-use Rattle.vst_base.specs.declared.step.Step.{Step}
-use Rattle.vst_base.specs.declared.step.Step.TheVariants as step
+use Rattle.vst_base.specs.StepViews.{AtNode, OfPacket, Starts, StepView, Stops, view_of}
 use Rattle.raft_commit.specs.Peers.{matched_of}
 use Rattle.raft_free.specs.Nodes as free
 use Rattle.raft_types.specs.Keeping.{KeptView}
@@ -24,7 +23,7 @@ use Rattle.raft_safety.specs.Safety.{CommitsByTheRule, CommitsRiseByTheRule}
 use Rattle.raft_safety.proofs.Mirroring.{first_taken, puts}
 use Rattle.raft_safety.proofs.Refining.{Rises}
 use Rattle.raft_safety.proofs.Safe.{goes, parts}
-use Rattle.raft_safety.proofs.Turning.{IsTaken, Stands, turn}
+use Rattle.raft_safety.proofs.Turning.{IsTakenIn, Stands, turn}
 
 module _ {S C O : Type 0} (m : MachineMeaning S C O) (n : ℕ) (w : RaftWorld S C O) (v : free.FreeWorld C) (mirrors : Mirrors w v) (stands : Stands m n w) where
   -- of a node that was in w, and is in this state now
@@ -35,7 +34,7 @@ module _ {S C O : Type 0} (m : MachineMeaning S C O) (n : ℕ) (w : RaftWorld S 
   unmoved : (i : ℕ) → IsRule i (w.state i)
   unmoved i l less = absurd (omega (arith, less))
 
-  at_event : (s : Step (RaftInput C)) → IsTaken m n w s → (e : Event (RaftView S C O) (RaftInput C) (RaftOut O) (RaftMsg C)) → event_of (raft n m) w s ≡ Some e →
+  at_event : (s : StepView (RaftInput C)) → IsTakenIn m n w s → (e : Event (RaftView S C O) (RaftInput C) (RaftOut O) (RaftMsg C)) → event_in (raft n m) w s ≡ Some e →
       (ps : List (Packet (RaftMsg C))) (i : ℕ) → IsRule i ((after_event (with_packets w ps) (Some e)).state i)
   at_event s taken e is ps =
       puts IsRule w.state e.node e.effect.state (turn m n w v [] mirrors stands s taken e is).refined.rises (λ j ne. unmoved j)
@@ -44,19 +43,16 @@ module _ {S C O : Type 0} (m : MachineMeaning S C O) (n : ℕ) (w : RaftWorld S 
   rebooted_rule k None i = unmoved i
   rebooted_rule k (Some kept) i = puts IsRule w.state k ((raft_recovery m).reboot k kept) (λ l less. absurd (omega (arith, less))) (λ j ne. unmoved j) i
 
-  pub next_rule : (s : Step (RaftInput C)) → IsTaken m n w s → (i : ℕ) → IsRule i ((next (raft n m) (raft_recovery m) w s).state i)
-  next_rule (step.In k q) taken = at_event (step.In k q) taken _ refl w.packets
-  next_rule (step.Tick k) taken = at_event (step.Tick k) taken _ refl w.packets
-  next_rule (step.Deliver k) taken = by_event (event_of (raft n m) w (step.Deliver k)) refl
+  pub next_rule : (s : StepView (RaftInput C)) → IsTakenIn m n w s → (i : ℕ) → IsRule i ((next_in (raft n m) (raft_recovery m) w s).state i)
+  next_rule (AtNode k q) taken = at_event (AtNode k q) taken _ refl w.packets
+  next_rule (OfPacket k fate) taken = by_event (event_in (raft n m) w (OfPacket k fate)) refl
     where
-      by_event : (o : Option (Event (RaftView S C O) (RaftInput C) (RaftOut O) (RaftMsg C))) → event_of (raft n m) w (step.Deliver k) ≡ o →
-          (i : ℕ) → IsRule i ((after_event (with_packets w (change_at one_less k w.packets)) o).state i)
+      by_event : (o : Option (Event (RaftView S C O) (RaftInput C) (RaftOut O) (RaftMsg C))) → event_in (raft n m) w (OfPacket k fate) ≡ o →
+          (i : ℕ) → IsRule i ((after_event (with_packets w (change_at (copied fate) k w.packets)) o).state i)
       by_event None at = unmoved
-      by_event (Some e) at = at_event (step.Deliver k) taken e at (change_at one_less k w.packets)
-  next_rule (step.Lose k) taken = unmoved
-  next_rule (step.Dup k) taken = unmoved
-  next_rule (step.Crash k) taken = unmoved
-  next_rule (step.Reboot k) taken = rebooted_rule k (w.kept k)
+      by_event (Some e) at = at_event (OfPacket k fate) taken e at (change_at (copied fate) k w.packets)
+  next_rule (Stops k) taken = unmoved
+  next_rule (Starts k) taken = rebooted_rule k (w.kept k)
 
 by_the_rule : {S C O : Type 0} (n : ℕ) (w : RaftWorld S C O) (i term commit : ℕ) → Leads w i term →
     may_commit n i (matched_of (w.state i).peers) (w.state i).log (w.state i).ballot.term commit (w.state i).commit ≡ true → CommitsByTheRule n w i term (w.state i).commit
@@ -70,6 +66,6 @@ pub commits_rise_by_the_rule : (S C O : Type 0) → CommitsRiseByTheRule S C O
 commits_rise_by_the_rule S C O m n ss s i term r l less =
     let p = parts m n (first_world (raft n m)) ss (s ∷ []) r.allowed in
     let g = goes m n ss (record { size = r.size; allowed = p.0 }) in
-    let rule = next_rule m n (world_after m n ss) g.world g.mirrors g.stands s (first_taken m n (world_after m n ss) s [] p.1).0 i in
+    let rule = next_rule m n (world_after m n ss) g.world g.mirrors g.stands (view_of s) (first_taken m n (world_after m n ss) s [] p.1).0 i in
     let after = run_from-append (raft n m) (raft_recovery m) (first_world (raft n m)) ss (s ∷ []) in
     by_the_rule n _ i term ((world_after m n ss).state i).commit l ((rw (← after) at rule) l.leader less)

@@ -7,6 +7,7 @@ use Rattle.net_semantics.specs.Runs.{run_from, trace_from}
 use Rattle.net_semantics.specs.Steps.{next}
 use Rattle.net_semantics.specs.Worlds.{first_world}
 use Rattle.vst_base.specs.Machines.{MachineMeaning}
+use Rattle.vst_base.specs.StepViews.{view_of}
 use Rattle.vst_base.specs.declared.step.Step.{Step}
 use Rattle.raft_histories.proofs.Logs.{same_less, same_take}
 use Rattle.raft_free.specs.Nodes as free
@@ -98,7 +99,7 @@ pub step_is_free : (S C O : Type 0) → StepIsFree S C O
 step_is_free S C O m n ss s x r mirrors =
     let p = parts m n (first_world (raft n m)) ss (s ∷ []) r.allowed in
     let stands = (goes m n ss (record { size = r.size; allowed = p.0 })).stands in
-    let g = step_goes m n (world_after m n ss) x [] mirrors stands s (first_taken m n (world_after m n ss) s [] p.1).0 in
+    let g = step_goes m n (world_after m n ss) x [] mirrors stands (view_of s) (first_taken m n (world_after m n ss) s [] p.1).0 in
     rw (run_from-append (raft n m) (raft_recovery m) (first_world (raft n m)) ss (s ∷ []))
     (record { events = g.late; world = g.world; run = g.run; mirrors = g.mirrors })
 

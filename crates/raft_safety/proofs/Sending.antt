@@ -1,5 +1,5 @@
 -- What a node sends is in range, and goes to another node of the cluster.
-use Rattle.std.proofs.Common.{◌≡◌, ◌≢◌, ℕ, zero, suc, ◌-◌, ◌<◌, ◌≤◌, Bool, true, false, ◌&&◌, List, [], ◌∷◌, length, take, drop, eqb, ltb, leb, cond, ◌⊎◌, inl, inr, refl, arith}
+use Rattle.std.proofs.Common.{◌≡◌, ◌≢◌, ℕ, zero, suc, ◌-◌, ◌<◌, ◌≤◌, Bool, true, false, ◌&&◌, List, [], ◌∷◌, length, drop, eqb, ltb, leb, cond, ◌⊎◌, inl, inr, refl, arith}
 use Rattle.std.proofs.lemmas.Bool.{and_parts}
 use Rattle.std.proofs.lemmas.Bool.Decides.{eqb_tells}
 use Rattle.std.proofs.lemmas.List.{length-drop}
@@ -25,6 +25,7 @@ use Rattle.raft_xform.specs.Raft.{by_message, on_message}
 use Rattle.raft_xform.specs.Replicating.{answer, known, may_take, moved_by, on_append, on_appended, on_input, on_moved, proposed}
 use Rattle.raft_xform.specs.Sending.{append, appends, to_others}
 use Rattle.raft_xform.specs.Sound.{IsInRange, IsPeer, IsSoundNode}
+use Rattle.lists.specs.Places.{length_taken}
 
 pub record IsGood {C : Type 0} (n from to : ℕ) (message : RaftMsg C) : Type 0 where
   pub below : to < n
@@ -55,11 +56,6 @@ good_each n i f range (suc k) le p h =
     last (inl t) = rw (t.0) (good_none n i p)
     last (inr t) = rw (t.0) (good_one n i k (f k) (record { below = omega arith; other = t.1; range = range k (omega arith) }) p)
 
-length_batch : {C : Type 0} (k : ℕ) (xs : List C) → length (take k xs) ≤ length xs
-length_batch zero xs = omega arith
-length_batch (suc k) [] = omega arith
-length_batch (suc k) (x ∷ xs) = let h = length_batch k xs in omega arith
-
 either : {S C O : Type 0} {n i : ℕ} (b : Bool) {e f : RaftEffect S C O} → (b ≡ true → SendsGood n i e) → (b ≡ false → SendsGood n i f) → SendsGood n i (cond b e f)
 either true k l = k refl
 either false k l = l refl
@@ -69,7 +65,7 @@ module _ {S C O : Type 0} (m : MachineMeaning S C O) (n i : ℕ) where
   append_range s k l j below =
       let ps = k.peers l in
       let p = (All-get_or (IsPeer (length s.log)) s.peers j (new_peer 0) (omega (arith, ps.each)) ps.within).1 in
-      (k.term, omega (arith, k.short, length_batch MAX_BATCH (drop ((peer_at s.peers j).next - 1) s.log), length-drop ((peer_at s.peers j).next - 1) s.log))
+      (k.term, omega (arith, k.short, length_taken MAX_BATCH (drop ((peer_at s.peers j).next - 1) s.log), length-drop ((peer_at s.peers j).next - 1) s.log))
 
   good_appends : (s : RaftView S C O) → is_leader s.role ≡ true → IsSoundNode n i s → AreGood n i (appends n i s)
   good_appends s l k = good_each n i (append s) (append_range s k l) n (omega arith)

@@ -1,9 +1,11 @@
 -- What happens at a node in a step that the network allows.
 use Rattle.std.proofs.Common.{◌≡◌, ℕ, zero, suc, ◌<◌, Bool, true, false, not, List, [], ◌∷◌, ◌++◌, Option, Some, None, ltb, cond, slice_get, inl, inr, refl, sym}
 use Rattle.std.proofs.lemmas.Bool.{false≢true, ltb-true, not-false}
-use Rattle.net_semantics.specs.Steps.{Event, acting, delivery, event_of, fails, input_item, node_of, packet_of, reboots, refusal_of, takes_input_of}
+use Rattle.net_semantics.specs.StepLaws.{delivered_there, ends_delivered}
+use Rattle.net_semantics.specs.Steps.{Event, acts_at, delivered, delivery, event_in, fails, input_is_taken, input_item, node_named, node_started, packet_named, refusal_in}
 use Rattle.net_semantics.specs.Worlds.{Packet, copies}
-use Rattle.vst_base.specs.Nets.{has_kind, kind_of}
+use Rattle.vst_base.specs.Nets.{has_kind, kind_in}
+use Rattle.vst_base.specs.StepViews.{AtNode, Fate, OfPacket, Starts, StepView, Stops, view_of}
 use Rattle.vst_base.specs.declared.step.StepRefusal.TheVariants as refusal
 use Rattle.vst_base.specs.Firsts.{first_of}
 use Rattle.vst_base.specs.Machines.{MachineMeaning}
@@ -11,7 +13,6 @@ use Rattle.vst_base.specs.declared.entry.Entry.{Entry}
 use Rattle.vst_base.specs.declared.net.Net.TheVariants as net
 use Rattle.vst_base.specs.declared.step.Item.TheVariants as item
 use Rattle.vst_base.specs.declared.step.Step.{Step}
-use Rattle.vst_base.specs.declared.step.Step.TheVariants as step
 use Rattle.raft_free.specs.Events.{In}
 use Rattle.raft_free.specs.Nodes as free
 use Rattle.raft_clients.specs.Requests.{request_of}
@@ -66,37 +67,37 @@ none_applies false false false false true f h = absurd (cc (h))
 none_applies false false false false false f h = (refl, refl, refl)
 
 module _ {S C O : Type 0} (m : MachineMeaning S C O) (n : ℕ) (w : RaftWorld S C O) where
-  -- the network takes the step
-  abbrev pub IsTaken : Step (RaftInput C) → Type 0
-  IsTaken s = refusal_of net.Fail (raft n m) w s ≡ None
+  -- the network takes what a step is of, and the step
+  abbrev pub IsTakenIn : StepView (RaftInput C) → Type 0
+  IsTakenIn s = refusal_in net.Fail (raft n m) w s ≡ None
 
-  passes : (s : Step (RaftInput C)) → IsTaken s →
-      (fails (node_of s) (λ i. ltb i n) ≡ false) × (fails (acting w s) w.is_up ≡ false) × (fails (reboots s) (λ i. not (w.is_up i)) ≡ false)
+  abbrev pub IsTaken : Step (RaftInput C) → Type 0
+  IsTaken s = IsTakenIn (view_of s)
+
+  passes : (s : StepView (RaftInput C)) → IsTakenIn s →
+      (fails (node_named s) (λ i. ltb i n) ≡ false) × (fails (acts_at w s) w.is_up ≡ false) × (fails (node_started s) (λ i. not (w.is_up i)) ≡ false)
   passes s e =
-      none_applies (not (has_kind net.Fail (kind_of s))) (fails (node_of s) (λ i. ltb i n)) (not (takes_input_of (raft n m).takes_input s)) (fails (acting w s) w.is_up) (fails (reboots s) (λ i. not (w.is_up i)))
-      (fails (packet_of s) (λ k. ltb 0 (copies w k))) e
+      none_applies (not (has_kind net.Fail (kind_in s))) (fails (node_named s) (λ i. ltb i n)) (not (input_is_taken (raft n m).takes_input s)) (fails (acts_at w s) w.is_up)
+      (fails (node_started s) (λ i. not (w.is_up i))) (fails (packet_named s) (λ k. ltb 0 (copies w k))) e
 
   at_up_node : (i : ℕ) → not (ltb i n) ≡ false → not (w.is_up i) ≡ false → (i < n) × (w.is_up i ≡ true)
   at_up_node i a b = (ltb-true i n (not-false _ a), not-false _ b)
 
-  taken_input : (i : ℕ) (q : RaftInput C) → IsTaken (step.In i q) → (i < n) × (w.is_up i ≡ true)
-  taken_input i q e = let p = passes (step.In i q) e in at_up_node i p.0 p.1
+  taken_at_node : (i : ℕ) (q : Option (RaftInput C)) → IsTakenIn (AtNode i q) → (i < n) × (w.is_up i ≡ true)
+  taken_at_node i q e = let p = passes (AtNode i q) e in at_up_node i p.0 p.1
 
-  taken_tick : (i : ℕ) → IsTaken (step.Tick i) → (i < n) × (w.is_up i ≡ true)
-  taken_tick i e = let p = passes (step.Tick i) e in at_up_node i p.0 p.1
+  pub taken_crash : (i : ℕ) → IsTakenIn (Stops i) → (i < n) × (w.is_up i ≡ true)
+  taken_crash i e = let p = passes (Stops i) e in at_up_node i p.0 p.1
 
-  pub taken_crash : (i : ℕ) → IsTaken (step.Crash i) → (i < n) × (w.is_up i ≡ true)
-  taken_crash i e = let p = passes (step.Crash i) e in at_up_node i p.0 p.1
-
-  pub taken_reboot : (i : ℕ) → IsTaken (step.Reboot i) → (i < n) × (w.is_up i ≡ false)
-  taken_reboot i e = let p = passes (step.Reboot i) e in (ltb-true i n (not-false _ p.0), off (w.is_up i) p.2)
+  pub taken_reboot : (i : ℕ) → IsTakenIn (Starts i) → (i < n) × (w.is_up i ≡ false)
+  taken_reboot i e = let p = passes (Starts i) e in (ltb-true i n (not-false _ p.0), off (w.is_up i) p.2)
     where
       off : (b : Bool) → not (not b) ≡ false → b ≡ false
       off true e = absurd (false≢true (sym e))
       off false e = refl
 
-  taken_deliver : (k : ℕ) → IsTaken (step.Deliver k) → (p : Packet (RaftMsg C)) → slice_get w.packets k ≡ Some p → w.is_up p.destination ≡ true
-  taken_deliver k e p is = let q = passes (step.Deliver k) e in not-false _ (rw is at q.1)
+  taken_packet : (k : ℕ) (fate : Fate) → IsTakenIn (OfPacket k fate) → (p : Packet (RaftMsg C)) → delivered fate (slice_get w.packets k) ≡ Some p → w.is_up p.destination ≡ true
+  taken_packet k fate e p is = let q = passes (OfPacket k fate) e in not-false _ (rw (ends_delivered fate (slice_get w.packets k), is) at q.1)
 
   pub in_packets : (ps : List (Packet (RaftMsg C))) (k : ℕ) (p : Packet (RaftMsg C)) → slice_get ps k ≡ Some p → In p ps
   in_packets [] k p e = absurd (cc (e))
@@ -109,9 +110,9 @@ module _ {S C O : Type 0} (m : MachineMeaning S C O) (n : ℕ) (w : RaftWorld S 
   last_input (item.Output j o ∷ seen) i q = last_input seen i q
 
   -- the event of a step, if there is one
-  pub turn : (v : free.FreeWorld C) (seen : Seen C O) → Mirrors w v → Stands m n w → (s : Step (RaftInput C)) → IsTaken s →
-      (e : Event (RaftView S C O) (RaftInput C) (RaftOut O) (RaftMsg C)) → event_of (raft n m) w s ≡ Some e → Turn m n w v seen e
-  turn v seen mirrors stands (step.In i q) taken e is = rw (← same) (record {
+  pub turn : (v : free.FreeWorld C) (seen : Seen C O) → Mirrors w v → Stands m n w → (s : StepView (RaftInput C)) → IsTakenIn s →
+      (e : Event (RaftView S C O) (RaftInput C) (RaftOut O) (RaftMsg C)) → event_in (raft n m) w s ≡ Some e → Turn m n w v seen e
+  turn v seen mirrors stands (AtNode i (Some q)) taken e is = rw (← same) (record {
     below = t.0;
     is_up = t.1;
     refined = input_refined m n i (WasPutIn (seen ++ input_item i (Some q))) (λ _. tt) (w.state i) q k.peers after.peers k.applied (last_input seen i q) v.sent;
@@ -123,14 +124,14 @@ module _ {S C O : Type 0} (m : MachineMeaning S C O) (n : ℕ) (w : RaftWorld S 
       same = cc (is)
 
       t : (i < n) × (w.is_up i ≡ true)
-      t = taken_input i q taken
+      t = taken_at_node i (Some q) taken
 
       k : IsSoundNode n i (w.state i)
       k = stands.sound i t.0
 
       after : IsSoundNode n i ((raft n m).input i (w.state i) q).state
       after = (keeps_input k m q).sound
-  turn v seen mirrors stands (step.Tick i) taken e is = rw (← same) (record {
+  turn v seen mirrors stands (AtNode i None) taken e is = rw (← same) (record {
     below = t.0;
     is_up = t.1;
     refined = tick_refined m n i (WasPutIn (seen ++ input_item i None)) (λ _. tt) (w.state i) k.peers after.peers k.applied v.sent;
@@ -142,20 +143,20 @@ module _ {S C O : Type 0} (m : MachineMeaning S C O) (n : ℕ) (w : RaftWorld S 
       same = cc (is)
 
       t : (i < n) × (w.is_up i ≡ true)
-      t = taken_tick i taken
+      t = taken_at_node i None taken
 
       k : IsSoundNode n i (w.state i)
       k = stands.sound i t.0
 
       after : IsSoundNode n i ((raft n m).timeout i (w.state i)).state
       after = (keeps_tick k m).sound
-  turn v seen mirrors stands (step.Deliver k) taken e is = by_packet (slice_get w.packets k) refl is
+  turn v seen mirrors stands (OfPacket k fate) taken e is = by_packet (delivered fate (slice_get w.packets k)) refl is
     where
-      by_packet : (o : Option (Packet (RaftMsg C))) → slice_get w.packets k ≡ o → delivery (raft n m) w o ≡ Some e → Turn m n w v seen e
+      by_packet : (o : Option (Packet (RaftMsg C))) → delivered fate (slice_get w.packets k) ≡ o → delivery (raft n m) w o ≡ Some e → Turn m n w v seen e
       by_packet None at it = absurd (cc (it))
       by_packet (Some p) at it = rw (← same) (record {
         below = g.below;
-        is_up = taken_deliver k taken p at;
+        is_up = taken_packet k fate taken p at;
         refined = message_refined m n p.destination (WasPutIn (seen ++ input_item p.destination None)) (λ _. tt) (w.state p.destination) p.source p.content from (λ f. g.other (sym f))
             before.peers before.applied after.peers v.sent (mirrors.sent p here);
         sound = after;
@@ -166,7 +167,7 @@ module _ {S C O : Type 0} (m : MachineMeaning S C O) (n : ℕ) (w : RaftWorld S 
           same = cc (it)
 
           here : In p w.packets
-          here = in_packets w.packets k p at
+          here = in_packets w.packets k p (delivered_there fate (slice_get w.packets k) p at)
 
           g : IsGood n p.source p.destination p.content
           g = stands.good p here
@@ -179,7 +180,5 @@ module _ {S C O : Type 0} (m : MachineMeaning S C O) (n : ℕ) (w : RaftWorld S 
 
           after : IsSoundNode n p.destination ((raft n m).message p.destination (w.state p.destination) p.source p.content).state
           after = (keeps_message before m p.source from p.content g.range).sound
-  turn v seen mirrors stands (step.Dup k) taken e is = absurd (cc (is))
-  turn v seen mirrors stands (step.Lose k) taken e is = absurd (cc (is))
-  turn v seen mirrors stands (step.Crash i) taken e is = absurd (cc (is))
-  turn v seen mirrors stands (step.Reboot i) taken e is = absurd (cc (is))
+  turn v seen mirrors stands (Stops i) taken e is = absurd (cc (is))
+  turn v seen mirrors stands (Starts i) taken e is = absurd (cc (is))

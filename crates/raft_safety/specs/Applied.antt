@@ -1,5 +1,5 @@
 -- What a cluster has applied, and which of it was executed.
-use Rattle.std.specs.Prelude.{◌≡◌, ℕ, zero, suc, List, [], ◌∷◌, ◌++◌, length, take, nat_lt, if◌then◌else◌}
+use Rattle.std.specs.Prelude.{ℕ, zero, suc, List, [], ◌∷◌, length, take, nat_lt, if◌then◌else◌}
 use Rattle.net_semantics.specs.Steps.{next}
 use Rattle.net_semantics.specs.Worlds.{first_world}
 use Rattle.vst_base.specs.Machines.{MachineMeaning}
@@ -13,10 +13,6 @@ use Rattle.raft_xform.specs.Raft.{raft, raft_recovery}
 use Rattle.raft_safety.specs.Runs.{RaftWorld}
 
 module _ {A : Type 0} where
-  -- a list is the beginning of another
-  abbrev pub IsBeginning : List A → List A → Type 0
-  IsBeginning xs ys = (rest : List A) × (xs ++ rest ≡ ys)
-
   abbrev pub longer : List A → List A → List A
   longer xs ys = if nat_lt (length xs) (length ys) then ys else xs
 

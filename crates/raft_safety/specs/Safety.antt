@@ -19,10 +19,11 @@ use Rattle.raft_types.specs.declared.msg.RaftMsg.{RaftMsg}
 use Rattle.raft_types.specs.declared.msg.RaftMsg.TheVariants as msg
 use Rattle.raft_xform.specs.Electing.{heard}
 use Rattle.raft_xform.specs.Nodes.{is_leader}
-use Rattle.raft_safety.specs.Applied.{IsBeginning, applied_by, applied_list, executed_by}
+use Rattle.raft_safety.specs.Applied.{applied_by, applied_list, executed_by}
 use Rattle.raft_safety.specs.Runs.{AreMoments, IsReached, IsRun, Leads, RaftWorld, log_at, seen, world_after}
 use Rattle.linearizability.specs.Linearizable.{IsLinearizable}
 use Rattle.raft_safety.specs.Mirrors.{Mirrors}
+use Rattle.lists.specs.Prefixes.{IsPrefix}
 
 -- two moments of a run with free choices mirror these
 pub record AreMirrored {S C O : Type 0} (nodes : ℕ) (v w : RaftWorld S C O) : Type 0 where
@@ -81,7 +82,7 @@ module _ (S C O : Type 0) where
   abbrev pub LeaderAppendOnly : Type 0
   LeaderAppendOnly =
       (m : MachineMeaning S C O) (nodes : ℕ) (v w : RaftWorld S C O) (i term : ℕ) → AreMoments m nodes v w →
-      Leads v i term → Leads w i term → IsBeginning (log_at v i) (log_at w i)
+      Leads v i term → Leads w i term → IsPrefix (log_at v i) (log_at w i)
 
   -- logs with equal terms at an index agree up to it
   abbrev pub LogMatching : Type 0
@@ -154,25 +155,25 @@ module _ (S C O : Type 0) where
   abbrev pub AppliedGrows : Type 0
   AppliedGrows =
       (m : MachineMeaning S C O) (nodes : ℕ) (early late : List (Step (RaftInput C))) → IsRun m nodes (early ++ late) →
-      IsBeginning (applied_by m nodes early) (applied_by m nodes (early ++ late))
+      IsPrefix (applied_by m nodes early) (applied_by m nodes (early ++ late))
 
   -- and so do the requests of it that are executed
   abbrev pub ExecutedGrows : Type 0
   ExecutedGrows =
       (m : MachineMeaning S C O) (nodes : ℕ) (early late : List (Step (RaftInput C))) → IsRun m nodes (early ++ late) →
-      IsBeginning (executed_by m nodes early) (executed_by m nodes (early ++ late))
+      IsPrefix (executed_by m nodes early) (executed_by m nodes (early ++ late))
 
   -- and the entries of it that hold these, each with its term and the node that took it
   abbrev pub ExecutedEntriesGrow : Type 0
   ExecutedEntriesGrow =
       (m : MachineMeaning S C O) (nodes : ℕ) (early late : List (Step (RaftInput C))) → IsRun m nodes (early ++ late) →
-      IsBeginning (executed_entries (applied_by m nodes early)) (executed_entries (applied_by m nodes (early ++ late)))
+      IsPrefix (executed_entries (applied_by m nodes early)) (executed_entries (applied_by m nodes (early ++ late)))
 
   -- each node has applied a beginning of it
   abbrev pub EachHasABeginning : Type 0
   EachHasABeginning =
       (m : MachineMeaning S C O) (nodes : ℕ) (ss : List (Step (RaftInput C))) (i : ℕ) → IsRun m nodes ss → i < nodes →
-      IsBeginning (applied_list ((world_after m nodes ss).state i)) (applied_by m nodes ss)
+      IsPrefix (applied_list ((world_after m nodes ss).state i)) (applied_by m nodes ss)
 
   -- the machine of each node is as one machine that takes the executed commands of what the node has applied
   abbrev pub EachMachineFollows : Type 0

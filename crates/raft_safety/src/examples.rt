@@ -7,12 +7,13 @@ ghost use Rattle.raft_clients.specs.Executed.{executed_entries};
 ghost use Rattle.raft_free.specs.Nodes as free;
 ghost use Rattle.raft_types.specs.declared.client.RaftOut.TheVariants as told;
 ghost use Rattle.raft_types.specs.declared.msg.RaftMsg.TheVariants as msg;
-ghost use Rattle.raft_safety.specs.Applied.{IsBeginning, applied_by, applied_lists, executed_by, longest};
+ghost use Rattle.raft_safety.specs.Applied.{applied_by, applied_lists, executed_by, longest};
 ghost use Rattle.raft_safety.specs.Examples.{OfItsMirror, asked_again, asked_once, copied, elected, finished_by_the_next, five, late_copy, sent_first, started_again, two_clients, two_leaders};
 ghost use Rattle.raft_safety.specs.Mirrors.{Mirrors, MirrorsNode, free_packet};
 ghost use Rattle.raft_safety.specs.Runs.{AreMoments, IsReached, IsRun, Leads, log_at, seen, world_after};
 ghost use Rattle.raft_safety.specs.Safety.{ComesInItsTerm, CommitsByTheRule};
 ghost use Rattle.linearizability.specs.Examples.{asks, put, tell};
+ghost use Rattle.lists.specs.Prefixes.{IsPrefix};
 
 use vst_base::Item;
 
@@ -69,7 +70,7 @@ pub fn worked_runs()
     ensures a_candidate_does_not_lead { Leads (world_after counter 3 (step.Tick 0 ∷ [])) 0 1 → ⊥ }
     ensures it_led { Leads (world_after counter 3 elected) 0 1 }
     ensures it_leads_no_more { Leads (world_after counter 3 (elected ++ step.Crash 0 ∷ [])) 0 1 → ⊥ }
-    ensures an_end_is_no_beginning { IsBeginning (five 1 0 ∷ []) (five 2 1 ∷ five 1 0 ∷ []) → ⊥ }
+    ensures an_end_is_no_beginning { IsPrefix (five 1 0 ∷ []) (five 2 1 ∷ five 1 0 ∷ []) → ⊥ }
     ensures other_moments { AreMoments counter 3 (world_after counter 3 asked_once) (world_after counter 3 started_again) }
     ensures moments_of_nine { AreMoments counter 9 (world_after counter 9 []) (world_after counter 9 (step.Tick 0 ∷ [])) }
     ensures reached { IsReached counter 3 (world_after counter 3 started_again) }

@@ -1,7 +1,7 @@
 -- What saying a line on the error stream comes to.
 use Rattle.std.specs.Prelude.{◌≡◌, ◌⊎◌, ℕ, List}
 use Rattle.outside.specs.Counting.{Rose}
-use Rattle.outside.specs.Wholes.{Gained, GainedFront}
+use Rattle.outside.specs.Wholes.{Gained, GainedPrefix}
 use Rattle.run_streams.specs.Lines.{memory_line}
 use Rattle.run_streams.specs.Seen.{CountsNothing, SinkSeen}
 
@@ -10,8 +10,8 @@ use Rattle.run_streams.specs.Seen.{CountsNothing, SinkSeen}
 abbrev pub Said : ℕ → List ℕ → SinkSeen → SinkSeen → ℕ → Type 0
 Said status line before after result =
     ((result ≡ status) × Gained before.written after.written line × CountsNothing before after)
-    ⊎ ((result ≡ 5) × GainedFront before.written after.written line × Rose before.faults after.faults × (after.wants ≡ before.wants))
-    ⊎ ((result ≡ 8) × GainedFront before.written after.written line × (after.faults ≡ before.faults) × Rose before.wants after.wants)
+    ⊎ ((result ≡ 5) × GainedPrefix before.written after.written line × Rose before.faults after.faults × (after.wants ≡ before.wants))
+    ⊎ ((result ≡ 8) × GainedPrefix before.written after.written line × (after.faults ≡ before.faults) × Rose before.wants after.wants)
 
 -- the line is said; or, where it cannot be made, that memory is wanted
 abbrev pub Tells : ℕ → List ℕ → SinkSeen → SinkSeen → ℕ → Type 0

@@ -5,7 +5,7 @@ use Rattle.std.proofs.lemmas.List.{append-nil}
 use Rattle.vst_base.specs.declared.step.Step.{Step}
 use Rattle.vst_base.specs.declared.step.Item.{Item}
 use Rattle.net_semantics.specs.Runs.{trace}
-use Rattle.outside.specs.Wholes.{Gained, GainedFront}
+use Rattle.outside.specs.Wholes.{Gained, GainedPrefix}
 use Rattle.outside.proofs.Wholes.{gained-both, gained-some}
 use Rattle.line_reader.specs.declared.why.Why.{Why}
 use Rattle.line_reader.specs.Lines.{lines_of, whole_lines, decided}
@@ -99,8 +99,8 @@ module _ {R S K I O M G : Type 0} (sys : System S K I O M G) (follows : R → Li
       image-of : (a : Halted sys follows progress t i v tally old new left left' out mid halt.End) → shown ≡ sys.image a.steps
       image-of a = shows a.steps a.ran.followed
 
-      pub rest-finishing : (out' : Option (List ℕ)) → Halted sys follows progress t i v tally old new left left' out mid halt.End → GainedFront mid out' (image_text i.header i.line shown)
-          → GainedFront out out' (stack_whole (play_of sys t i) old rest).out
+      pub rest-finishing : (out' : Option (List ℕ)) → Halted sys follows progress t i v tally old new left left' out mid halt.End → GainedPrefix mid out' (image_text i.header i.line shown)
+          → GainedPrefix out out' (stack_whole (play_of sys t i) old rest).out
       rest-finishing out' a more =
           let by = a.halts rest has in
           let before = all-written halt.End a in
@@ -108,8 +108,8 @@ module _ {R S K I O M G : Type 0} (sys : System S K I O M G) (follows : R → Li
           let image = ap (image_text i.header i.line) (image-of a) in
           let lines = trace_lines (play_of sys t i) a.steps in
           let below = image_lines (play_of sys t i) a.steps in
-          subst (λ (r : Replayed). GainedFront out out' r.out) (sym same)
-          (gained-some out mid out' lines below (lines ++ below) [] (ap (λ bs. lines ++ bs) (sym (append-nil below))) before.written (subst (λ (bs : List ℕ). GainedFront mid out' bs) image more))
+          subst (λ (r : Replayed). GainedPrefix out out' r.out) (sym same)
+          (gained-some out mid out' lines below (lines ++ below) [] (ap (λ bs. lines ++ bs) (sym (append-nil below))) before.written (subst (λ (bs : List ℕ). GainedPrefix mid out' bs) image more))
 
       pub rest-done : (out' : Option (List ℕ)) (done : Done) (events : ℕ) → Halted sys follows progress t i v tally old new left left' out mid halt.End → Gained mid out' (image_text i.header i.line shown)
           → done ≡ counted_done tally events shown → events ≡ (progress v).taken
@@ -133,7 +133,7 @@ module _ {R S K I O M G : Type 0} (sys : System S K I O M G) (follows : R → Li
           }
 
 -- a write that failed, or want of memory
-pub rest-fails : (whole so_far : List ℕ → Replayed) (before : ℕ) (rest : List ℕ) (left' out out' : Option (List ℕ)) (f f' : ℕ) (found : WriteFault) → HasWriteCause f f' found → GainedFront out out' (whole rest).out
+pub rest-fails : (whole so_far : List ℕ → Replayed) (before : ℕ) (rest : List ℕ) (left' out out' : Option (List ℕ)) (f f' : ℕ) (found : WriteFault) → HasWriteCause f f' found → GainedPrefix out out' (whole rest).out
     → ComesTo whole so_far before rest left' out out' (Err (write_fault found))
 rest-fails whole so_far before rest left' out out' f f' line.Write cause front = front
 rest-fails whole so_far before rest left' out out' f f' line.Memory cause front = front

@@ -5,7 +5,7 @@ use Rattle.std.proofs.lemmas.List.{append-nil}
 use Rattle.vst_base.specs.declared.step.Item.{Item}
 use Rattle.vst_base.specs.declared.step.Step.{Step}
 use Rattle.net_semantics.specs.Worlds.{first_world}
-use Rattle.outside.specs.Wholes.{Gained, GainedFront}
+use Rattle.outside.specs.Wholes.{Gained, GainedPrefix}
 use Rattle.outside.proofs.Wholes.{gained-both, gained-nothing}
 use Rattle.line_reader.specs.Lines.{whole_lines}
 use Rattle.line_reader.specs.Readers.{ReaderView, HasRest}
@@ -24,7 +24,7 @@ use Rattle.schedule_replay.proofs.Plays.{Played, Standing, nothing-left, part-st
 use Rattle.schedule_replay.proofs.Scripts.{all-taken}
 
 -- of a front so many bytes were gained
-front-bytes : (mid new : Option (List ℕ)) (text : List ℕ) → GainedFront mid new text → (n : ℕ) × Gained mid new (take n text)
+front-bytes : (mid new : Option (List ℕ)) (text : List ℕ) → GainedPrefix mid new text → (n : ℕ) × Gained mid new (take n text)
 front-bytes None new text front = (0, tt)
 front-bytes (Some held) new text front = front
 
@@ -39,7 +39,7 @@ module _ {so_far : List ℕ → Replayed} {rest : List ℕ} {left' out mid : Opt
         (gained-both out mid new ((so_far kept.early).out ++ kept.more) text kept.written gained);
   }
 
-  pub kept-front : (new : Option (List ℕ)) (text : List ℕ) → GainedFront mid new text → KeptUp so_far rest left' out new
+  pub kept-front : (new : Option (List ℕ)) (text : List ℕ) → GainedPrefix mid new text → KeptUp so_far rest left' out new
   kept-front new text front = let some = front-bytes mid new text front in kept-more new (take some.0 text) some.1
 
   -- also before the source is read again

@@ -1,7 +1,7 @@
 -- What a replay comes to, by how its text opens.
 use Rattle.std.specs.Prelude.{◌≡◌, ◌≢◌, ◌⊎◌, ℕ, Bool, true, false, ◌+◌, ◌-◌, ◌≤◌, List, [], ◌++◌, length, Option, Some, None, IfSome, IfErr, Result, Ok, Err, refl}
 use Rattle.std.proofs.Common.{inl, inr, ap, ◌∙◌, sym, subst, append_assoc, arith, length-append}
-use Rattle.outside.specs.Wholes.{Gained, GainedFront}
+use Rattle.outside.specs.Wholes.{Gained, GainedPrefix}
 use Rattle.outside.proofs.Wholes.{gained-nothing}
 use Rattle.line_reader.specs.declared.why.Why.{Why}
 use Rattle.line_reader.specs.declared.read_fault.ReadFault.{ReadFault}
@@ -108,8 +108,8 @@ module _ (h : Header) (r : ReaderView) (most : r.most ≡ most_lines) (events : 
       left_is = gave.left_is;
     }
 
-    front-same : GainedFront out out' (rest_whole h r u.rest').out → GainedFront out out' (replayed bytes).out
-    front-same front = subst (λ (x : Replayed). GainedFront out out' x.out) (sym whole-same) front
+    front-same : GainedPrefix out out' (rest_whole h r u.rest').out → GainedPrefix out out' (replayed bytes).out
+    front-same front = subst (λ (x : Replayed). GainedPrefix out out' x.out) (sym whole-same) front
 
     kept-then : (over : Bool) → r.ended ≡ over → HeaderIsNear (fresh most_lines) left bytes
         → KeptUp (rest_so_far h r) u.rest' left' out out' → KeptUp replayed_so_far bytes left' out out'
@@ -182,11 +182,6 @@ fresh-rest r left bytes is told = record {
   rest_is = ap (λ (v : ReaderView). v.ahead ++ bytes) (sym is);
   at_end = λ over. let both : ◌≡◌ {A = Bool} false true = sym (ap (λ (v : ReaderView). v.ended) is) ∙ over in cc;
 }
-
--- what holds of a source that tells
-pub if-told : (left : Option (List ℕ)) (P : List ℕ → Type 0) → ((bytes : List ℕ) → left ≡ Some bytes → P bytes) → IfSome left P
-if-told None P h = tt
-if-told (Some bytes) P h = h bytes refl
 
 -- a read that failed was made before the end was met
 pub going-of : (ended : Bool) (f f' w w' : ℕ) (result : Result Done ReplayFault) → IfErr result (HasCause ended f f' w w') → result ≡ Err fault.Read → ended ≡ false

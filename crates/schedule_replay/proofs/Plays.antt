@@ -11,7 +11,7 @@ use Rattle.vst_base.specs.declared.step.Item.{Item}
 use Rattle.net_semantics.specs.Worlds.{first_world}
 use Rattle.net_semantics.specs.Runs.{run, trace, trace_from}
 use Rattle.net_semantics.specs.RunLaws.{trace_from-append}
-use Rattle.outside.specs.Wholes.{Gained, GainedFront}
+use Rattle.outside.specs.Wholes.{Gained, GainedPrefix}
 use Rattle.outside.proofs.Wholes.{gained-both, gained-front, gained-some, gained-nothing}
 use Rattle.line_reader.specs.declared.why.Why.{Why}
 use Rattle.line_reader.specs.Lines.{lines_of, whole_lines}
@@ -341,13 +341,13 @@ module _ {R S K I O M G : Type 0} {sys : System S K I O M G} {follows : R → Li
       )
 
   pub written-front : {out out' : Option (List ℕ)} {tally : Tally} → TraceWritten t gone out out' tally
-      → GainedFront out out' (replayed_script (play_of sys t i) true sc).out
+      → GainedPrefix out out' (replayed_script (play_of sys t i) true sc).out
   written-front {out} {out'} before =
       gained-front out out' (text_of t gone) (text_of t (progress v).trace ++ text-front.0) _ text-front.1 before.written
 
   -- also while what clients saw last is written
   writing-front : {out mid : Option (List ℕ)} {tally : Tally} (out' : Option (List ℕ)) → TraceWritten t gone out mid tally
-      → GainedFront mid out' (text_of t (progress v).trace) → GainedFront out out' (replayed_script (play_of sys t i) true sc).out
+      → GainedPrefix mid out' (text_of t (progress v).trace) → GainedPrefix out out' (replayed_script (play_of sys t i) true sc).out
   writing-front {out} {mid} out' before more =
       gained-some out mid out' (text_of t gone) (text_of t (progress v).trace) _ text-front.0 text-front.1 before.written more
 
@@ -357,9 +357,9 @@ module _ {R S K I O M G : Type 0} {sys : System S K I O M G} {follows : R → Li
   abbrev whole : Script I
   whole = script_from t.input_of a.reader (lines_of rest)
 
-  pub played-front : GainedFront a.written b.written (replayed_script (play_of sys t i) true whole).out
+  pub played-front : GainedPrefix a.written b.written (replayed_script (play_of sys t i) true whole).out
   played-front = written-front p.ran t i whole (front p i rest has) p.written
 
-  pub playing-front : (out' : Option (List ℕ)) → GainedFront b.written out' (text_of t (progress b.running).trace)
-      → GainedFront a.written out' (replayed_script (play_of sys t i) true whole).out
+  pub playing-front : (out' : Option (List ℕ)) → GainedPrefix b.written out' (text_of t (progress b.running).trace)
+      → GainedPrefix a.written out' (replayed_script (play_of sys t i) true whole).out
   playing-front out' more = writing-front p.ran t i whole (front p i rest has) out' p.written more

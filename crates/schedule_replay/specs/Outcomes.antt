@@ -2,7 +2,7 @@
 -- replay makes of a whole rest, and of the whole lines of one that broke off.
 use Rattle.std.specs.Prelude.{◌≡◌, ◌≢◌, ◌⊎◌, ℕ, Bool, false, ◌+◌, ◌-◌, ◌<◌, ◌≤◌, List, [], ◌++◌, length, Option, Some, None, Result, Ok, Err, IfErr}
 use Rattle.outside.specs.Counting.{Rose}
-use Rattle.outside.specs.Wholes.{Gained, GainedFront}
+use Rattle.outside.specs.Wholes.{Gained, GainedPrefix}
 use Rattle.line_reader.specs.declared.why.Why.{Why}
 use Rattle.line_reader.specs.Lines.{decided, split_lines}
 use Rattle.schedule_replay.specs.declared.done.Done.{Done}
@@ -35,7 +35,7 @@ pub record BrokeOff (whole so_far : List ℕ → Replayed) (rest : List ℕ) (le
   pub short : length (split_lines given).1 ≤ 4096
   pub taken : (so_far given).refused ≡ None
   pub written : Gained out out' (so_far given).out
-  pub front : GainedFront out out' (whole rest).out
+  pub front : GainedPrefix out out' (whole rest).out
 
 -- this line is the first that is refused, the sink gained the trace before it, and at most 4,096 bytes were given past the
 -- byte that decided it
@@ -51,8 +51,8 @@ abbrev pub ComesTo : (List ℕ → Replayed) → (List ℕ → Replayed) → ℕ
 ComesTo whole so_far before rest left' out out' (Ok done) = IsDone whole rest left' out out' done
 ComesTo whole so_far before rest left' out out' (Err fault.Read) = BrokeOff whole so_far rest left' out out'
 ComesTo whole so_far before rest left' out out' (Err (fault.Refused line why)) = IsRefused whole before rest left' out out' line why
-ComesTo whole so_far before rest left' out out' (Err fault.Write) = GainedFront out out' (whole rest).out
-ComesTo whole so_far before rest left' out out' (Err fault.Memory) = GainedFront out out' (whole rest).out
+ComesTo whole so_far before rest left' out out' (Err fault.Write) = GainedPrefix out out' (whole rest).out
+ComesTo whole so_far before rest left' out out' (Err fault.Memory) = GainedPrefix out out' (whole rest).out
 
 -- what was read is a part of the rest and at most 4,096 bytes more, and the sink gained what the whole lines of that part come to.
 -- It may have gained more

@@ -1,5 +1,5 @@
 ghost use Rattle.std.specs.Prelude.{◌≡◌, ◌≤◌, IfErr, IfOk, IsErrOf, OnErr, OnOk};
-ghost use Rattle.outside.specs.Wholes.{Gained, GainedFront};
+ghost use Rattle.outside.specs.Wholes.{Gained, GainedPrefix};
 ghost use Rattle.schedule_text.specs.Sending.{HasWriteCause};
 ghost use Rattle.schedule_replay.specs.Finishing.{counted_done};
 ghost use Rattle.stacks.specs.ClaimTexts.{image_head, image_text};
@@ -34,7 +34,7 @@ pub(crate) fn finish<A: AppText, L: Printed<A>, K: Sink>(
     sink: &mut K,
 ) -> Result<Done, WriteFault>
     ensures ok { OnOk result (Gained (K.written sink.old) (K.written sink.new) (image_text header L.text image.now)) }
-    ensures err { OnErr result (GainedFront (K.written sink.old) (K.written sink.new) (image_text header L.text image.now)) }
+    ensures err { OnErr result (GainedPrefix (K.written sink.old) (K.written sink.new) (image_text header L.text image.now)) }
     ensures done { IfOk result (λ done. done ≡ counted_done tally.now events image.now) }
     ensures fault { IfErr result (HasWriteCause (K.faults sink.old) (K.faults sink.new)) }
     ensures unfailed { IsErrOf result WriteFault.Memory → K.faults sink.new ≡ K.faults sink.old }

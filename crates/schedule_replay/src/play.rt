@@ -2,7 +2,7 @@ ghost use Rattle.std.specs.Prelude.{◌≡◌, ◌≢◌, ◌+◌, ◌≤◌, �
 ghost use Rattle.line_reader.specs.Lines.{lines_of};
 ghost use Rattle.line_reader.specs.Readers.{HasRest};
 ghost use Rattle.outside.specs.Counting.{Rose};
-ghost use Rattle.outside.specs.Wholes.{GainedFront};
+ghost use Rattle.outside.specs.Wholes.{GainedPrefix};
 ghost use Rattle.schedule_text.specs.Schedules.{script};
 ghost use Rattle.schedule_text.specs.Sending.{HasWriteCause};
 ghost use Rattle.xform_stack.specs.Running.{HasRun};
@@ -40,7 +40,7 @@ pub(crate) fn play<R: Runs, A: AppText<Input = R::Input, Output = R::Output>, S:
         running.new tally.new reader.old reader.new (S.left source.old) (S.left source.new) (K.written sink.old) (K.written sink.new)
         halt) }
     ensures front { IfErr result (λ _. (i : ImageTexts R.Line) (rest : List ℕ) → HasRest reader.old (S.left source.old) rest
-        → GainedFront (K.written sink.old) (K.written sink.new)
+        → GainedPrefix (K.written sink.old) (K.written sink.new)
         (replayed_script (play_of (R.system running.old) (texts_of A.input_of A.input_text A.output_of A.output_text A.replies) i) true
         (script reader.old.most A.input_of (reader.old.number + 1) reader.old.events (lines_of rest))).out) }
     ensures kept_up { (i : ImageTexts R.Line) (rest : List ℕ) → HasRest reader.old (S.left source.old) rest → KeptUp

@@ -1,5 +1,5 @@
 ghost use Rattle.std.specs.Prelude.{◌≡◌, ◌≤◌, ◌⊎◌, length, IfErr, IsErrOf, OnErr, OnOk};
-ghost use Rattle.outside.specs.Wholes.{GainedFront};
+ghost use Rattle.outside.specs.Wholes.{GainedPrefix};
 ghost use Rattle.schedule_text.specs.Printing.{trace_text};
 ghost use Rattle.schedule_text.specs.Sending.{HasWriteCause};
 ghost use Rattle.stacks.specs.Stack.{texts_of};
@@ -25,7 +25,7 @@ pub(crate) fn write_trace<R: Runs, A: AppText<Input = R::Input, Output = R::Outp
         running.old running.new tally.old tally.new (K.written sink.old) (K.written sink.new)) }
     ensures system { OnOk result (R.system running.new ≡ R.system running.old) }
     ensures sound { OnOk result (R.sound running.old → R.sound running.new) }
-    ensures err { OnErr result (GainedFront (K.written sink.old) (K.written sink.new)
+    ensures err { OnErr result (GainedPrefix (K.written sink.old) (K.written sink.new)
         (trace_text A.input_text A.output_text (R.progress running.old).trace)) }
     ensures fault { IfErr result (HasWriteCause (K.faults sink.old) (K.faults sink.new)) }
     ensures unfailed { IsErrOf result WriteFault.Memory → K.faults sink.new ≡ K.faults sink.old }
@@ -59,7 +59,7 @@ pub(crate) fn write_before_reading<
     ensures few { length reader.now.ahead ≤ 4096 }
     ensures system { OnOk result (R.system running.new ≡ R.system running.old) }
     ensures sound { OnOk result (R.sound running.old → R.sound running.new) }
-    ensures err { OnErr result (GainedFront (K.written sink.old) (K.written sink.new)
+    ensures err { OnErr result (GainedPrefix (K.written sink.old) (K.written sink.new)
         (trace_text A.input_text A.output_text (R.progress running.old).trace)) }
     ensures fault { IfErr result (HasWriteCause (K.faults sink.old) (K.faults sink.new)) }
     ensures unfailed { IsErrOf result WriteFault.Memory → K.faults sink.new ≡ K.faults sink.old }

@@ -4,7 +4,7 @@ use Rattle.std.specs.List.{flat_map}
 use Rattle.std.proofs.Common.{ap, ◌∙◌, sym, subst, append_assoc, get_or, take-append-drop}
 use Rattle.std.proofs.lemmas.List.{append-nil, take_more, take_all}
 use Rattle.std.proofs.lemmas.Grind.{flat_map-append}
-use Rattle.outside.specs.Wholes.{Gained, GainedFront}
+use Rattle.outside.specs.Wholes.{Gained, GainedPrefix}
 use Rattle.outside.proofs.Wholes.{gained-both, gained-front, gained-some}
 use Rattle.schedule_text.specs.Sending.{Spilled}
 
@@ -13,7 +13,7 @@ module _ {X : Type 0} (f : X → List ℕ) (old : Option (List ℕ)) (xs : List 
   parts = ap (flat_map f) (sym (take-append-drop i xs)) ∙ flat_map-append f (take i xs) (drop i xs)
 
   -- nothing more was written
-  pub sending-broken : (now : Option (List ℕ)) (text : List ℕ) → Spilled old now (flat_map f (take i xs)) text → GainedFront old now (flat_map f xs)
+  pub sending-broken : (now : Option (List ℕ)) (text : List ℕ) → Spilled old now (flat_map f (take i xs)) text → GainedPrefix old now (flat_map f xs)
   sending-broken now text (sent, gained, lines) =
       gained-front old now sent (text ++ flat_map f (drop i xs)) (flat_map f xs)
       (parts ∙ (ap (λ bs. bs ++ flat_map f (drop i xs)) lines ∙ append_assoc sent text (flat_map f (drop i xs)))) gained
@@ -23,7 +23,7 @@ module _ {X : Type 0} (f : X → List ℕ) (old : Option (List ℕ)) (xs : List 
   sending-done mid new text all (sent, gained, lines) more =
       subst (λ (bs : List ℕ). Gained old new bs) (sym (ap (flat_map f) (sym (take_all i xs all)) ∙ lines)) (gained-both old mid new sent text gained more)
 
-  pub sending-last : (mid new : Option (List ℕ)) (text : List ℕ) → length xs ≤ i → Spilled old mid (flat_map f (take i xs)) text → GainedFront mid new text → GainedFront old new (flat_map f xs)
+  pub sending-last : (mid new : Option (List ℕ)) (text : List ℕ) → length xs ≤ i → Spilled old mid (flat_map f (take i xs)) text → GainedPrefix mid new text → GainedPrefix old new (flat_map f xs)
   sending-last mid new text all (sent, gained, lines) more =
       gained-some old mid new sent text (flat_map f xs) []
       (ap (flat_map f) (sym (take_all i xs all)) ∙ (lines ∙ ap (λ bs. sent ++ bs) (sym (append-nil text)))) gained more
@@ -41,8 +41,8 @@ module _ {X : Type 0} (f : X → List ℕ) (old : Option (List ℕ)) (xs : List 
       next ∙ (ap (λ bs. bs ++ f x) lines ∙ (append_assoc sent text (f x) ∙ (ap (λ bs. sent ++ bs) (sym one ∙ lines') ∙ sym (append_assoc sent sent' text'')))),
     )
 
-    pub sending-failed : (mid new : Option (List ℕ)) (text text' : List ℕ) → Spilled old mid (flat_map f (take i xs)) text → text' ≡ text ++ f x → GainedFront mid new text'
-        → GainedFront old new (flat_map f xs)
+    pub sending-failed : (mid new : Option (List ℕ)) (text text' : List ℕ) → Spilled old mid (flat_map f (take i xs)) text → text' ≡ text ++ f x → GainedPrefix mid new text'
+        → GainedPrefix old new (flat_map f xs)
     sending-failed mid new text text' (sent, gained, lines) one more =
         let rest = flat_map f (drop (i + 1) xs) in
         let whole = ap (flat_map f) (sym (take-append-drop (i + 1) xs)) ∙ flat_map-append f (take (i + 1) xs) (drop (i + 1) xs) in

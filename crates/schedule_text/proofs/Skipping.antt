@@ -7,10 +7,7 @@ use Rattle.line_reader.specs.Readers.{ReaderView, HasRest}
 use Rattle.line_reader.specs.Outcomes.{LineIsNear, ReadsPast, Uses}
 use Rattle.line_reader.proofs.Lining.{whole-append}
 use Rattle.line_reader.proofs.Using.{uses-none, uses-more, lines-more}
-
-no-front : (xs ys : List ℕ) → xs ++ ys ≡ [] → xs ≡ []
-no-front [] ys e = refl
-no-front (x ∷ xs) ys e = cc
+use Rattle.lists.specs.Places.{no_front}
 
 -- what was read past a part, behind lines that were used
 pub past-after : (old mid : ReaderView) (left left' : Option (List ℕ)) (rest used early : List ℕ) (u : Uses old mid left rest used)
@@ -67,7 +64,7 @@ module _ {R : Type 0} (F : ℕ → List (List ℕ) → R) where
     near-by false old mid left left' rest s early going past no_lines =
         subst Q (sym (of-part old mid left rest s early going no_lines)) (none (mid.number + 1))
     near-by true old mid left left' rest s early over past no_lines =
-        let nothing : early ≡ [] = no-front early (past.late ++ past.others) (sym past.whole ∙ s.uses.left.at_end over) in
+        let nothing : early ≡ [] = no_front early (past.late ++ past.others) (sym past.whole ∙ s.uses.left.at_end over) in
         let same : whole_lines (s.used ++ early) ≡ whole_lines s.used = ap (λ xs. whole_lines (s.used ++ xs)) nothing ∙ ap whole_lines (append-nil s.used) in
         let all : F (old.number + 1) (lines_of s.used) ≡ F (mid.number + 1) [] =
         ap (F (old.number + 1)) (sym (append-nil (lines_of s.used))) ∙ s.goes [] in

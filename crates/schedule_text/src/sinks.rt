@@ -1,6 +1,6 @@
 ghost use Rattle.std.specs.Prelude.{◌≡◌, ◌≤◌, IfErr, IsErrOf, OnErr, OnOk};
 ghost use Rattle.outside.specs.Counting.{Rose};
-ghost use Rattle.outside.specs.Wholes.{Gained, GainedFront};
+ghost use Rattle.outside.specs.Wholes.{Gained, GainedPrefix};
 ghost use Rattle.schedule_text.specs.Printing.{as_line, lines_text, step_text, trace_text};
 ghost use Rattle.schedule_text.specs.Sending.{HasWriteCause, Spilled};
 
@@ -17,7 +17,7 @@ const PIECE: usize = 4_096;
 /// Writes a text. At an `Err` a front of it was written.
 pub fn print_text<K: Sink>(sink: &mut K, text: &[u8]) -> Result<(), WriteFault>
     ensures ok { OnOk result (Gained (K.written sink.old) (K.written sink.new) text.now) }
-    ensures err { OnErr result (GainedFront (K.written sink.old) (K.written sink.new) text.now) }
+    ensures err { OnErr result (GainedPrefix (K.written sink.old) (K.written sink.new) text.now) }
     ensures fault { IfErr result (HasWriteCause (K.faults sink.old) (K.faults sink.new)) }
     ensures memory { IsErrOf result WriteFault.Memory → Rose (K.wants sink.old) (K.wants sink.new) }
     ensures unfailed { IsErrOf result WriteFault.Memory → K.faults sink.new ≡ K.faults sink.old }
@@ -35,7 +35,7 @@ pub fn print_text<K: Sink>(sink: &mut K, text: &[u8]) -> Result<(), WriteFault>
 // Writes what was gathered, once it is enough for a write.
 fn spill<K: Sink>(sink: &mut K, text: &mut Vec<u8>) -> Result<(), WriteFault>
     ensures ok { OnOk result (Spilled (K.written sink.old) (K.written sink.new) text.old.items text.new.items) }
-    ensures err { OnErr result (GainedFront (K.written sink.old) (K.written sink.new) text.old.items) }
+    ensures err { OnErr result (GainedPrefix (K.written sink.old) (K.written sink.new) text.old.items) }
     ensures fault { IfErr result (HasWriteCause (K.faults sink.old) (K.faults sink.new)) }
     ensures memory { IsErrOf result WriteFault.Memory → Rose (K.wants sink.old) (K.wants sink.new) }
     ensures unfailed { IsErrOf result WriteFault.Memory → K.faults sink.new ≡ K.faults sink.old }
@@ -58,7 +58,7 @@ pub fn print_lines<A: AppText, P: Printed<A>, K: Sink>(
     lines: &[P],
 ) -> Result<(), WriteFault>
     ensures ok { OnOk result (Gained (K.written sink.old) (K.written sink.new) (lines_text P.text lines.now)) }
-    ensures err { OnErr result (GainedFront (K.written sink.old) (K.written sink.new) (lines_text P.text lines.now)) }
+    ensures err { OnErr result (GainedPrefix (K.written sink.old) (K.written sink.new) (lines_text P.text lines.now)) }
     ensures fault { IfErr result (HasWriteCause (K.faults sink.old) (K.faults sink.new)) }
     ensures unfailed { IsErrOf result WriteFault.Memory → K.faults sink.new ≡ K.faults sink.old }
     ensures unwanted { IsErrOf result WriteFault.Write → K.wants sink.new ≡ K.wants sink.old }
@@ -80,7 +80,7 @@ pub fn print_step<A: AppText, K: Sink>(
     step: &Step<A::Input>,
 ) -> Result<(), WriteFault>
     ensures ok { OnOk result (Gained (K.written sink.old) (K.written sink.new) (as_line (step_text A.input_text step.now))) }
-    ensures err { OnErr result (GainedFront (K.written sink.old) (K.written sink.new) (as_line (step_text A.input_text step.now))) }
+    ensures err { OnErr result (GainedPrefix (K.written sink.old) (K.written sink.new) (as_line (step_text A.input_text step.now))) }
     ensures fault { IfErr result (HasWriteCause (K.faults sink.old) (K.faults sink.new)) }
     ensures unfailed { IsErrOf result WriteFault.Memory → K.faults sink.new ≡ K.faults sink.old }
     ensures unwanted { IsErrOf result WriteFault.Write → K.wants sink.new ≡ K.wants sink.old }
@@ -99,7 +99,7 @@ pub fn print_trace<A: AppText, K: Sink>(
     items: &[Item<A::Input, A::Output>],
 ) -> Result<(), WriteFault>
     ensures ok { OnOk result (Gained (K.written sink.old) (K.written sink.new) (trace_text A.input_text A.output_text items.now)) }
-    ensures err { OnErr result (GainedFront (K.written sink.old) (K.written sink.new) (trace_text A.input_text A.output_text items.now)) }
+    ensures err { OnErr result (GainedPrefix (K.written sink.old) (K.written sink.new) (trace_text A.input_text A.output_text items.now)) }
     ensures fault { IfErr result (HasWriteCause (K.faults sink.old) (K.faults sink.new)) }
     ensures unfailed { IsErrOf result WriteFault.Memory → K.faults sink.new ≡ K.faults sink.old }
     ensures unwanted { IsErrOf result WriteFault.Write → K.wants sink.new ≡ K.wants sink.old }

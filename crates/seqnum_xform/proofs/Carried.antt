@@ -9,6 +9,7 @@ use Rattle.net_semantics.proofs.Places.{put-there, put-elsewhere, change_at-ther
 use Rattle.seqnum_xform.specs.Numbered.{Numbered, has_seen, with_seen}
 use Rattle.seqnum_xform.specs.Numbering.{numbered_from, numbered}
 use Rattle.seqnum_xform.proofs.SeenLaws.{seen-itself, seen-other, seen-cases}
+use Rattle.lists.specs.Places.{slice_get_either}
 
 -- a packet that was delivered or not, where its sender and its receiver are in these states
 pub record Carries {S M : Type 0} (delivered : Bool) (state : ℕ → Numbered S) (p : Packet (SeqMsg M)) (q : Packet M) : Type 0 where
@@ -43,15 +44,6 @@ pub record Tied {S M : Type 0} (delivered : ℕ → Bool) (state' : ℕ → Numb
 not-seen : (b : Bool) → (b ≡ true → ⊥) → b ≡ false
 not-seen true never = absurd (never refl)
 not-seen false never = refl
-
--- a packet of a list that grew is an old one or a new one
-at-append : {X : Type 0} (xs ys : List X) (k : ℕ) (x : X) → slice_get (xs ++ ys) k ≡ Some x → (slice_get xs k ≡ Some x) ⊎ ((j : ℕ) × (k ≡ length xs + j) × (slice_get ys j ≡ Some x))
-at-append [] ys k x e = inr (k, omega arith, e)
-at-append (y ∷ xs) ys zero x e = inl e
-at-append (y ∷ xs) ys (suc k) x e = elim (at-append xs ys k x e) [
-  | inl old ↦ inl old
-  | inr new ↦ inr (new.0, omega (arith, new.1), new.2)
-]
 
 -- the same of a list in which one packet was changed
 at-changed : {X : Type 0} (f : X → X) (xs : List X) (k j : ℕ) (y : X) → slice_get (change_at f k xs) j ≡ Some y → (x : X) × (slice_get xs j ≡ Some x) × ((y ≡ x) ⊎ (y ≡ f x))
@@ -216,12 +208,12 @@ module _ {S O M : Type 0} (delivered : ℕ → Bool) (state' : ℕ → Numbered 
       omega (arith, is.1, below, number)
 
   still-apart : AreApart (ps ++ sent_by n (numbered_from (state' n).next e.sends))
-  still-apart j k p q at_j at_k source number = elim (at-append ps _ j p at_j) [
-    | inl old_j ↦ elim (at-append ps _ k q at_k) [
+  still-apart j k p q at_j at_k source number = elim (slice_get_either ps _ j p at_j) [
+    | inl old_j ↦ elim (slice_get_either ps _ k q at_k) [
       | inl old_k ↦ h.apart j k p q old_j old_k source number
       | inr new_k ↦ absurd (never-both j new_k.0 p q old_j new_k.2 source number)
     ]
-    | inr new_j ↦ elim (at-append ps _ k q at_k) [
+    | inr new_j ↦ elim (slice_get_either ps _ k q at_k) [
       | inl old_k ↦ absurd (never-both k new_j.0 q p old_k new_j.2 (sym source) (sym number))
       | inr new_k ↦
           let is_p = sent-number n (state' n).next e.sends new_j.0 p new_j.2 in

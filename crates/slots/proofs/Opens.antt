@@ -15,6 +15,7 @@ use Rattle.slots.specs.SavingLaws.{Rests, Interrupted, StaysFound, Opens, Moves}
 use Rattle.slots.proofs.Elsewhere.{Apart, take_none}
 use Rattle.slots.proofs.Images.{selector_apart, either, held_from, image_settled, pending_from}
 use Rattle.slots.proofs.Saves.{saves, slot_done, slot_else, slot_else_done, flip_else, flip_done, flip_length, settled_from}
+use Rattle.lists.specs.Places.{not_empty}
 
 begins : (bytes first : List ℕ) → take 3 (open_acts bytes first) ≡ sync_acts
 begins [] first = refl
@@ -100,24 +101,21 @@ sync_is_no_fault : (area : ℕ) (did : Act) → did ≡ Synced area → Fails (S
 sync_is_no_fault area did e (inl f) = let g : did ≡ StoreFailed (Sync area) = f in absurd (cc (e, g))
 sync_is_no_fault area did e (inr r) = subst IsReadFault e r
 
-none_is_some : {T : Type 0} (x : T) (xs : List T) → x ∷ xs ≡ [] → ⊥
-none_is_some x xs e = absurd (cc e)
-
 places : (more did : List Act) → IsCutShort (sync_acts ++ more) did → (length did ≤ 3) ⊎ (take 3 did ≡ sync_acts)
 places more [] c = inl (omega arith)
 places more (a ∷ []) c = inl (omega arith)
 places more (a ∷ b ∷ []) c = inl (omega arith)
 places more (a ∷ b ∷ d ∷ []) c = inl (omega arith)
-places more (a ∷ b ∷ d ∷ x ∷ rest) (inr c) = absurd (none_is_some b (d ∷ x ∷ rest) c.1)
+places more (a ∷ b ∷ d ∷ x ∷ rest) (inr c) = absurd (not_empty b (d ∷ x ∷ rest) c.1)
 places more (a ∷ b ∷ d ∷ x ∷ rest) (inl c) = second c.1
   where
     third : b ≡ Synced 1 → IsCutShort (Synced 2 ∷ more) (d ∷ x ∷ rest) → (length (a ∷ b ∷ d ∷ x ∷ rest) ≤ 3) ⊎ (take 3 (a ∷ b ∷ d ∷ x ∷ rest) ≡ sync_acts)
     third e (inl k) = inr (rw (c.0, e, k.0) refl)
-    third e (inr k) = absurd (none_is_some x rest k.1)
+    third e (inr k) = absurd (not_empty x rest k.1)
 
     second : IsCutShort (Synced 1 ∷ Synced 2 ∷ more) (b ∷ d ∷ x ∷ rest) → (length (a ∷ b ∷ d ∷ x ∷ rest) ≤ 3) ⊎ (take 3 (a ∷ b ∷ d ∷ x ∷ rest) ≡ sync_acts)
     second (inl k) = third k.0 k.1
-    second (inr k) = absurd (none_is_some d (x ∷ rest) k.1)
+    second (inr k) = absurd (not_empty d (x ∷ rest) k.1)
 
 -- the three syncs, and then acts that were cut short
 record Past (more did : List Act) : Type 0 where
@@ -137,11 +135,11 @@ past_syncs more (a ∷ b ∷ d ∷ rest) c e = first c
 
     second : IsCutShort (Synced 1 ∷ Synced 2 ∷ more) (b ∷ d ∷ rest) → Past more (a ∷ b ∷ d ∷ rest)
     second (inl k) = third k.1
-    second (inr k) = absurd (none_is_some d rest k.1)
+    second (inr k) = absurd (not_empty d rest k.1)
 
     first : IsCutShort (sync_acts ++ more) (a ∷ b ∷ d ∷ rest) → Past more (a ∷ b ∷ d ∷ rest)
     first (inl k) = second k.1
-    first (inr k) = absurd (none_is_some b (d ∷ rest) k.1)
+    first (inr k) = absurd (not_empty b (d ∷ rest) k.1)
 
 small : (n l : ℕ) → (n ≡ l) ⊎ (suc n ≡ l) → l ≤ 3 → n ≤ 3
 small n l (inl e) h = omega arith
@@ -249,7 +247,7 @@ module _ (crash : Crash) (is_crash : IsCrash crash) where
   opening_short found first disk slot (s ∷ rest) f is = record {
     places = places [];
     before = before_short disk [];
-    stays = λ did image c e m. record { held = λ no. held_short disk did image c e m; fresh = λ z. absurd (none_is_some s rest (sym is ∙ z)) };
+    stays = λ did image c e m. record { held = λ no. held_short disk did image c e m; fresh = λ z. absurd (not_empty s rest (sym is ∙ z)) };
   }
 
   pub opens : {K : Type 0} (found : List ℕ → Found K) (disk : Disk) (first : K) (slot : List ℕ) → (disk.selector.bytes ≡ [] → found slot ≡ Is first) →

@@ -14,11 +14,13 @@ use Rattle.slots.specs.Saving.{next, save_acts}
 use Rattle.slots.specs.SavingLaws.{Rests}
 use Rattle.slots.specs.Turns.{OnAreas}
 use Rattle.slots.specs.TurnLaws.{Keeps, KeepsBy}
-use Rattle.slots.proofs.Elsewhere.{after_append, every_append, take_both, take_none}
+use Rattle.slots.proofs.Elsewhere.{after_append, take_none}
 use Rattle.slots.proofs.Saves.{saves}
+use Rattle.lists.specs.Each.{each_append}
+use Rattle.lists.specs.Places.{take-append}
 
 past : (first second : List Act) (n : ℕ) → length first ≤ n → take n (first ++ second) ≡ first ++ take (n - length first) second
-past first second n l = take_both n first second ∙ ap (λ xs. xs ++ take (n - length first) second) (take_all n first l)
+past first second n l = take-append n first second ∙ ap (λ xs. xs ++ take (n - length first) second) (take_all n first l)
 
 -- by a test of what a crash may make of an area
 module _ (crash : Crash) (is_crash : IsCrash crash) where
@@ -44,7 +46,7 @@ module _ (crash : Crash) (is_crash : IsCrash crash) where
   keeps_both found disk s t old new first second a b = record {
     each = λ n image m. go n image m (cases_lt n (length first));
     done = subst (λ (d : Disk). Rests found new t d) (sym (after_append disk first second)) b.done;
-    only = every_append OnAreas first second a.only b.only;
+    only = each_append OnAreas first second a.only b.only;
   }
     where
       go : (n : ℕ) (image : Image) → leaves_by crash disk (take n (first ++ second)) image ≡ true → (n < length first) ⊎ (length first ≤ n) → OpensAs found old image ⊎ OpensAs found new image

@@ -22,9 +22,6 @@ state_of Fresh = 0
 state_of (Held kept s) = first_of kept
 state_of (Refused why) = 0
 
-pub not_none : {T : Type 0} (x : T) (xs : List T) → x ∷ xs ≡ [] → ⊥
-not_none x xs e = absurd (cc e)
-
 pub not_held : (why : Why) (kept : List ℕ) (s : ℕ) → Refused why ≡ Held kept s → ⊥
 not_held why kept s e = absurd (cc e)
 

@@ -4,12 +4,12 @@ use Rattle.disk.specs.Acts.{Act}
 use Rattle.disk.specs.Disk.{Disk, Image, overwritten, after, may_become}
 use Rattle.disk.specs.Between.{Crash, leaves_by}
 use Rattle.disk.specs.Areas.{area_at}
-use Rattle.disk.specs.DiskLaws.{Every}
 use Rattle.slots.specs.Opening.{Found, Is, named, OpensAs}
 use Rattle.slots.specs.Saving.{next, save_acts}
 use Rattle.slots.specs.SavingLaws.{Rests}
 use Rattle.slots.specs.PatchLaws.{patch_acts, TornIsEither}
 use Rattle.slots.specs.Turns.{OnAreas}
+use Rattle.lists.specs.Each.{Each}
 
 -- Acts that make a state durable: at each moment of them the areas open as the old state or the new one, and in the end as the new
 -- one, at rest. The acts of a save are such, and so are those of a patch.
@@ -17,7 +17,7 @@ pub record KeepsBy (crash : Crash) {K : Type 0} (found : List ℕ → Found K) (
   pub each : (n : ℕ) (image : Image) → leaves_by crash disk (take n acts) image ≡ true →
       OpensAs found old image ⊎ OpensAs found new image
   pub done : Rests found new selector (after disk acts)
-  pub only : Every OnAreas acts
+  pub only : Each OnAreas acts
 
 -- as the model has it
 abbrev pub Keeps : {K : Type 0} → (List ℕ → Found K) → K → K → ℕ → List Act → Disk → Type 0
@@ -45,7 +45,3 @@ abbrev pub BothAreSuch : Crash → Type 0 → Type 0
 BothAreSuch crash K =
     (found : List ℕ → Found K) (disk : Disk) (s t : ℕ) (old new : K) (first second : List Act) → KeepsBy crash found old old s first disk →
     KeepsBy crash found old new t second (after disk first) → KeepsBy crash found old new t (first ++ second) disk
-
--- as what went out is of what is to be said
-abbrev pub IsFront : {T : Type 0} → List T → List T → Type 0
-IsFront {T = T} xs ys = (rest : List T) × (xs ++ rest ≡ ys)

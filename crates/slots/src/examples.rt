@@ -6,7 +6,7 @@ ghost use Rattle.slots.specs.Opening.{Is, Not, BadSelector, BadSlot, BadJournal,
 ghost use Rattle.slots.specs.Saving.{next, save_acts, open_acts, move_acts};
 ghost use Rattle.slots.specs.SavingLaws.{Ready};
 ghost use Rattle.slots.specs.PatchLaws.{patch_acts, TornIsEither};
-ghost use Rattle.slots.specs.TurnLaws.{Keeps, IsFront};
+ghost use Rattle.slots.specs.TurnLaws.{Keeps};
 ghost use Rattle.slots.specs.Turns.{datagrams};
 ghost use Rattle.slots.specs.Examples.{counted_found, gated_found, slot, opened_as, leaves, leaves_between, save_leaves, at_rest, hasty_acts, node_at};
 
@@ -93,9 +93,6 @@ pub fn worked_datagrams()
     ensures lost { datagrams (SendFailed (node_at 7002) (7 ∷ []) ∷ Sent (node_at 7001) [] ∷ []) ≡
         (node_at 7002, 7 ∷ []) ∷ (node_at 7001, []) ∷ [] }
     ensures heard { datagrams (Took 100 (node_at 7001) (8 ∷ []) ∷ Quiet 300 ∷ []) ≡ [] }
-    ensures front { IsFront {T = ℕ} (1 ∷ []) (1 ∷ 2 ∷ []) }
-    ensures no_front { IsFront {T = ℕ} (2 ∷ []) (1 ∷ 2 ∷ []) → ⊥ }
-    ensures front_of_none { IsFront {T = ℕ} (1 ∷ []) [] → ⊥ }
 {}
 
 /// Disks that are ready for a save: with nothing pending, and this selector.

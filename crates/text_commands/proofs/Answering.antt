@@ -1,5 +1,5 @@
 -- A run that ends by a complaint answers so: each status of it, by what telling the complaint comes to.
-use Rattle.std.specs.Prelude.{◌≡◌, ◌⊎◌, ℕ, List, Option, Some, None, IfSome, false}
+use Rattle.std.specs.Prelude.{◌≡◌, ◌⊎◌, ℕ, List, Option, Some, None, false}
 use Rattle.std.proofs.Common.{inl, inr, ap, ◌∙◌, subst, sym, arith, refl}
 use Rattle.outside.specs.Counting.{Rose}
 use Rattle.outside.specs.Wholes.{Gained}
@@ -16,6 +16,7 @@ use Rattle.text_commands.specs.Statuses.{HasReadFailed, IsDenied, IsLineRefused,
 use Rattle.text_commands.specs.declared.complaint.Complaint.{Complaint}
 use Rattle.text_commands.specs.declared.complaint.Complaint.TheVariants as complaint
 use Rattle.text_commands.proofs.Complained.{none-hidden, told-whole, told_failed, told_memory, unwritten}
+use Rattle.lists.specs.Options.{if_any, if_some_weaker}
 
 -- what the status of a complaint says of the run of a command, where its line is written whole
 abbrev pub SaysOf : Command → Complaint → Run → Type 0
@@ -69,21 +70,13 @@ abbrev Completes : Run → ℕ → Answer → Type 0
 Completes r result answer = ¬ Rose r.before.input.faults r.after.input.faults → ¬ Rose r.before.out.faults r.after.out.faults
     → ¬ Rose r.before.err.faults r.after.err.faults → (result ≡ answer.status) ⊎ (result ≡ 8)
 
-if_any : {A : Type 0} {P : A → Type 0} (o : Option A) → ((a : A) → P a) → IfSome o P
-if_any None holds = tt
-if_any (Some a) holds = holds a
-
-if_so : {A : Type 0} {P Q : A → Type 0} (o : Option A) → ((a : A) → P a → Q a) → IfSome o P → IfSome o Q
-if_so None so told = tt
-if_so (Some a) so told = so a told
-
 any_completes : (command : Option Command) (r : Run) (result : ℕ) → ((answer : Answer) → Completes r result answer) → IsComplete command r result
 any_completes command r result each =
-    if_any {P = λ bytes. Completes r result (answer_by command bytes)} (input_of command r.before.input.left) (λ bytes. each (answer_by command bytes))
+    if_any (λ bytes. Completes r result (answer_by command bytes)) (input_of command r.before.input.left) (λ bytes. each (answer_by command bytes))
 
 answer_completes : (command : Command) (c : Complaint) (r : Run) (result : ℕ) → result ≡ status_of c → IfAnswered (Some command) r (Complains c) → IsComplete (Some command) r result
 answer_completes command c r result is told =
-    if_so {P = λ bytes. Complains c (answer_by (Some command) bytes)} {Q = λ bytes. Completes r result (answer_by (Some command) bytes)}
+    if_some_weaker {P = λ bytes. Complains c (answer_by (Some command) bytes)} {Q = λ bytes. Completes r result (answer_by (Some command) bytes)}
     (input_of (Some command) r.before.input.left) (λ bytes says reads writes complains. inl (is ∙ sym says.status)) told
 
 whole_complete : (command : Command) (c : Complaint) (r : Run) (result : ℕ) → HasCause (Some command) r c → result ≡ status_of c → IsComplete (Some command) r result

@@ -2,7 +2,7 @@
 use Rattle.std.specs.Prelude.{◌≡◌, ◌⊎◌, ℕ, List, Option, Some, None, IfSome, IsTrue, Bool, true, false}
 use Rattle.std.specs.Bool.{OnTrue}
 use Rattle.std.proofs.Common.{inl, inr, ap, ◌∙◌, subst, sym, append-nil, arith, refl}
-use Rattle.outside.specs.Wholes.{Gained, GainedFront}
+use Rattle.outside.specs.Wholes.{Gained, GainedPrefix}
 use Rattle.line_reader.specs.declared.why.Why.{Why}
 use Rattle.schedule_replay.specs.Outcomes.{KeptUp}
 use Rattle.schedule_replay.specs.Replays.{replayed_so_far}
@@ -18,6 +18,7 @@ use Rattle.run_streams.specs.Seen.{CountsNothing, Run, SinkSeen}
 use Rattle.text_commands.specs.Statuses.{HasErrFailed, HasWriteFailed, IsOutOfMemory, WroteFront}
 use Rattle.text_commands.specs.declared.complaint.Complaint.{Complaint}
 use Rattle.text_commands.specs.declared.complaint.Complaint.TheVariants as complaint
+use Rattle.lists.specs.Options.{if_any}
 
 -- no complaint has the status of a failed write
 not-five : (c : Complaint) → status_of c ≡ 5 → ⊥
@@ -63,7 +64,7 @@ wanting : (c : Complaint) (run : Run) → IsTrue (is_made c) → HidesNothing c 
 wanting c run made hides = record { reads = inl (unless (made-reads c made) hides.reads); writes = hides.writes; wants = inr refl }
 
 -- a line that the run was saying
-saying : (command : Option Command) (run : Run) (c : Complaint) → HasCause command run c → HidesNothing c run → GainedFront run.before.err.written run.after.err.written (line_of c) → WasSaying command run
+saying : (command : Option Command) (run : Run) (c : Complaint) → HasCause command run c → HidesNothing c run → GainedPrefix run.before.err.written run.after.err.written (line_of c) → WasSaying command run
 saying command run c cause hides front = record {
   line = line_of c;
   may = record { saying = c; cause = cause; hides = hides; line_is = refl };
@@ -121,17 +122,12 @@ line-told run line why reads writes wants = record { reads = inl reads; writes =
 pub memory-told : (run : Run) → run.after.input.faults ≡ run.before.input.faults → run.after.out.faults ≡ run.before.out.faults → HidesNothing complaint.Memory run
 memory-told run reads writes = record { reads = inl reads; writes = writes; wants = inr refl }
 
--- what is said of any value
-if-any : {A : Type 0} {P : A → Type 0} (o : Option A) → ((a : A) → P a) → IfSome o P
-if-any None holds = tt
-if-any (Some a) holds = holds a
-
 on-true : (b : Bool) {P : Type 0} → P → OnTrue b P
 on-true true p = p
 on-true false p = tt
 
 -- nothing is a front of any text
-front-none : (o o' : Option (List ℕ)) (text : List ℕ) → o' ≡ o → GainedFront o o' text
+front-none : (o o' : Option (List ℕ)) (text : List ℕ) → o' ≡ o → GainedPrefix o o' text
 front-none None o' text same = tt
 front-none (Some held) o' text same = (0, same ∙ ap Some (sym (append-nil held)))
 
@@ -140,7 +136,7 @@ pub unwritten : (command : Option Command) (run : Run) → KeepsUp command run �
 unwritten command run kept same =
     let left = ap (λ sink. sink.written) same in
     record {
-      out = if-any (input_of command run.before.input.left) (λ bytes. front-none run.before.out.written run.after.out.written (answer_by command bytes).out left);
+      out = if_any _ (input_of command run.before.input.left) (λ bytes. front-none run.before.out.written run.after.out.written (answer_by command bytes).out left);
       verdict = on-true (is_check command) (front-none run.before.out.written run.after.out.written permitted_line left);
       kept_up = kept;
     }

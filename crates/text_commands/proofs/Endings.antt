@@ -2,7 +2,7 @@
 use Rattle.std.specs.Prelude.{◌≡◌, ℕ, ◌+◌, ◌-◌, ◌≤◌, List, [], ◌++◌, length, Option, Some, None, Result, Ok, Err, IfSome}
 use Rattle.std.proofs.Common.{ap, ◌∙◌, append-nil, arith, refl, subst, sym}
 use Rattle.std.proofs.Math.Seq.{take-length}
-use Rattle.outside.specs.Wholes.{Gained, GainedFront, Gave}
+use Rattle.outside.specs.Wholes.{Gained, GainedPrefix, Gave}
 use Rattle.line_reader.specs.Lines.{decided}
 use Rattle.line_reader.specs.declared.why.Why.{Why}
 use Rattle.schedule_text.specs.Printing.{refusal_line}
@@ -23,11 +23,7 @@ use Rattle.run_streams.specs.Seen.{CountsNothing, IsQuiet, Run}
 use Rattle.text_commands.specs.Runs.{BrokeOff, KeepsUp}
 use Rattle.text_commands.specs.Statuses.{IsLineRefused, WroteFront}
 use Rattle.text_commands.specs.declared.complaint.Complaint.TheVariants as complaint
-
--- what is said where the input tells
-if-told : {A : Type 0} {P Q : A → Type 0} (told : Option A) → ((a : A) → P a → Q a) → IfSome told P → IfSome told Q
-if-told None then p = tt
-if-told (Some a) then p = then a p
+use Rattle.lists.specs.Options.{if_some_weaker}
 
 -- a text that gained nothing
 gained-none : (o o' : Option (List ℕ)) → o' ≡ o → Gained o o' []
@@ -35,7 +31,7 @@ gained-none None o' same = tt
 gained-none (Some held) o' same = same ∙ ap Some (sym (append-nil held))
 
 -- a text is a front of itself
-pub front-whole : (o o' : Option (List ℕ)) (text : List ℕ) → Gained o o' text → GainedFront o o' text
+pub front-whole : (o o' : Option (List ℕ)) (text : List ℕ) → Gained o o' text → GainedPrefix o o' text
 front-whole None o' text gained = tt
 front-whole (Some held) o' text gained = (length text, gained ∙ ap (λ xs. Some (held ++ xs)) (sym (take-length text)))
 
@@ -52,14 +48,14 @@ RefusesClaim stack line why bytes = checked stack bytes ≡ Err (line, why)
 -- what is told of its answer
 claim-as : {A : Type 0} (stack : StackId) (line : ℕ) (why : Why) (left : Option (List ℕ)) (part : Result Verdict (ℕ × Why) → A) → IfSome left (RefusesClaim stack line why)
     → IfSome left (λ bytes. part (checked stack bytes) ≡ part (Err (line, why)))
-claim-as stack line why left part told = if-told left (λ bytes e. ap part e) told
+claim-as stack line why left part told = if_some_weaker left (λ bytes e. ap part e) told
 
 claim-ahead : (left left' : Option (List ℕ)) (line : ℕ) (why : Why) → IfSome left (λ bytes. LooksAhead left' bytes (claim.Refused line why)) → IsGivenUpTo left left' line
 claim-ahead None left' line why ahead = tt
 claim-ahead (Some bytes) left' line why ahead = ahead
 
 pub claim-cause : (stack : StackId) (r : Run) (line : ℕ) (why : Why) → IfSome r.before.input.left (RefusesClaim stack line why) → HasCause (Some (command.Check stack)) r (complaint.Line line why)
-claim-cause stack r line why told = (refl, if-told r.before.input.left (λ bytes e. record { status = ap (λ v. (answer_to_claim v).status) e; line = ap (λ v. (answer_to_claim v).err) e }) told)
+claim-cause stack r line why told = (refl, if_some_weaker r.before.input.left (λ bytes e. record { status = ap (λ v. (answer_to_claim v).status) e; line = ap (λ v. (answer_to_claim v).err) e }) told)
 
 pub claim-refused : (stack : StackId) (r : Run) (line : ℕ) (why : Why) → IfSome r.before.input.left (RefusesClaim stack line why)
     → IfSome r.before.input.left (λ bytes. LooksAhead r.after.input.left bytes (claim.Refused line why)) → r.after.input.faults ≡ r.before.input.faults → r.after.out ≡ r.before.out
@@ -71,7 +67,7 @@ claim-refused stack r line why told ahead unfailed same said kept = record {
   status = claim-as stack line why r.before.input.left (λ v. (answer_to_claim v).status) told;
   named = claim-as stack line why r.before.input.left (λ v. (answer_to_claim v).err) told;
   ahead = claim-ahead r.before.input.left r.after.input.left line why ahead;
-  out = if-told r.before.input.left (λ bytes e. subst (λ v. Gained r.before.out.written r.after.out.written (answer_to_claim v).out) (sym e) (gained-none r.before.out.written r.after.out.written (ap (λ sink. sink.written) same))) told;
+  out = if_some_weaker r.before.input.left (λ bytes e. subst (λ v. Gained r.before.out.written r.after.out.written (answer_to_claim v).out) (sym e) (gained-none r.before.out.written r.after.out.written (ap (λ sink. sink.written) same))) told;
   verdict = same;
   err = said;
   quiet = record { reads = unfailed; writes = record { out = record { faults = ap (λ sink. sink.faults) same; wants = ap (λ sink. sink.wants) same }; err = kept } };
@@ -84,12 +80,12 @@ abbrev RefusesLine : Run → ℕ → Why → List ℕ → Type 0
 RefusesLine r line why bytes = ComesTo replayed replayed_so_far 0 bytes r.after.input.left r.before.out.written r.after.out.written (Err (fault.Refused line why))
 
 pub line-cause : (r : Run) (line : ℕ) (why : Why) → IfSome r.before.input.left (RefusesLine r line why) → HasCause (Some command.Replay) r (complaint.Line line why)
-line-cause r line why told = (refl, if-told r.before.input.left (λ bytes t. record { status = ap refusal_status t.refused; line = ap refusal_text t.refused }) told)
+line-cause r line why told = (refl, if_some_weaker r.before.input.left (λ bytes t. record { status = ap refusal_status t.refused; line = ap refusal_text t.refused }) told)
 
 -- the trace before it was written
 pub line-front : (r : Run) (line : ℕ) (why : Why) → KeepsUp (Some command.Replay) r → IfSome r.before.input.left (RefusesLine r line why) → WroteFront (Some command.Replay) r
 line-front r line why kept told = record {
-  out = if-told r.before.input.left (λ bytes t. front-whole r.before.out.written r.after.out.written (replayed bytes).out t.written) told;
+  out = if_some_weaker r.before.input.left (λ bytes t. front-whole r.before.out.written r.after.out.written (replayed bytes).out t.written) told;
   verdict = tt;
   kept_up = kept;
 }
@@ -113,10 +109,10 @@ line-refused r line why told said quiet = record {
   line = line;
   why = why;
   reading = refl;
-  status = if-told r.before.input.left (λ bytes t. ap refusal_status t.refused) told;
-  named = if-told r.before.input.left (λ bytes t. ap refusal_text t.refused) told;
+  status = if_some_weaker r.before.input.left (λ bytes t. ap refusal_status t.refused) told;
+  named = if_some_weaker r.before.input.left (λ bytes t. ap refusal_text t.refused) told;
   ahead = line-ahead r.before.input.left r.after.input.left r.before.out.written r.after.out.written line why told;
-  out = if-told r.before.input.left (λ bytes t. t.written) told;
+  out = if_some_weaker r.before.input.left (λ bytes t. t.written) told;
   verdict = tt;
   err = said;
   quiet = quiet;
@@ -137,7 +133,7 @@ broke-told r (Some bytes) same told = record {
 -- the whole lines before a read that failed left their trace
 pub broke-front : (r : Run) → KeepsUp (Some command.Replay) r → IfSome r.before.input.left (λ bytes. ComesTo replayed replayed_so_far 0 bytes r.after.input.left r.before.out.written r.after.out.written (Err fault.Read))
     → WroteFront (Some command.Replay) r
-broke-front r kept told = record { out = if-told r.before.input.left (λ bytes t. t.front) told; verdict = tt; kept_up = kept }
+broke-front r kept told = record { out = if_some_weaker r.before.input.left (λ bytes t. t.front) told; verdict = tt; kept_up = kept }
 
 -- and the bytes that they came from
 pub broke-line : (r : Run) → IfSome r.before.input.left (λ bytes. ComesTo replayed replayed_so_far 0 bytes r.after.input.left r.before.out.written r.after.out.written (Err fault.Read))
@@ -152,9 +148,9 @@ wanting-front r kept told = record { out = told; verdict = tt; kept_up = kept }
 -- ---- the line of a check that says yes
 
 pub permitted-front : (stack : StackId) (r : Run) → IfSome r.before.input.left (λ bytes. (r.after.input.left ≡ Some []) × (checked stack bytes ≡ Ok says.Yes))
-    → GainedFront r.before.out.written r.after.out.written permitted_line → WroteFront (Some (command.Check stack)) r
+    → GainedPrefix r.before.out.written r.after.out.written permitted_line → WroteFront (Some (command.Check stack)) r
 permitted-front stack r told front = record {
-  out = if-told r.before.input.left (λ bytes t. subst (λ v. GainedFront r.before.out.written r.after.out.written (answer_to_claim v).out) (sym t.1) front) told;
+  out = if_some_weaker r.before.input.left (λ bytes t. subst (λ v. GainedPrefix r.before.out.written r.after.out.written (answer_to_claim v).out) (sym t.1) front) told;
   verdict = front;
   kept_up = tt;
 }
@@ -163,7 +159,7 @@ permitted-front stack r told front = record {
 pub denied-cause : (stack : StackId) (r : Run) (condition line : ℕ) → IfSome r.before.input.left (λ bytes. (r.after.input.left ≡ Some []) × (checked stack bytes ≡ Ok (says.No condition line)))
     → HasCause (Some (command.Check stack)) r (complaint.Condition condition line)
 denied-cause stack r condition line told =
-    (refl, if-told r.before.input.left (λ bytes t. record { status = ap (λ v. (answer_to_claim v).status) t.1; line = ap (λ v. (answer_to_claim v).err) t.1 }) told)
+    (refl, if_some_weaker r.before.input.left (λ bytes t. record { status = ap (λ v. (answer_to_claim v).status) t.1; line = ap (λ v. (answer_to_claim v).err) t.1 }) told)
 
 -- a claim that broke off
 claim-told : (stack : StackId) (r : Run) (left : Option (List ℕ)) → r.before.input.left ≡ left → r.after.out.written ≡ r.before.out.written

@@ -1,7 +1,7 @@
 -- What a run says on its error stream, and when it may say so.
 use Rattle.std.specs.Prelude.{◌≡◌, ◌⊎◌, ℕ, Bool, true, false, List, IfSome, IsTrue, None, Option}
 use Rattle.outside.specs.Counting.{Rose}
-use Rattle.outside.specs.Wholes.{GainedFront}
+use Rattle.outside.specs.Wholes.{GainedPrefix}
 use Rattle.schedule_text.specs.Printing.{refusal_line}
 use Rattle.command_line.specs.declared.command.Command.{Command}
 use Rattle.text_commands.specs.Answers.{Answer, condition_line, is_check, reads, usage_line}
@@ -59,7 +59,7 @@ pub record MaySay (command : Option Command) (r : Run) (line : List ℕ) : Type 
 pub record WasSaying (command : Option Command) (r : Run) : Type 0 where
   pub line : List ℕ
   pub may : MaySay command r line
-  pub front : GainedFront r.before.err.written r.after.err.written line
+  pub front : GainedPrefix r.before.err.written r.after.err.written line
 
 -- whether the line of a complaint is made, which takes memory. The others stand in the program
 abbrev pub is_made : Complaint → Bool

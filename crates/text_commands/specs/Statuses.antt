@@ -3,7 +3,7 @@
 use Rattle.std.specs.Prelude.{◌≡◌, ◌⊎◌, ℕ, ◌+◌, ◌≤◌, false, List, length, IsTrue, Option, IfSome}
 use Rattle.std.specs.Bool.{OnTrue}
 use Rattle.outside.specs.Counting.{Rose}
-use Rattle.outside.specs.Wholes.{Gained, GainedFront, Gave}
+use Rattle.outside.specs.Wholes.{Gained, GainedPrefix, Gave}
 use Rattle.line_reader.specs.declared.why.Why.{Why}
 use Rattle.line_reader.specs.Lines.{decided}
 use Rattle.schedule_text.specs.Printing.{refusal_line}
@@ -75,8 +75,8 @@ pub record HasReadFailed (command : Option Command) (r : Run) : Type 0 where
 
 -- a front of the answer was written on the output, and of a replay no less than the trace of what was given, but for its last bytes
 pub record WroteFront (command : Option Command) (r : Run) : Type 0 where
-  pub out : IfAnswered command r (λ answer. GainedFront r.before.out.written r.after.out.written answer.out)
-  pub verdict : OnTrue (is_check command) (GainedFront r.before.out.written r.after.out.written permitted_line)
+  pub out : IfAnswered command r (λ answer. GainedPrefix r.before.out.written r.after.out.written answer.out)
+  pub verdict : OnTrue (is_check command) (GainedPrefix r.before.out.written r.after.out.written permitted_line)
   pub kept_up : KeepsUp command r
 
 -- a write of the output failed, and no other call: the error stream is as it was

@@ -3,7 +3,7 @@ use Rattle.std.proofs.Common.{◌≡◌, ℕ, List, ◌++◌, Option, Some, None
 use Rattle.std.proofs.lemmas.List.{append_cancel_left}
 use Rattle.disk.specs.Acts.{Act}
 use Rattle.disk.specs.Disk.{Disk}
-use Rattle.disk.specs.DiskLaws.{Every, IsCutShort}
+use Rattle.disk.specs.DiskLaws.{IsCutShort}
 use Rattle.node_acts.specs.StateActs.{state_acts}
 use Rattle.node_acts.specs.Stores.{StoreView, Holds, Continues, found_by}
 use Rattle.node_body.specs.declared.who.Who.{Who}
@@ -20,13 +20,14 @@ use Rattle.raft_types.specs.Keeping.{KeptView}
 use Rattle.raft_types.specs.declared.client.RaftOut.{RaftOut}
 use Rattle.raft_types.specs.declared.msg.RaftMsg.{RaftMsg}
 use Rattle.slots.specs.Opening.{OpensAs}
-use Rattle.slots.specs.TurnLaws.{IsFront}
 use Rattle.slots.specs.Turns.{Says, datagrams}
 use Rattle.vst_base.specs.Machines.{MachineMeaning}
 use Rattle.vst_base.specs.declared.stack.StackId.{StackId}
 use Rattle.wire_fields.specs.Formats.{Format}
 use Rattle.udp_node.specs.Acting.{Acted, ActedInPart, SavedAndSaid, SavedInPart, kept_then, says, saves}
 use Rattle.udp_node.proofs.Telling.{told_is}
+use Rattle.lists.specs.Each.{Each}
+use Rattle.lists.specs.Prefixes.{IsPrefix}
 
 -- what is said leaves the areas as they are
 pub holds_after_saying : {S C O D : Type 0} (s : StackId) (f : Format C) (t : StackId) (h : Format D) (x y : Replica S C O)
@@ -89,7 +90,7 @@ module _ {S C O D : Type 0} (s : StackId) (config : Config) (m : MachineMeaning 
   -- all was saved, and then this was said
   and_said : (taken : Replica S C O) → Taken taken → Continues replica.store (kept_of replica.state) (kept_of taken.state) → (before mid now : Told) →
       Held before → Saves s f t h taken.store (kept_of taken.state) before →
-      mid ≡ told_after before (state_acts s f taken.store (kept_of taken.state)) → (said : List Act) → now ≡ told_after mid said → Every Says said →
+      mid ≡ told_after before (state_acts s f taken.store (kept_of taken.state)) → (said : List Act) → now ≡ told_after mid said → Each Says said →
       SavedAndSaid s config m f g t h replica event said before now
   and_said taken is continues before mid now held keeps saved said e only = record {
     is = e ∙ ap (λ (x : Told). told_after x said) (subst (λ (r : Replica S C O). mid ≡ told_after before (state_acts s f r.store (kept_of r.state))) is saved);
@@ -128,5 +129,5 @@ module _ {S C O D : Type 0} (s : StackId) (config : Config) (m : MachineMeaning 
     said_in_part (Some before) (Some mid) (Some now) held keeps did w = inr (inr (record {
       said = w.did;
       acts = and_said taken is continues before mid now held keeps (told_is before mid _ did) w.did w.is w.says;
-      front = subst (λ (l : List (Address × List ℕ)). IsFront (datagrams w.did) l) (same_said sends outputs sent told) w.datagrams;
+      front = subst (λ (l : List (Address × List ℕ)). IsPrefix (datagrams w.did) l) (same_said sends outputs sent told) w.datagrams;
     }))

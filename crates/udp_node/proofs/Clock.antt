@@ -3,7 +3,6 @@ use Rattle.std.proofs.Common.{◌≡◌, ◌+◌, ◌≤◌, ℕ, List, [], ◌�
 use Rattle.disk.specs.Acts.{Act, Took, Quiet, ReceiveFailed, Sent, SendFailed, Wrote, Cut, Synced, StoreFailed}
 use Rattle.disk.specs.Areas.{area_at}
 use Rattle.disk.specs.Disk.{Image, contents}
-use Rattle.disk.specs.DiskLaws.{Every}
 use Rattle.node_acts.specs.StateActs.{acts_by_selector, acts_on_slot, opening_acts, renewing_acts}
 use Rattle.node_acts.specs.Stores.{StoreView}
 use Rattle.node_body.specs.Slots.{slot_found}
@@ -18,7 +17,7 @@ use Rattle.node_core.specs.declared.replica.Replica.{Replica}
 use Rattle.node_device.proofs.ClockValues.{nows_append}
 use Rattle.node_device.specs.Telling.{Told, told_after, nows_in, StoppedIn, TellsOn, WhereTold}
 use Rattle.node_records.specs.Records.{Stores}
-use Rattle.node_records.proofs.ActKinds.{areas_store, every_as, save_on_areas, short_stores}
+use Rattle.node_records.proofs.ActKinds.{areas_store, save_on_areas, short_stores}
 use Rattle.node_run.specs.Settings.{Settings}
 use Rattle.node_run.specs.declared.event.Event.{Event}
 use Rattle.raft_types.specs.Keeping.{KeptView}
@@ -33,13 +32,14 @@ use Rattle.udp_node.specs.Listening.{HasCutOff, HasReceived, IsCutOff, IsReceipt
 use Rattle.udp_node.specs.Serving.{HasOpened, OpeningEnds, opening_of}
 use Rattle.udp_node.specs.declared.fault.NodeFault.{NodeFault}
 use Rattle.udp_node.specs.declared.fault.NodeFault.TheVariants as fault
+use Rattle.lists.specs.Each.{Each, each_weaker}
 
 -- clock values among acts
 
 none_both : (xs ys : List Act) → nows_in xs ≡ 0 → nows_in ys ≡ 0 → nows_in (xs ++ ys) ≡ 0
 none_both xs ys p q = omega (arith, nows_append xs ys, p, q)
 
-none_stored : (acts : List Act) → Every Stores acts → nows_in acts ≡ 0
+none_stored : (acts : List Act) → Each Stores acts → nows_in acts ≡ 0
 none_stored [] h = refl
 none_stored (Wrote area at bytes ∷ acts) h = none_stored acts h.1
 none_stored (Cut area len ∷ acts) h = none_stored acts h.1
@@ -47,10 +47,10 @@ none_stored (Synced area ∷ acts) h = none_stored acts h.1
 none_stored (StoreFailed call ∷ acts) h = none_stored acts h.1
 none_stored (act ∷ acts) h = absurd h.0
 
-none_on_areas : (acts : List Act) → Every OnAreas acts → nows_in acts ≡ 0
-none_on_areas acts h = none_stored acts (every_as OnAreas Stores acts areas_store h)
+none_on_areas : (acts : List Act) → Each OnAreas acts → nows_in acts ≡ 0
+none_on_areas acts h = none_stored acts (each_weaker OnAreas Stores areas_store acts h)
 
-none_said : (acts : List Act) → Every Says acts → nows_in acts ≡ 0
+none_said : (acts : List Act) → Each Says acts → nows_in acts ≡ 0
 none_said [] h = refl
 none_said (Sent to bytes ∷ acts) h = none_said acts h.1
 none_said (SendFailed to bytes ∷ acts) h = none_said acts h.1
@@ -59,24 +59,24 @@ none_said (act ∷ acts) h = absurd h.0
 -- acts of an opening are on the areas
 
 renewing_on_areas : {C : Type 0} (s : StackId) (f : Format C) (who : Who) (selector : ℕ) (version : Version) (kept : KeptView C) →
-    Every OnAreas (renewing_acts s f who selector version kept)
+    Each OnAreas (renewing_acts s f who selector version kept)
 renewing_on_areas s f who selector One kept = (tt, (tt, (tt, (tt, (tt, tt)))))
 renewing_on_areas s f who selector Two kept = tt
 
 slot_on_areas : {C : Type 0} (s : StackId) (f : Format C) (who : Who) (selector : ℕ) (found : Result (Held C) Why) →
-    Every OnAreas (acts_on_slot s f who selector found)
+    Each OnAreas (acts_on_slot s f who selector found)
 slot_on_areas s f who selector (Err why) = tt
 slot_on_areas s f who selector (Ok slot) = renewing_on_areas s f who selector slot.version slot.journal.kept
 
 by_selector_on_areas : {C D : Type 0} (s : StackId) (f : Format C) (t : StackId) (g : Format D) (who : Who) (image : Image) (selector : List ℕ) →
-    Every OnAreas (acts_by_selector s f t g who image selector)
+    Each OnAreas (acts_by_selector s f t g who image selector)
 by_selector_on_areas s f t g who image [] = (tt, (tt, (tt, (tt, (tt, (tt, (tt, (tt, tt))))))))
 by_selector_on_areas s f t g who image (selector ∷ []) =
     slot_on_areas s f who selector (slot_found s f t g who (area_at image (named selector)))
 by_selector_on_areas s f t g who image (a ∷ b ∷ rest) = tt
 
 opening_on_areas : {C D : Type 0} (s : StackId) (f : Format C) (t : StackId) (g : Format D) (who : Who) (image : Image) →
-    Every OnAreas (opening_acts s f t g who image)
+    Each OnAreas (opening_acts s f t g who image)
 opening_on_areas s f t g who image = (tt, (tt, (tt, by_selector_on_areas s f t g who image image.selector)))
 
 -- going on
@@ -102,7 +102,7 @@ quiet_did before now did is none = omega (arith, ap nows_in is, nows_append befo
 quiet_after : (before now : Told) (did : List Act) → now ≡ told_after before did → nows_in did ≡ 0 → nows_in now.acts ≤ nows_in before.acts + 0
 quiet_after before now did is none = quiet_did before now did (ap (λ (told : Told). told.acts) is) none
 
-quiet_cut : (before now : Told) (acts : List Act) → Every OnAreas acts → StoppedIn (Some before) (Some now) acts → nows_in now.acts ≤ nows_in before.acts + 0
+quiet_cut : (before now : Told) (acts : List Act) → Each OnAreas acts → StoppedIn (Some before) (Some now) acts → nows_in now.acts ≤ nows_in before.acts + 0
 quiet_cut before now acts on s = quiet_did before now s.0 s.2.acts (none_stored s.0 (short_stores acts s.0 on s.1))
 
 -- what is told over such acts
@@ -159,7 +159,7 @@ module _ {S C O D : Type 0} (s : StackId) (config : Config) (m : MachineMeaning 
 -- an opening
 
 module _ {C D : Type 0} (s : StackId) (config : Config) (f : Format C) (t : StackId) (h : Format D) where
-  on_areas : (before : Told) → Every OnAreas (opening_of s config f t h before)
+  on_areas : (before : Told) → Each OnAreas (opening_of s config f t h before)
   on_areas before = opening_on_areas s f t h (who_of config) (contents before.disk)
 
   quiet_opened : (store : StoreView) (kept : KeptView C) (before now : Told) → HasOpened s config f t h store kept before now →

@@ -2,7 +2,6 @@
 use Rattle.std.proofs.Common.{◌≡◌, ℕ, List, [], ◌∷◌, Option, Some, None, IfSome, IfOk, OnOk, OnErr, Result, Ok, Err, arith, sym, ap, subst, ◌∙◌, inl, inr}
 use Rattle.disk.specs.Acts.{Act}
 use Rattle.disk.specs.Disk.{Disk}
-use Rattle.disk.specs.DiskLaws.{Every}
 use Rattle.node_acts.specs.Stores.{Holds}
 use Rattle.node_config.specs.declared.config.Config.{Config}
 use Rattle.node_core.specs.Replicas.{IsReady, effect_on, kept_of, view_of, who_of}
@@ -25,6 +24,7 @@ use Rattle.udp_node.specs.Acting.{Acted, ActedInPart, next_replica}
 use Rattle.udp_node.specs.Listening.{HasHeard, HasStoppedHearing, Hears}
 use Rattle.udp_node.specs.Serving.{Halted, StillTold, Went}
 use Rattle.udp_node.proofs.Telling.{still_as, still_if, still_then}
+use Rattle.lists.specs.Each.{Each}
 
 module _ {S C O D : Type 0} (s : StackId) (config : Config) (m : MachineMeaning S C O) (f : Format C) (g : Format O) (t : StackId) (h : Format D) (replica : Replica S C O)
     (who : replica.store.who ≡ who_of config) (stack : config.stack ≡ s) where
@@ -56,7 +56,7 @@ module _ {S C O D : Type 0} (s : StackId) (config : Config) (m : MachineMeaning 
       })
 
   -- the disk is as it was before what was heard
-  hears_any : (acts : List Act) (time : ℕ) (e : Option (Event C)) → Hears (settings_of config) m f g (view_of replica) time acts e → Every Heeds acts
+  hears_any : (acts : List Act) (time : ℕ) (e : Option (Event C)) → Hears (settings_of config) m f g (view_of replica) time acts e → Each Heeds acts
   hears_any acts time None x = x.hears
   hears_any acts time (Some event) x = x.hears
 

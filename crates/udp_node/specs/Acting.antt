@@ -2,7 +2,7 @@
 use Rattle.std.specs.Prelude.{◌≡◌, ℕ, true, List, ◌++◌, take, ◌⊎◌}
 use Rattle.disk.specs.Acts.{Act}
 use Rattle.disk.specs.Disk.{Image, may_leave}
-use Rattle.disk.specs.DiskLaws.{Every, IsCutShort}
+use Rattle.disk.specs.DiskLaws.{IsCutShort}
 use Rattle.node_acts.specs.StateActs.{state_acts, store_after}
 use Rattle.node_acts.specs.StateLaws.{StateSaved}
 use Rattle.node_acts.specs.Stores.{found_by}
@@ -14,11 +14,12 @@ use Rattle.node_run.specs.declared.event.Event.{Event}
 use Rattle.outside.specs.declared.device.Address.{Address}
 use Rattle.raft_types.specs.Keeping.{KeptView}
 use Rattle.slots.specs.Opening.{OpensAs}
-use Rattle.slots.specs.TurnLaws.{IsFront}
 use Rattle.slots.specs.Turns.{Says, datagrams}
 use Rattle.vst_base.specs.Machines.{MachineMeaning}
 use Rattle.vst_base.specs.declared.stack.StackId.{StackId}
 use Rattle.wire_fields.specs.Formats.{Format}
+use Rattle.lists.specs.Each.{Each}
+use Rattle.lists.specs.Prefixes.{IsPrefix}
 
 -- `t` and `h` are the other stack and the format of its commands.
 module _ {S C O D : Type 0} (s : StackId) (config : Config) (m : MachineMeaning S C O) (f : Format C) (g : Format O) (t : StackId)
@@ -43,7 +44,7 @@ module _ {S C O D : Type 0} (s : StackId) (config : Config) (m : MachineMeaning 
   pub record SavedAndSaid (said : List Act) (before now : Told) : Type 0 where
     pub is : now ≡ told_after (told_after before saves) said
     pub saved : StateSaved s f t h replica.store (kept_of replica.state) kept_then before.disk
-    pub only : Every Says said
+    pub only : Each Says said
 
   pub record Acted (before now : Told) : Type 0 where
     pub said : List Act
@@ -63,7 +64,7 @@ module _ {S C O D : Type 0} (s : StackId) (config : Config) (m : MachineMeaning 
   pub record SaidInPart (before now : Told) : Type 0 where
     pub said : List Act
     pub acts : SavedAndSaid said before now
-    pub front : IsFront (datagrams said) says
+    pub front : IsPrefix (datagrams said) says
 
   abbrev pub ActedInPart : Told → Told → Type 0
   ActedInPart before now = (now ≡ before) ⊎ (SavedInPart before now ⊎ SaidInPart before now)

@@ -8,4 +8,5 @@ pub mod Logs
 pub mod Machines
 pub mod Nets
 pub mod Stacks
+pub mod StepViews
 pub mod Tokens

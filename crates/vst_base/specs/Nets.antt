@@ -1,20 +1,30 @@
 -- Which network has which kinds of step.
-use Rattle.std.specs.Prelude.{Bool, true, false}
+use Rattle.std.specs.Prelude.{Bool, true, false, Option, Some, None}
 use Rattle.vst_base.specs.declared.net.Net.{Net}
 use Rattle.vst_base.specs.declared.net.Net.TheVariants as net
 use Rattle.vst_base.specs.declared.step.Step.{Step}
-use Rattle.vst_base.specs.declared.step.Step.TheVariants as step
+use Rattle.vst_base.specs.StepViews.{Fate, Delivered, Copied, Lost, StepView, AtNode, OfPacket, Stops, Starts, view_of}
 use Rattle.vst_base.specs.declared.step.StepKind.{StepKind}
 use Rattle.vst_base.specs.declared.step.StepKind.TheVariants as kind
 
+-- the kind of what happens at a node: an input, or its timer
+abbrev pub kind_at : {I : Type 0} → Option I → StepKind
+kind_at None = kind.Tick
+kind_at (Some i) = kind.In
+
+abbrev pub kind_of_fate : Fate → StepKind
+kind_of_fate Delivered = kind.Deliver
+kind_of_fate Copied = kind.Dup
+kind_of_fate Lost = kind.Lose
+
+abbrev pub kind_in : {I : Type 0} → StepView I → StepKind
+kind_in (AtNode n input) = kind_at input
+kind_in (OfPacket k fate) = kind_of_fate fate
+kind_in (Stops n) = kind.Crash
+kind_in (Starts n) = kind.Reboot
+
 abbrev pub kind_of : {I : Type 0} → Step I → StepKind
-kind_of (step.In n i) = kind.In
-kind_of (step.Deliver k) = kind.Deliver
-kind_of (step.Tick n) = kind.Tick
-kind_of (step.Dup k) = kind.Dup
-kind_of (step.Lose k) = kind.Lose
-kind_of (step.Crash n) = kind.Crash
-kind_of (step.Reboot n) = kind.Reboot
+kind_of s = kind_in (view_of s)
 
 -- one machine takes inputs; packets are delivered and timers fire on a bag, and where packets keep their order; packets are
 -- copied too on dup, and lost as well on loss; nodes crash and reboot too on fail; and on acts they reboot, but stop otherwise

@@ -1,9 +1,10 @@
 ghost use Rattle.std.specs.Prelude.{◌≡◌, [], ◌∷◌, ◌++◌, true, false, not, Some, None, filter, length, map, replicate, codes};
-ghost use Rattle.vst_base.specs.Examples.{kinds, nets, counter};
+ghost use Rattle.vst_base.specs.Examples.{counter, kinds, nets, steps, views};
 ghost use Rattle.vst_base.specs.Firsts.{first_of};
 ghost use Rattle.vst_base.specs.Machines.{fold, state_after};
-ghost use Rattle.vst_base.specs.Nets.{has_kind, keeps_order, stops_no_node};
+ghost use Rattle.vst_base.specs.Nets.{has_kind, keeps_order, kind_of, stops_no_node};
 ghost use Rattle.vst_base.specs.Stacks.{row_of, rows, stack_word};
+ghost use Rattle.vst_base.specs.StepViews.{view_of};
 ghost use Rattle.vst_base.specs.Tokens.{is_token, token_of};
 
 use crate::{Net, StackId, StepKind, StepRefusal};
@@ -19,6 +20,9 @@ pub fn worked()
     ensures acts_have_no_crash { filter (has_kind Net.Acts) kinds ≡ filter (has_kind Net.Loss) kinds ++ StepKind.Reboot ∷ [] }
     ensures nets_that_stop_nodes { filter (λ net. not (stops_no_node net)) nets ≡ Net.Fail ∷ Net.Acts ∷ [] }
     ensures nets_that_keep_order { filter keeps_order nets ≡ Net.Ord ∷ [] }
+
+    ensures what_steps_are_of { map view_of steps ≡ views }
+    ensures kinds_of_steps { map kind_of steps ≡ kinds }
 
     ensures first_that_applies { first_of ((StepRefusal.NotThisNet, false) ∷ (StepRefusal.NodeDown, true) ∷ (StepRefusal.NoCopy, true) ∷ []) ≡ Some StepRefusal.NodeDown }
     ensures last_that_applies { first_of ((StepRefusal.NotThisNet, false) ∷ (StepRefusal.NodeDown, true) ∷ []) ≡ Some StepRefusal.NodeDown }

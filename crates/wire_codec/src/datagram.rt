@@ -2,7 +2,7 @@ ghost use Rattle.std.specs.Prelude.{◌≡◌, ◌++◌, IfSome, OnErr, OnOk};
 ghost use Rattle.std.specs.Option.{option_map};
 ghost use Rattle.wire_codec.specs.Bodies.{is_body, is_peer_message, is_reply, is_request};
 ghost use Rattle.wire_codec.specs.Datagrams.{IsMessage, read_datagram, said, spell_datagram};
-ghost use Rattle.wire_fields.specs.Fields.{StandsBefore};
+ghost use Rattle.lists.specs.Prefixes.{IsPrefix};
 
 use crate::{Heading, Kind};
 use kv_machine::{KvCmd, KvOut};
@@ -94,7 +94,7 @@ pub fn decode(bytes: &[u8]) -> Option<Datagram<'_>>
 #[tactic(auto, using(wire_fields::specs::Fronts::front_stays))]
 fn put_datagram(out: &mut Vec<u8>, datagram: &Datagram<'_>) -> Result<(), AllocError>
     ensures ok { OnOk result (out.new.items ≡ out.old.items ++ spell_datagram (said datagram.now)) }
-    ensures err { OnErr result (StandsBefore out.old.items out.new.items) }
+    ensures err { OnErr result (IsPrefix out.old.items out.new.items) }
 {
     datagram.heading.put(out)?;
     out.extend_from_slice(datagram.body)

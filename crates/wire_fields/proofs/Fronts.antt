@@ -7,6 +7,7 @@ use Rattle.byteorder.specs.Endian.{big_from}
 use Rattle.wire_fields.specs.ByteLaws.{no_number, number_read}
 use Rattle.wire_fields.specs.Fields.{raw}
 use Rattle.wire_fields.specs.Bytes.{has_bytes, number_in, read_number}
+use Rattle.lists.specs.Places.{take_rest}
 
 small_front : (n : ℕ) (bs : List ℕ) → ((k : ℕ) → slice_index bs k < 256) → list_all (λ b. nat_lt b 256) (take n bs) ≡ true
 small_front zero bs small = refl
@@ -30,16 +31,12 @@ unfolding number_in
 number_above n low high x bs is above =
     no_number n low high bs (and_right _ _ (and_right _ _ (lt-leb _ high (subst (λ (y : ℕ). high < y) is above))))
 
--- what a slice of the bytes past the number is
-past : (n : ℕ) (bs : List ℕ) → take (length bs - n) (drop n bs) ≡ drop n bs
-past n bs = take_all (length bs - n) (drop n bs) (omega (arith, length-drop n bs))
-
 pub number_there : (n low high x : ℕ) (bs : List ℕ) → n ≤ length bs → ((k : ℕ) → Fits w8 (get_or bs k 0)) → x ≡ big_from 0 n bs → low ≤ x → x ≤ high
     → read_number n low high bs ≡ Some (x, take (length bs - n) (drop n bs))
 unfolding number_in has_bytes
 number_there n low high x bs long small is at_least at_most =
     number_read n low high x bs (and_from _ _ (le-leb n _ long) (small_front n bs (λ k. omega (arith, small k)))) (sym is) at_least at_most
-    ∙ ap (λ rest. let found : Option (ℕ × List ℕ) = Some (x, rest) in found) (sym (past n bs))
+    ∙ ap (λ rest. let found : Option (ℕ × List ℕ) = Some (x, rest) in found) (sym (take_rest n bs))
 
 has_front : (n : ℕ) (bs : List ℕ) → n ≤ length bs → ((k : ℕ) → Fits w8 (get_or bs k 0)) → has_bytes n bs ≡ true
 unfolding has_bytes
@@ -49,7 +46,7 @@ has_front n bs long small = and_from _ _ (le-leb n _ long) (small_front n bs (λ
 pub raw_there : (n : ℕ) (bs : List ℕ) → n ≤ length bs → ((k : ℕ) → Fits w8 (get_or bs k 0)) → (raw n).read bs ≡ Some (take n bs, take (length bs - n) (drop n bs))
 raw_there n bs long small =
     ap (λ b. let found : Option (List ℕ × List ℕ) = Some (take n bs, drop n bs) in if b then found else None) (has_front n bs long small)
-    ∙ ap (λ rest. let found : Option (List ℕ × List ℕ) = Some (take n bs, rest) in found) (sym (past n bs))
+    ∙ ap (λ rest. let found : Option (List ℕ × List ℕ) = Some (take n bs, rest) in found) (sym (take_rest n bs))
 
 pub raw_short : (n : ℕ) (bs : List ℕ) → length bs < n → (raw n).read bs ≡ None
 raw_short n bs less = ap (λ b. let found : Option (List ℕ × List ℕ) = Some (take n bs, drop n bs) in if b then found else None) (short n bs less)

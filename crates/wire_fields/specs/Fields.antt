@@ -5,6 +5,7 @@ use Rattle.vst_base.specs.Tokens.{is_token}
 use Rattle.wire_fields.specs.Bytes.{has_bytes, number_bytes, read_number}
 use Rattle.wire_fields.specs.declared.name.TheConstants.{NAME_LEN}
 use Rattle.wire_fields.specs.Formats.{Format, and_then, keyed}
+use Rattle.lists.specs.Prefixes.{IsPrefix}
 
 -- a number in a range, in so many bytes
 abbrev pub number : ℕ → ℕ → ℕ → Format ℕ
@@ -90,7 +91,3 @@ optional_value = optional value
 abbrev pub Reads : {V : Type 0} → Format V → List ℕ → List ℕ → Option V → Type 0
 Reads f before after None = f.read before ≡ None
 Reads f before after (Some v) = f.read before ≡ Some (v, after)
-
--- what a writer leaves where it breaks off: the bytes before stand in front
-abbrev pub StandsBefore : List ℕ → List ℕ → Type 0
-StandsBefore front bytes = take (length front) bytes ≡ front

@@ -4,19 +4,14 @@ use Rattle.std.proofs.Math.Seq.{take-append_seam}
 use Rattle.std.proofs.lemmas.List.{take-take}
 use Rattle.std.proofs.lemmas.Result.{on_err_weaker}
 use Rattle.std.specs.Borrow.{Bor}
-use Rattle.wire_fields.specs.Fields.{StandsBefore}
 use Rattle.wire_fields.specs.Formats.{Format}
+use Rattle.lists.specs.Prefixes.{IsPrefix, prefix_before}
 
 abbrev pub ReadsFront : {V : Type 0} → Format V → List ℕ → Option (V × Bor (List ℕ)) → Type 0
 ReadsFront f bs None = f.read bs ≡ None
 ReadsFront f bs (Some p) = f.read bs ≡ Some (p.0, p.1.now)
 
-still_before : (old added new : List ℕ) → StandsBefore (old ++ added) new → StandsBefore old new
-still_before old added new before =
-    let within : length old ≤ length (old ++ added) = omega (arith, length-append old added) in
-    sym (take-take (length old) (length (old ++ added)) new within) ∙ ap (take (length old)) before ∙ take-append_seam old added
-
 -- the bytes before what was added earlier stand in front too
-pub front_stays : {T E : Type 0} (r : Result T E) (old added between new : List ℕ) → between ≡ old ++ added → OnErr r (StandsBefore between new) → OnErr r (StandsBefore old new)
+pub front_stays : {T E : Type 0} (r : Result T E) (old added between new : List ℕ) → between ≡ old ++ added → OnErr r (IsPrefix between new) → OnErr r (IsPrefix old new)
 front_stays r old added between new is stands =
-    on_err_weaker r (λ before. still_before old added new (subst (λ front. StandsBefore front new) is before)) stands
+    on_err_weaker r (λ before. prefix_before old added new (subst (λ front. IsPrefix front new) is before)) stands

@@ -1,6 +1,7 @@
 ghost use Rattle.std.specs.Prelude.{◌≡◌, ◌∷◌, [], ◌++◌, OnErr, OnOk};
 ghost use Rattle.wire_fields.specs.Bytes.{number_bytes};
-ghost use Rattle.wire_fields.specs.Fields.{StandsBefore, flag_byte, key, optional, token_of_length, value};
+ghost use Rattle.wire_fields.specs.Fields.{flag_byte, key, optional, token_of_length, value};
+ghost use Rattle.lists.specs.Prefixes.{IsPrefix};
 
 use byteorder::{ByteOrder, NetworkEndian};
 use std::alloc::AllocError;
@@ -59,7 +60,7 @@ pub fn put_flag(out: &mut Vec<u8>, yes: bool) -> Result<(), AllocError>
 /// Adds a key after its length at the end, or a part of them.
 pub fn put_key(out: &mut Vec<u8>, token: &Key) -> Result<(), AllocError>
     ensures ok { OnOk result (out.new.items ≡ out.old.items ++ key.spell token.now) }
-    ensures err { OnErr result (StandsBefore out.old.items out.new.items) }
+    ensures err { OnErr result (IsPrefix out.old.items out.new.items) }
     ensures fits { OnOk result (key.Fits token.now) }
 {
     let bytes = token.as_bytes();
@@ -71,7 +72,7 @@ pub fn put_key(out: &mut Vec<u8>, token: &Key) -> Result<(), AllocError>
 #[tactic(auto, unfolding(crate::specs::Bytes::number_bytes))]
 pub fn put_kind_and_key(out: &mut Vec<u8>, kind: u8, token: &Key) -> Result<(), AllocError>
     ensures ok { OnOk result (out.new.items ≡ out.old.items ++ kind ∷ key.spell token.now) }
-    ensures err { OnErr result (StandsBefore out.old.items out.new.items) }
+    ensures err { OnErr result (IsPrefix out.old.items out.new.items) }
     ensures fits { OnOk result (key.Fits token.now) }
 {
     let bytes = token.as_bytes();
@@ -82,7 +83,7 @@ pub fn put_kind_and_key(out: &mut Vec<u8>, kind: u8, token: &Key) -> Result<(), 
 /// Adds a value after its length at the end, or a part of them.
 pub fn put_value(out: &mut Vec<u8>, token: &Value) -> Result<(), AllocError>
     ensures ok { OnOk result (out.new.items ≡ out.old.items ++ value.spell token.now) }
-    ensures err { OnErr result (StandsBefore out.old.items out.new.items) }
+    ensures err { OnErr result (IsPrefix out.old.items out.new.items) }
     ensures fits { OnOk result (value.Fits token.now) }
 {
     let bytes = token.as_bytes();
@@ -94,7 +95,7 @@ pub fn put_value(out: &mut Vec<u8>, token: &Value) -> Result<(), AllocError>
 /// Adds a key that may be left out at the end, or a part of its bytes.
 pub fn put_optional_key(out: &mut Vec<u8>, token: &Option<Key>) -> Result<(), AllocError>
     ensures ok { OnOk result (out.new.items ≡ out.old.items ++ (optional key).spell token.now) }
-    ensures err { OnErr result (StandsBefore out.old.items out.new.items) }
+    ensures err { OnErr result (IsPrefix out.old.items out.new.items) }
     ensures fits { OnOk result ((optional key).Fits token.now) }
 {
     put_flag(out, token.is_some())?;
@@ -108,7 +109,7 @@ pub fn put_optional_key(out: &mut Vec<u8>, token: &Option<Key>) -> Result<(), Al
 /// Adds a value that may be left out at the end, or a part of its bytes.
 pub fn put_optional_value(out: &mut Vec<u8>, token: &Option<Value>) -> Result<(), AllocError>
     ensures ok { OnOk result (out.new.items ≡ out.old.items ++ (optional value).spell token.now) }
-    ensures err { OnErr result (StandsBefore out.old.items out.new.items) }
+    ensures err { OnErr result (IsPrefix out.old.items out.new.items) }
     ensures fits { OnOk result ((optional value).Fits token.now) }
 {
     put_flag(out, token.is_some())?;

@@ -1,10 +1,10 @@
 ghost use Rattle.std.specs.Prelude.{◌≡◌, ◌≤◌, ◌++◌, All, IfOk, IfSome, OnErr, OnOk, length};
 ghost use Rattle.std.specs.List.{flat_map};
-ghost use Rattle.wire_fields.specs.Fields.{StandsBefore};
 ghost use Rattle.wire_fields.specs.Formats.{listed};
 ghost use Rattle.wire_messages.specs.EntryBytes.{entry};
 ghost use Rattle.wire_messages.specs.RaftBytes.{SkipsEntries, entries};
 ghost use Rattle.wire_messages.specs.Wires.{Skips, Takes, TakesBy};
+ghost use Rattle.lists.specs.Prefixes.{IsPrefix};
 
 use crate::Wire;
 use raft_types::Entries;
@@ -17,7 +17,7 @@ use wire_fields::Input;
 pub fn put_each<C: Wire>(out: &mut Vec<u8>, items: &[Entry<C>]) -> Result<(), AllocError>
     ensures ok { OnOk result (out.new.items ≡ out.old.items ++ flat_map (entry C.format).spell items.now) }
     ensures fits { OnOk result (All (entry C.format).Fits items.now) }
-    ensures err { OnErr result (StandsBefore out.old.items out.new.items) }
+    ensures err { OnErr result (IsPrefix out.old.items out.new.items) }
 {
     for item in items {
         item.put(out)?;

@@ -1,7 +1,7 @@
 ghost use Rattle.std.specs.Prelude.{◌≡◌, ◌++◌, OnErr, OnOk};
-ghost use Rattle.wire_fields.specs.Fields.{StandsBefore};
 ghost use Rattle.wire_fields.specs.Formats.{Format, IsFormat};
 ghost use Rattle.wire_messages.specs.Wires.{Skips, Takes};
+ghost use Rattle.lists.specs.Prefixes.{IsPrefix};
 
 use std::alloc::{AllocError, Global};
 use wire_fields::Input;
@@ -15,7 +15,7 @@ pub trait Wire: Drop {
     fn put(&self, out: &mut Vec<u8>) -> Result<(), AllocError>
         ensures ok { OnOk result (out.new.items ≡ out.old.items ++ format.spell self.now) }
         ensures fits { OnOk result (format.Fits self.now) }
-        ensures err { OnErr result (StandsBefore out.old.items out.new.items) };
+        ensures err { OnErr result (IsPrefix out.old.items out.new.items) };
 
     /// The value whose bytes stand in front, and `None` where none does. What is left of the input after a `None` or
     /// an `Err` is not said.

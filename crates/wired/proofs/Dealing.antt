@@ -7,18 +7,19 @@ use Rattle.std.proofs.lemmas.List.Elements.{All-append, All-cons, All-head, All-
 use Rattle.handler_trait.specs.Handling.{Meaning, Recovery}
 use Rattle.net_semantics.specs.Runs.{first_refused_from, run_from}
 use Rattle.net_semantics.specs.RunLaws.{place_and_why-none}
-use Rattle.net_semantics.specs.Steps.{Event, after_event, after_network, delivery, event_of, next, rebooted, refusal_of}
-use Rattle.net_semantics.specs.Worlds.{Packet, World, change_at, first_world, one_less, one_more, put, sent_by}
+use Rattle.net_semantics.specs.StepLaws.{delivered_there}
+use Rattle.net_semantics.specs.Steps.{Event, after_event, after_network, copied, delivered, delivery, event_in, event_of, network_after, next, rebooted, refusal_in, refusal_of}
+use Rattle.net_semantics.specs.Worlds.{Packet, World, change_at, first_world, put, sent_by}
 use Rattle.net_semantics.proofs.Places.{put-there, put-elsewhere}
 use Rattle.vst_base.specs.declared.net.Net.{Net}
 use Rattle.vst_base.specs.declared.step.Step.{Step}
-use Rattle.vst_base.specs.declared.step.Step.TheVariants as step
+use Rattle.vst_base.specs.StepViews.{AtNode, Copied, Delivered, Fate, Lost, OfPacket, Starts, StepView, Stops, view_of}
 use Rattle.vst_base.specs.declared.step.TheConstants.{MAX_STEPS}
 use Rattle.wired.specs.Dealing.{AllKeepTo, AreSent, DealsInBytes, GoesOn, IsGoodPacket}
-use Rattle.wired.specs.StackRuns.{AreInputSteps, IsInputStep}
-use Rattle.wired.specs.Saving.{EachKeepsBytes, KeepsBytes, Saving}
+use Rattle.wired.specs.StackRuns.{AreInputSteps, IsInputIn, IsInputStep}
+use Rattle.wired.specs.Saving.{EachKeepsBytes, KeepsBytesIn, Saving}
 use Rattle.wired.proofs.Packets.{all_at}
-use Rattle.wired.proofs.Taking.{crash_below, input_below, input_taken, reboot_below, tick_below}
+use Rattle.wired.proofs.Taking.{input_taken, named_below}
 
 all_changed : {X : Type 0} (P : X → Type 0) (g : X → X) → ((x : X) → P x → P (g x)) → (k : ℕ) (xs : List X) → All P xs → All P (change_at g k xs)
 all_changed P g same k [] all = All-nil P
@@ -69,16 +70,17 @@ module _ {S K I O M : Type 0} (Has : ℕ → ℕ → M → Type 0) (saving : Sav
       let is = there p refl in
       (is.0.1, deals.message t p.destination (w.state p.destination) p.source p.content few is.0.1 is.0.0 is.1 (good.states p.destination is.0.1))
 
-  good_event : (net : Net) (t : ℕ) (w : World S K M) (s : Step I) → t < MAX_STEPS → refusal_of net m w s ≡ None → IsInputStep IsInput s → IsGoodWorld t w → IsGoodEvent (suc t) (event_of m w s)
-  good_event net t w (step.In n i) few taken is good =
-      let below = input_below net m w n i taken in
+  good_event : (net : Net) (t : ℕ) (w : World S K M) (s : StepView I) → t < MAX_STEPS → refusal_in net m w s ≡ None → IsInputIn IsInput s → IsGoodWorld t w → IsGoodEvent (suc t) (event_in m w s)
+  good_event net t w (AtNode n (Some i)) few taken is good =
+      let below = named_below net m w (AtNode n (Some i)) n refl taken in
       (below, deals.input t n (w.state n) i few below (input_taken net m w n i taken) is (good.states n below))
-  good_event net t w (step.Tick n) few taken is good = let below = tick_below net m w n taken in (below, deals.timeout t n (w.state n) few below (good.states n below))
-  good_event net t w (step.Deliver k) few taken is good = good_delivery t w (slice_get w.packets k) few good (λ p e. all_at IsGood w.packets k p good.packets e)
-  good_event net t w (step.Dup k) few taken is good = tt
-  good_event net t w (step.Lose k) few taken is good = tt
-  good_event net t w (step.Crash n) few taken is good = tt
-  good_event net t w (step.Reboot n) few taken is good = tt
+  good_event net t w (AtNode n None) few taken is good =
+      let below = named_below net m w (AtNode n None) n refl taken in
+      (below, deals.timeout t n (w.state n) few below (good.states n below))
+  good_event net t w (OfPacket k fate) few taken is good =
+      good_delivery t w (delivered fate (slice_get w.packets k)) few good (λ p e. all_at IsGood w.packets k p good.packets (delivered_there fate (slice_get w.packets k) p e))
+  good_event net t w (Stops n) few taken is good = tt
+  good_event net t w (Starts n) few taken is good = tt
 
   all_sent : (n : ℕ) (sends : List (ℕ × M)) → n < m.nodes → AreSent Has m.nodes n sends → All IsGood (sent_by n sends)
   all_sent n [] below sent = All-nil IsGood
@@ -101,33 +103,32 @@ module _ {S K I O M : Type 0} (Has : ℕ → ℕ → M → Type 0) (saving : Sav
     packets = good.packets;
   }
 
-  good_network : (net : Net) (t : ℕ) (w : World S K M) (s : Step I) → refusal_of net m w s ≡ None → IsGoodWorld t w → IsGoodWorld t (after_network r w s)
-  good_network net t w (step.In n i) taken good = good
-  good_network net t w (step.Tick n) taken good = good
-  good_network net t w (step.Deliver k) taken good = record { states = good.states; kept = good.kept; packets = all_changed IsGood one_less (λ p is. is) k w.packets good.packets }
-  good_network net t w (step.Lose k) taken good = record { states = good.states; kept = good.kept; packets = all_changed IsGood one_less (λ p is. is) k w.packets good.packets }
-  good_network net t w (step.Dup k) taken good = record { states = good.states; kept = good.kept; packets = all_changed IsGood one_more (λ p is. is) k w.packets good.packets }
-  good_network net t w (step.Crash n) taken good =
-      let below = crash_below net m w n taken in
+  good_network : (net : Net) (t : ℕ) (w : World S K M) (s : StepView I) → refusal_in net m w s ≡ None → IsGoodWorld t w → IsGoodWorld t (network_after r w s)
+  good_network net t w (AtNode n input) taken good = good
+  good_network net t w (OfPacket k fate) taken good = record { states = good.states; kept = good.kept; packets = all_changed IsGood (copied fate) (good_copied fate) k w.packets good.packets }
+    where
+      good_copied : (fate : Fate) (p : Packet M) → IsGood p → IsGood (copied fate p)
+      good_copied Delivered p is = is
+      good_copied Copied p is = is
+      good_copied Lost p is = is
+  good_network net t w (Stops n) taken good =
+      let below = named_below net m w (Stops n) n refl taken in
       record {
         states = good.states;
         kept = put-below (IsKept t) m.nodes w.kept n (Some (r.keep (w.state n))) good.kept (w.state n, good.states n below, refl);
         packets = good.packets;
       }
-  good_network net t w (step.Reboot n) taken good = let below = reboot_below net m w n taken in good_reboot t w n (w.kept n) below good (good.kept n below)
+  good_network net t w (Starts n) taken good = let below = named_below net m w (Starts n) n refl taken in good_reboot t w n (w.kept n) below good (good.kept n below)
 
-  keeps : (net : Net) (t : ℕ) (w : World S K M) (s : Step I) → refusal_of net m w s ≡ None → IsGoodWorld t w → KeepsBytes saving r w s
-  keeps net t w (step.Crash n) taken good = let below = crash_below net m w n taken in deals.keep t n (w.state n) below (good.states n below)
-  keeps net t w (step.In n i) taken good = tt
-  keeps net t w (step.Deliver k) taken good = tt
-  keeps net t w (step.Tick n) taken good = tt
-  keeps net t w (step.Dup k) taken good = tt
-  keeps net t w (step.Lose k) taken good = tt
-  keeps net t w (step.Reboot n) taken good = tt
+  keeps : (net : Net) (t : ℕ) (w : World S K M) (s : StepView I) → refusal_in net m w s ≡ None → IsGoodWorld t w → KeepsBytesIn saving r w s
+  keeps net t w (AtNode n input) taken good = tt
+  keeps net t w (OfPacket k fate) taken good = tt
+  keeps net t w (Stops n) taken good = let below = named_below net m w (Stops n) n refl taken in deals.keep t n (w.state n) below (good.states n below)
+  keeps net t w (Starts n) taken good = tt
 
   good_next : (net : Net) (t : ℕ) (w : World S K M) (s : Step I) → t < MAX_STEPS → refusal_of net m w s ≡ None → IsInputStep IsInput s → IsGoodWorld t w → IsGoodWorld (suc t) (next m r w s)
   good_next net t w s few taken is good =
-      good_after (suc t) (after_network r w s) (event_of m w s) (later t (after_network r w s) (good_network net t w s taken good)) (good_event net t w s few taken is good)
+      good_after (suc t) (after_network r w s) (event_of m w s) (later t (after_network r w s) (good_network net t w (view_of s) taken good)) (good_event net t w (view_of s) few taken is good)
 
   all_from : (net : Net) (t : ℕ) (w : World S K M) (ss : List (Step I)) → t + length ss ≤ MAX_STEPS → AreInputSteps IsInput ss → first_refused_from net m r w ss ≡ None → IsGoodWorld t w
       → All IsGood (run_from m r w ss).packets × EachKeepsBytes saving m r w ss
@@ -135,7 +136,7 @@ module _ {S K I O M : Type 0} (Has : ℕ → ℕ → M → Type 0) (saving : Sav
   all_from net t w (s ∷ ss) few are allowed good =
       let both = place_and_why-none (refusal_of net m w s) (first_refused_from net m r (next m r w s) ss) allowed in
       let rest = all_from net (suc t) (next m r w s) ss (omega (arith, few)) are.1 both.1 (good_next net t w s (omega (arith, few)) both.0 are.0 good) in
-      (rest.0, (keeps net t w s both.0 good, rest.1))
+      (rest.0, (keeps net t w (view_of s) both.0 good, rest.1))
 
   pub all_keep_to : AllKeepTo Has saving IsInput m r
   all_keep_to net ss may allowed =

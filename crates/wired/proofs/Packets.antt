@@ -5,8 +5,9 @@ use Rattle.std.proofs.Common.{ap, ◌∙◌, sym, subst}
 use Rattle.std.proofs.lemmas.List.{map-append}
 use Rattle.std.proofs.lemmas.List.Elements.{All-cons, All-head, All-nil, All-tail}
 use Rattle.std.proofs.lemmas.Option.{slice_get-map}
-use Rattle.net_semantics.specs.Steps.{comes_first, flies_among, is_first}
-use Rattle.net_semantics.specs.Worlds.{Packet, World, change_at, copies, copies_of, ends, ends_of, one_less, one_more, sent_by}
+use Rattle.net_semantics.specs.Steps.{comes_first, copied, delivered, flies_among, is_first}
+use Rattle.net_semantics.specs.Worlds.{Packet, World, change_at, copies, copies_of, ends, ends_of, sent_by}
+use Rattle.vst_base.specs.StepViews.{Copied, Delivered, Fate, Lost}
 use Rattle.vst_base.specs.declared.stack.StackId.{StackId}
 use Rattle.wire_fields.specs.Formats.{Format}
 use Rattle.wired.specs.WiredRuns.{IsSpelledPacket, packet_in_bytes, world_in_bytes}
@@ -45,17 +46,26 @@ module _ {M : Type 0} (f : Format M) (stack : StackId) (name : List ℕ) where
       → map bytes ps ++ sent_by n (sent f stack name n sends) ≡ map bytes (ps ++ sent_by n sends)
   joined_in_bytes n ps sends = ap (λ qs. map bytes ps ++ qs) (sent_in_bytes n sends) ∙ sym (map-append bytes ps (sent_by n sends))
 
-  pub less_in_bytes : (k : ℕ) (ps : List (Packet M)) → map bytes (change_at one_less k ps) ≡ change_at one_less k (map bytes ps)
-  less_in_bytes k ps = map-change_at bytes one_less one_less (λ p. refl) k ps
+  pub copied_in_bytes : (fate : Fate) (k : ℕ) (ps : List (Packet M)) → map bytes (change_at (copied fate) k ps) ≡ change_at (copied fate) k (map bytes ps)
+  copied_in_bytes fate k ps = map-change_at bytes (copied fate) (copied fate) (same_bytes fate) k ps
+    where
+      same_bytes : (fate : Fate) (p : Packet M) → bytes (copied fate p) ≡ copied fate (bytes p)
+      same_bytes Delivered p = refl
+      same_bytes Copied p = refl
+      same_bytes Lost p = refl
 
-  pub more_in_bytes : (k : ℕ) (ps : List (Packet M)) → map bytes (change_at one_more k ps) ≡ change_at one_more k (map bytes ps)
-  more_in_bytes k ps = map-change_at bytes one_more one_more (λ p. refl) k ps
+  pub spelled_before : (fate : Fate) (k : ℕ) (ps : List (Packet M)) → All (IsSpelledPacket f stack name) (change_at (copied fate) k ps) → All (IsSpelledPacket f stack name) ps
+  spelled_before fate k ps all = all_before (IsSpelledPacket f stack name) (copied fate) (as_spelled fate) k ps all
+    where
+      as_spelled : (fate : Fate) (p : Packet M) → IsSpelledPacket f stack name (copied fate p) → IsSpelledPacket f stack name p
+      as_spelled Delivered p is = is
+      as_spelled Copied p is = is
+      as_spelled Lost p is = is
 
-  pub spelled_less : (k : ℕ) (ps : List (Packet M)) → All (IsSpelledPacket f stack name) (change_at one_less k ps) → All (IsSpelledPacket f stack name) ps
-  spelled_less k ps all = all_before (IsSpelledPacket f stack name) one_less (λ p h. h) k ps all
-
-  pub spelled_more : (k : ℕ) (ps : List (Packet M)) → All (IsSpelledPacket f stack name) (change_at one_more k ps) → All (IsSpelledPacket f stack name) ps
-  spelled_more k ps all = all_before (IsSpelledPacket f stack name) one_more (λ p h. h) k ps all
+  pub delivered_in_bytes : (fate : Fate) (o : Option (Packet M)) → delivered fate (option_map bytes o) ≡ option_map bytes (delivered fate o)
+  delivered_in_bytes Delivered o = refl
+  delivered_in_bytes Copied o = refl
+  delivered_in_bytes Lost o = refl
 
   among_in_bytes : (e : ℕ × ℕ) (k : ℕ) (ps : List (Packet M)) → flies_among e (take k (map bytes ps)) ≡ flies_among e (take k ps)
   among_in_bytes e zero ps = refl

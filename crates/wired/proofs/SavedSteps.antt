@@ -3,13 +3,13 @@ use Rattle.std.specs.Prelude.{◌≡◌, ℕ, true, false, List, [], ◌∷◌, 
 use Rattle.std.proofs.Common.{ap, ◌∙◌, sym, subst, inl, inr}
 use Rattle.std.proofs.lemmas.Bool.{cases_eq}
 use Rattle.handler_trait.specs.Handling.{Meaning, Recovery}
-use Rattle.net_semantics.specs.Steps.{Event, after_event, after_network, crashed, delivery, event_of, items_of_event, next, rebooted, refusal_of}
+use Rattle.net_semantics.specs.Steps.{Event, after_event, after_network, crashed, delivered, delivery, event_in, event_of, items_of_event, network_after, next, rebooted, refusal_in}
 use Rattle.net_semantics.specs.Worlds.{Packet, World, first_world, put}
 use Rattle.net_semantics.proofs.Places.{put-there, put-elsewhere}
 use Rattle.vst_base.specs.declared.net.Net.{Net}
 use Rattle.vst_base.specs.declared.step.Step.{Step}
-use Rattle.vst_base.specs.declared.step.Step.TheVariants as step
-use Rattle.wired.specs.Saving.{EachKeepsBytes, KeepsBytes, ReadsBack, SavedRunsAreTheSame, Saving, Seated, saved, saved_recovery, seat, seated, started, world_saved}
+use Rattle.vst_base.specs.StepViews.{AtNode, OfPacket, Starts, StepView, Stops, view_of}
+use Rattle.wired.specs.Saving.{EachKeepsBytes, KeepsBytesIn, ReadsBack, SavedRunsAreTheSame, Saving, Seated, saved, saved_recovery, seat, seated, started, world_saved}
 use Rattle.wired.proofs.Alike.{EachStepsTheSame, runs}
 
 -- a value that is put in one place, and what stands for each
@@ -38,14 +38,11 @@ module _ {S K I O M : Type 0} (saving : Saving K) (back : ReadsBack saving) (m :
   abbrev AllFit : World S K M → Type 0
   AllFit w = (n : ℕ) → IfSome (w.kept n) (saving.Fits n)
 
-  same_refusal : (net : Net) (w : World S K M) (s : Step I) → refusal_of net m' (bytes w) s ≡ refusal_of net m w s
-  same_refusal net w (step.In n i) = refl
-  same_refusal net w (step.Tick n) = refl
-  same_refusal net w (step.Crash n) = refl
-  same_refusal net w (step.Reboot n) = refl
-  same_refusal net w (step.Deliver k) = refl
-  same_refusal net w (step.Dup k) = refl
-  same_refusal net w (step.Lose k) = refl
+  same_refusal : (net : Net) (w : World S K M) (s : StepView I) → refusal_in net m' (bytes w) s ≡ refusal_in net m w s
+  same_refusal net w (AtNode n input) = refl
+  same_refusal net w (OfPacket k fate) = refl
+  same_refusal net w (Stops n) = refl
+  same_refusal net w (Starts n) = refl
 
   abbrev event_seated : Event S I O M → Event (Seated S) I O M
   event_seated e = record { node = e.node; input = e.input; effect = seated e.node e.effect }
@@ -54,14 +51,12 @@ module _ {S K I O M : Type 0} (saving : Saving K) (back : ReadsBack saving) (m :
   same_delivery w None = refl
   same_delivery w (Some p) = refl
 
-  same_event : (w : World S K M) (s : Step I) → event_of m' (bytes w) s ≡ option_map event_seated (event_of m w s)
-  same_event w (step.In n i) = refl
-  same_event w (step.Tick n) = refl
-  same_event w (step.Deliver k) = same_delivery w (slice_get w.packets k)
-  same_event w (step.Dup k) = refl
-  same_event w (step.Lose k) = refl
-  same_event w (step.Crash n) = refl
-  same_event w (step.Reboot n) = refl
+  same_event : (w : World S K M) (s : StepView I) → event_in m' (bytes w) s ≡ option_map event_seated (event_in m w s)
+  same_event w (AtNode n (Some i)) = refl
+  same_event w (AtNode n None) = refl
+  same_event w (OfPacket k fate) = same_delivery w (delivered fate (slice_get w.packets k))
+  same_event w (Stops n) = refl
+  same_event w (Starts n) = refl
 
   items_seated : (o : Option (Event S I O M)) → items_of_event (option_map event_seated o) ≡ items_of_event o
   items_seated None = refl
@@ -99,14 +94,11 @@ module _ {S K I O M : Type 0} (saving : Saving K) (back : ReadsBack saving) (m :
         packets = w.packets;
       })
 
-  same_network : (w : World S K M) (s : Step I) → AllFit w → after_network r' (bytes w) s ≡ bytes (after_network r w s)
-  same_network w (step.In n i) fit = refl
-  same_network w (step.Tick n) fit = refl
-  same_network w (step.Deliver k) fit = refl
-  same_network w (step.Lose k) fit = refl
-  same_network w (step.Dup k) fit = refl
-  same_network w (step.Crash n) fit = same_crash w n
-  same_network w (step.Reboot n) fit = same_reboot w n (w.kept n) (fit n)
+  same_network : (w : World S K M) (s : StepView I) → AllFit w → network_after r' (bytes w) s ≡ bytes (network_after r w s)
+  same_network w (AtNode n input) fit = refl
+  same_network w (OfPacket k fate) fit = refl
+  same_network w (Stops n) fit = same_crash w n
+  same_network w (Starts n) fit = same_reboot w n (w.kept n) (fit n)
 
   -- what is kept has bytes after a step too
   fit_after : (w : World S K M) (o : Option (Event S I O M)) → AllFit w → AllFit (after_event w o)
@@ -117,26 +109,23 @@ module _ {S K I O M : Type 0} (saving : Saving K) (back : ReadsBack saving) (m :
   fit_rebooted w n None fit = fit
   fit_rebooted w n (Some k) fit = put-kept saving.Fits w.kept n None fit tt
 
-  fit_network : (w : World S K M) (s : Step I) → AllFit w → KeepsBytes saving r w s → AllFit (after_network r w s)
-  fit_network w (step.In n i) fit here = fit
-  fit_network w (step.Tick n) fit here = fit
-  fit_network w (step.Deliver k) fit here = fit
-  fit_network w (step.Lose k) fit here = fit
-  fit_network w (step.Dup k) fit here = fit
-  fit_network w (step.Crash n) fit here = put-kept saving.Fits w.kept n (Some (r.keep (w.state n))) fit here
-  fit_network w (step.Reboot n) fit here = fit_rebooted w n (w.kept n) fit
+  fit_network : (w : World S K M) (s : StepView I) → AllFit w → KeepsBytesIn saving r w s → AllFit (network_after r w s)
+  fit_network w (AtNode n input) fit here = fit
+  fit_network w (OfPacket k fate) fit here = fit
+  fit_network w (Stops n) fit here = put-kept saving.Fits w.kept n (Some (r.keep (w.state n))) fit here
+  fit_network w (Starts n) fit here = fit_rebooted w n (w.kept n) fit
 
   each_step : (w : World S K M) (ss : List (Step I)) → AllFit w → EachKeepsBytes saving m r w ss → EachStepsTheSame m' r' m r bytes w ss
   each_step w [] fit each = tt
   each_step w (s ∷ ss) fit each =
-      let network = same_network w s fit in
-      let event = same_event w s in (
+      let network = same_network w (view_of s) fit in
+      let event = same_event w (view_of s) in (
         record {
           items = ap (λ o. items_of_event {I = I} o) event ∙ items_seated (event_of m w s);
           world = (λ i. after_event (network i) (event i)) ∙ after_seated (after_network r w s) (event_of m w s);
         },
-        each_step (next m r w s) ss (fit_after (after_network r w s) (event_of m w s) (fit_network w s fit each.0)) each.1,
+        each_step (next m r w s) ss (fit_after (after_network r w s) (event_of m w s) (fit_network w (view_of s) fit each.0)) each.1,
       )
 
   pub saved_runs : SavedRunsAreTheSame saving m r
-  saved_runs net ss each = runs m' r' m r bytes same_refusal net ss refl (each_step (first_world m) ss (λ n. tt) each)
+  saved_runs net ss each = runs m' r' m r bytes (λ net w s. same_refusal net w (view_of s)) net ss refl (each_step (first_world m) ss (λ n. tt) each)

@@ -4,18 +4,19 @@ use Rattle.std.specs.List.{All}
 use Rattle.std.proofs.Common.{ap, ◌∙◌, sym}
 use Rattle.handler_trait.specs.Handling.{Meaning, Recovery}
 use Rattle.net_semantics.specs.Runs.{run_from}
-use Rattle.net_semantics.specs.Steps.{Event, after_event, delivery, after_network, event_of, items_of, items_of_event, next, rebooted, refusal_of, with_packets}
-use Rattle.net_semantics.specs.Worlds.{Packet, World, change_at, first_world, one_less, one_more, sent_by}
+use Rattle.net_semantics.specs.StepLaws.{delivered_there}
+use Rattle.net_semantics.specs.Steps.{Event, after_event, after_network, copied, delivered, delivery, event_in, event_of, items_of, items_of_event, network_after, next, rebooted, refusal_in, with_packets}
+use Rattle.net_semantics.specs.Worlds.{Packet, World, change_at, first_world, sent_by}
 use Rattle.vst_base.specs.declared.net.Net.{Net}
 use Rattle.vst_base.specs.declared.stack.StackId.{StackId}
 use Rattle.vst_base.specs.declared.step.Step.{Step}
-use Rattle.vst_base.specs.declared.step.Step.TheVariants as step
+use Rattle.vst_base.specs.StepViews.{AtNode, OfPacket, Starts, StepView, Stops, view_of}
 use Rattle.wire_fields.specs.Formats.{Format, IsFormat}
 use Rattle.wired.specs.WiredRuns.{IsSpelledPacket, WiredRunsAreTheSame, packet_in_bytes, world_in_bytes}
 use Rattle.wired.specs.Wiring.{after_message, in_bytes, wired}
 use Rattle.wired.proofs.Alike.{EachStepsTheSame, runs}
 use Rattle.wired.proofs.HeardBack.{heard_back}
-use Rattle.wired.proofs.Packets.{all_at, all_front, copies_in_bytes, ends_in_bytes, first_in_bytes, joined_in_bytes, less_in_bytes, more_in_bytes, spelled_less, spelled_more, there_in_bytes}
+use Rattle.wired.proofs.Packets.{all_at, all_front, copied_in_bytes, copies_in_bytes, delivered_in_bytes, ends_in_bytes, first_in_bytes, joined_in_bytes, spelled_before, there_in_bytes}
 
 module _ {M : Type 0} (f : Format M) (is_f : IsFormat f) (stack : StackId) (name : List ℕ) where
   abbrev AreSpelled : List (Packet M) → Type 0
@@ -32,14 +33,15 @@ module _ {M : Type 0} (f : Format M) (is_f : IsFormat f) (stack : StackId) (name
     m' = wired f stack name m
 
     -- a network refuses the same
-    same_refusal : (net : Net) (w : World S K M) (s : Step I) → refusal_of net m' (bytes w) s ≡ refusal_of net m w s
-    same_refusal net w (step.In n i) = refl
-    same_refusal net w (step.Tick n) = refl
-    same_refusal net w (step.Crash n) = refl
-    same_refusal net w (step.Reboot n) = refl
-    same_refusal net w (step.Deliver k) = let first = first_in_bytes f stack name w k in let there = copies_in_bytes f stack name w k in let ends = ends_in_bytes f stack name w k in rw (first, there, ends) refl
-    same_refusal net w (step.Dup k) = let first = first_in_bytes f stack name w k in let there = copies_in_bytes f stack name w k in rw (first, there) refl
-    same_refusal net w (step.Lose k) = let first = first_in_bytes f stack name w k in let there = copies_in_bytes f stack name w k in rw (first, there) refl
+    same_refusal : (net : Net) (w : World S K M) (s : StepView I) → refusal_in net m' (bytes w) s ≡ refusal_in net m w s
+    same_refusal net w (AtNode n input) = refl
+    same_refusal net w (OfPacket k fate) =
+        let first = first_in_bytes f stack name w k in
+        let there = copies_in_bytes f stack name w k in
+        let ends = ends_in_bytes f stack name w k in
+        rw (first, there, ends) refl
+    same_refusal net w (Stops n) = refl
+    same_refusal net w (Starts n) = refl
 
     -- an event in bytes
     abbrev event_in_bytes : Event S I O M → Event S I O (List ℕ)
@@ -67,19 +69,18 @@ module _ {M : Type 0} (f : Format M) (is_f : IsFormat f) (stack : StackId) (name
         ap (λ heard. Some (record { node = n; input = None; effect = in_bytes f stack name n (after_message m n (w.state n) p.source heard) }))
         (heard_back f is_f stack name p.source n p.content (spelled p refl))
 
-    same_event : (w : World S K M) (s : Step I) → AreSpelled w.packets → event_of m' (bytes w) s ≡ option_map event_in_bytes (event_of m w s)
-    same_event w (step.In n i) spelled = refl
-    same_event w (step.Tick n) spelled = refl
-    same_event w (step.Deliver k) spelled =
-        ap (delivery m' (bytes w)) (there_in_bytes f stack name w.packets k)
-        ∙ heard_at w (slice_get w.packets k) (λ p e. all_at (IsSpelledPacket f stack name) w.packets k p spelled e)
-    same_event w (step.Dup k) spelled = refl
-    same_event w (step.Lose k) spelled = refl
-    same_event w (step.Crash n) spelled = refl
-    same_event w (step.Reboot n) spelled = refl
+    same_event : (w : World S K M) (s : StepView I) → AreSpelled w.packets → event_in m' (bytes w) s ≡ option_map event_in_bytes (event_in m w s)
+    same_event w (AtNode n (Some i)) spelled = refl
+    same_event w (AtNode n None) spelled = refl
+    same_event w (OfPacket k fate) spelled =
+        let there = slice_get w.packets k in
+        ap (λ o. delivery m' (bytes w) (delivered fate o)) (there_in_bytes f stack name w.packets k) ∙ ap (delivery m' (bytes w)) (delivered_in_bytes f stack name fate there)
+        ∙ heard_at w (delivered fate there) (λ p e. all_at (IsSpelledPacket f stack name) w.packets k p spelled (delivered_there fate there p e))
+    same_event w (Stops n) spelled = refl
+    same_event w (Starts n) spelled = refl
 
     same_items : (w : World S K M) (s : Step I) → AreSpelled w.packets → items_of m' (bytes w) s ≡ items_of m w s
-    same_items w s spelled = ap (λ o. items_of_event {I = I} o) (same_event w s spelled) ∙ items_in_bytes (event_of m w s)
+    same_items w s spelled = ap (λ o. items_of_event {I = I} o) (same_event w (view_of s) spelled) ∙ items_in_bytes (event_of m w s)
 
     -- what the network itself does
     rebooted_in_bytes : (w : World S K M) (n : ℕ) (o : Option K) → rebooted r (bytes w) n o ≡ bytes (rebooted r w n o)
@@ -90,18 +91,15 @@ module _ {M : Type 0} (f : Format M) (is_f : IsFormat f) (stack : StackId) (name
         → with_packets (bytes w) qs ≡ bytes (with_packets w ps)
     with_in_bytes w ps qs e = ap (λ qs. with_packets (bytes w) qs) (sym e)
 
-    same_network : (w : World S K M) (s : Step I) → after_network r (bytes w) s ≡ bytes (after_network r w s)
-    same_network w (step.In n i) = refl
-    same_network w (step.Tick n) = refl
-    same_network w (step.Deliver k) = with_in_bytes w (change_at one_less k w.packets) _ (less_in_bytes f stack name k w.packets)
-    same_network w (step.Lose k) = with_in_bytes w (change_at one_less k w.packets) _ (less_in_bytes f stack name k w.packets)
-    same_network w (step.Dup k) = with_in_bytes w (change_at one_more k w.packets) _ (more_in_bytes f stack name k w.packets)
-    same_network w (step.Crash n) = refl
-    same_network w (step.Reboot n) = rebooted_in_bytes w n (w.kept n)
+    same_network : (w : World S K M) (s : StepView I) → network_after r (bytes w) s ≡ bytes (network_after r w s)
+    same_network w (AtNode n input) = refl
+    same_network w (OfPacket k fate) = with_in_bytes w (change_at (copied fate) k w.packets) _ (copied_in_bytes f stack name fate k w.packets)
+    same_network w (Stops n) = refl
+    same_network w (Starts n) = rebooted_in_bytes w n (w.kept n)
 
     same_next : (w : World S K M) (s : Step I) → AreSpelled w.packets → next m' r (bytes w) s ≡ bytes (next m r w s)
     same_next w s spelled =
-        (λ i. after_event (same_network w s i) (same_event w s spelled i)) ∙ after_in_bytes (after_network r w s) (event_of m w s)
+        (λ i. after_event (same_network w (view_of s) i) (same_event w (view_of s) spelled i)) ∙ after_in_bytes (after_network r w s) (event_of m w s)
 
     -- what is sent stays sent
     before_event : (w : World S K M) (o : Option (Event S I O M)) → AreSpelled (after_event w o).packets → AreSpelled w.packets
@@ -112,18 +110,15 @@ module _ {M : Type 0} (f : Format M) (is_f : IsFormat f) (stack : StackId) (name
     before_reboot w n None all = all
     before_reboot w n (Some k) all = all
 
-    before_network : (w : World S K M) (s : Step I) → AreSpelled (after_network r w s).packets → AreSpelled w.packets
-    before_network w (step.In n i) all = all
-    before_network w (step.Tick n) all = all
-    before_network w (step.Deliver k) all = spelled_less f stack name k w.packets all
-    before_network w (step.Lose k) all = spelled_less f stack name k w.packets all
-    before_network w (step.Dup k) all = spelled_more f stack name k w.packets all
-    before_network w (step.Crash n) all = all
-    before_network w (step.Reboot n) all = before_reboot w n (w.kept n) all
+    before_network : (w : World S K M) (s : StepView I) → AreSpelled (network_after r w s).packets → AreSpelled w.packets
+    before_network w (AtNode n input) all = all
+    before_network w (OfPacket k fate) all = spelled_before f stack name fate k w.packets all
+    before_network w (Stops n) all = all
+    before_network w (Starts n) all = before_reboot w n (w.kept n) all
 
     before_run : (w : World S K M) (ss : List (Step I)) → AreSpelled (run_from m r w ss).packets → AreSpelled w.packets
     before_run w [] all = all
-    before_run w (s ∷ ss) all = before_network w s (before_event (after_network r w s) (event_of m w s) (before_run (next m r w s) ss all))
+    before_run w (s ∷ ss) all = before_network w (view_of s) (before_event (after_network r w s) (event_of m w s) (before_run (next m r w s) ss all))
 
     each_step : (w : World S K M) (ss : List (Step I)) → AreSpelled (run_from m r w ss).packets → EachStepsTheSame m' r m r bytes w ss
     each_step w [] all = tt
@@ -132,4 +127,4 @@ module _ {M : Type 0} (f : Format M) (is_f : IsFormat f) (stack : StackId) (name
         (record { items = same_items w s spelled; world = same_next w s spelled }, each_step (next m r w s) ss all)
 
     pub wired_runs : WiredRunsAreTheSame f stack name {I = I} {O = O} m r
-    wired_runs net ss all = runs m' r m r bytes same_refusal net ss refl (each_step (first_world m) ss all)
+    wired_runs net ss all = runs m' r m r bytes (λ net w s. same_refusal net w (view_of s)) net ss refl (each_step (first_world m) ss all)

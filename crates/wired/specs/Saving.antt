@@ -6,7 +6,7 @@ use Rattle.net_semantics.specs.Steps.{next}
 use Rattle.net_semantics.specs.Worlds.{World, first_world}
 use Rattle.vst_base.specs.declared.net.Net.{Net}
 use Rattle.vst_base.specs.declared.step.Step.{Step}
-use Rattle.vst_base.specs.declared.step.Step.TheVariants as step
+use Rattle.vst_base.specs.StepViews.{AtNode, OfPacket, Starts, StepView, Stops, view_of}
 use Rattle.wired.specs.Same.{RunsTheSame}
 
 -- what a node of each number may keep so that it has bytes, its bytes, and what bytes are to that node: none where they are none of
@@ -77,14 +77,14 @@ world_saved saving w = record {
 }
 
 -- what a node keeps in a step has bytes
+abbrev pub KeepsBytesIn : {S K I M : Type 0} → Saving K → Recovery S K → World S K M → StepView I → Type 0
+KeepsBytesIn saving r w (AtNode n input) = Unit {0}
+KeepsBytesIn saving r w (OfPacket k fate) = Unit {0}
+KeepsBytesIn saving r w (Stops n) = saving.Fits n (r.keep (w.state n))
+KeepsBytesIn saving r w (Starts n) = Unit {0}
+
 abbrev pub KeepsBytes : {S K I M : Type 0} → Saving K → Recovery S K → World S K M → Step I → Type 0
-KeepsBytes saving r w (step.Crash n) = saving.Fits n (r.keep (w.state n))
-KeepsBytes saving r w (step.In n i) = Unit {0}
-KeepsBytes saving r w (step.Deliver k) = Unit {0}
-KeepsBytes saving r w (step.Tick n) = Unit {0}
-KeepsBytes saving r w (step.Dup k) = Unit {0}
-KeepsBytes saving r w (step.Lose k) = Unit {0}
-KeepsBytes saving r w (step.Reboot n) = Unit {0}
+KeepsBytes saving r w s = KeepsBytesIn saving r w (view_of s)
 
 -- and so in each of these steps
 abbrev pub EachKeepsBytes : {S K I O M : Type 0} → Saving K → Meaning S I O M → Recovery S K → World S K M → List (Step I) → Type 0

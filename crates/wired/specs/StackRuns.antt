@@ -1,11 +1,11 @@
 -- What it is that stacks run as bytes on the schedules that may come.
-use Rattle.std.specs.Prelude.{ℕ, ◌≤◌, List, [], ◌∷◌, length}
+use Rattle.std.specs.Prelude.{ℕ, ◌≤◌, IfSome, List, [], ◌∷◌, length}
 use Rattle.handler_trait.specs.Handling.{Meaning, Recovery}
 use Rattle.net_semantics.specs.Runs.{no_recovery}
 use Rattle.vst_base.specs.declared.net.Net.{Net}
 use Rattle.vst_base.specs.declared.stack.StackId.{StackId}
 use Rattle.vst_base.specs.declared.step.Step.{Step}
-use Rattle.vst_base.specs.declared.step.Step.TheVariants as step
+use Rattle.vst_base.specs.StepViews.{AtNode, OfPacket, Starts, StepView, Stops, view_of}
 use Rattle.vst_base.specs.declared.step.TheConstants.{MAX_STEPS}
 use Rattle.wire_fields.specs.Fields.{name}
 use Rattle.wire_fields.specs.Formats.{Format}
@@ -15,14 +15,14 @@ use Rattle.wired.specs.WiredRuns.{world_in_bytes}
 use Rattle.wired.specs.Wiring.{wired}
 
 -- the inputs of these steps are some that clients give
+abbrev pub IsInputIn : {I : Type 0} → (I → Type 0) → StepView I → Type 0
+IsInputIn IsInput (AtNode n input) = IfSome input IsInput
+IsInputIn IsInput (OfPacket k fate) = Unit {0}
+IsInputIn IsInput (Stops n) = Unit {0}
+IsInputIn IsInput (Starts n) = Unit {0}
+
 abbrev pub IsInputStep : {I : Type 0} → (I → Type 0) → Step I → Type 0
-IsInputStep IsInput (step.In n i) = IsInput i
-IsInputStep IsInput (step.Deliver k) = Unit {0}
-IsInputStep IsInput (step.Tick n) = Unit {0}
-IsInputStep IsInput (step.Dup k) = Unit {0}
-IsInputStep IsInput (step.Lose k) = Unit {0}
-IsInputStep IsInput (step.Crash n) = Unit {0}
-IsInputStep IsInput (step.Reboot n) = Unit {0}
+IsInputStep IsInput s = IsInputIn IsInput (view_of s)
 
 abbrev pub AreInputSteps : {I : Type 0} → (I → Type 0) → List (Step I) → Type 0
 AreInputSteps IsInput [] = Unit {0}

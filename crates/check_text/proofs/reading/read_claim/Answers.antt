@@ -1,7 +1,8 @@
 use Rattle.std.proofs.Common.{◌∙◌, refl, arith}
 use Rattle.check_text.specs.Forms.{form_of}
-use Rattle.check_text.proofs.Readings.{ahead-ended, ahead-refused, claim-ended, ends-cause, ends-failed, if-some, line-refused, line-taken, none-so-far}
+use Rattle.check_text.proofs.Readings.{ahead-ended, ahead-refused, claim-ended, ends-cause, ends-failed, line-refused, line-taken, none-so-far}
 use Rattle.check_text.proofs.reading.read_claim.Goals as goal
+use Rattle.lists.specs.Options.{if_some}
 
 pub loop-fault-init : goal.loop-fault-init
 loop-fault-init g c =
@@ -17,7 +18,7 @@ loop-fault-init g c =
     })
 
 pub returns-in-Err-clause-told : goal.returns-in-Err-clause-told
-returns-in-Err-clause-told g c = if-some _ _ (λ bytes has.
+returns-in-Err-clause-told g c = if_some _ _ (λ bytes has.
     let f = form_of c.args.nodes g.A.AppText.input_of g.A.AppText.output_of c.args.below g.G.ImageText.says in
     let inv = c.loop-fault.invariant in
     let s = inv.told bytes has in
@@ -35,7 +36,7 @@ returns-in-Err-clause-quiet g c = λ other.
     c.in-Err.ensures.quiet (λ e. other (ends-failed f c.loop-fault.draft c.next_line.new.reader.number c.in-Err.fault c.end_claim.result (c.end_claim.ensures.ends c.args.nodes c.args.below) cc)) ∙ c.loop-fault.invariant.quiet
 
 pub returns-in-Some-clause-told : goal.returns-in-Some-clause-told
-returns-in-Some-clause-told g c = if-some _ _ (λ bytes has.
+returns-in-Some-clause-told g c = if_some _ _ (λ bytes has.
     let f = form_of c.args.nodes g.A.AppText.input_of g.A.AppText.output_of c.args.below g.G.ImageText.says in
     let inv = c.loop-fault.invariant in
     let s = inv.told bytes has in
@@ -64,14 +65,14 @@ loop-fault-preserved g c =
     }
 
 pub returns-in-Err-clause-ahead : goal.returns-in-Err-clause-ahead
-returns-in-Err-clause-ahead g c = if-some _ _ (λ bytes has.
+returns-in-Err-clause-ahead g c = if_some _ _ (λ bytes has.
     let f = form_of c.args.nodes g.A.AppText.input_of g.A.AppText.output_of c.args.below g.G.ImageText.says in
     let s = c.loop-fault.invariant.told bytes has in
     ahead-ended f c.loop-fault.reader c.next_line.new.reader c.loop-fault.draft c.loop-fault.draft (g.S.Source.left c.loop-fault.source) (g.S.Source.left c.next_line.new.source) bytes s
     (Unit {0}) c.in-Err.fault c.end_claim.result (c.in-Err.ensures.told s.uses.rest' s.uses.left) c.in-Err.ensures.still (c.end_claim.ensures.ends c.args.nodes c.args.below))
 
 pub returns-in-Some-clause-ahead : goal.returns-in-Some-clause-ahead
-returns-in-Some-clause-ahead g c = if-some _ _ (λ bytes has.
+returns-in-Some-clause-ahead g c = if_some _ _ (λ bytes has.
     let f = form_of c.args.nodes g.A.AppText.input_of g.A.AppText.output_of c.args.below g.G.ImageText.says in
     let s = c.loop-fault.invariant.told bytes has in
     let reads = c.in-Ok.ensures.told s.uses.rest' s.uses.left in

@@ -1,6 +1,6 @@
 use Rattle.std.proofs.Common.{[], ◌++◌, ap, subst, ◌∙◌}
 use Rattle.std.specs.Prelude.{OnErr}
-use Rattle.outside.specs.Wholes.{Gained, GainedFront}
+use Rattle.outside.specs.Wholes.{Gained, GainedPrefix}
 use Rattle.schedule_text.specs.declared.header.Header.{Header}
 use Rattle.schedule_text.specs.Headers.{header_text}
 use Rattle.schedule_text.specs.Printing.{as_line}
@@ -41,4 +41,4 @@ returns g c =
     (k.faults c.args.sink.now) (k.faults c.print_text.new.sink) (k.wants c.args.sink.now) (k.wants c.print_text.new.sink) r) c.in-Err.is
     (broken-writes (as_line (header_text h)) (with_made [] (λ a. step_lines a.stack c.args.seed c.args.steps) c.args.stack) out out'
     (k.faults c.args.sink.now) (k.faults c.print_text.new.sink) (k.wants c.args.sink.now) (k.wants c.print_text.new.sink) c.in-Err.fault c.print_text.result c.in-Err.is
-    (subst (λ bs. OnErr c.print_text.result (GainedFront out out' bs)) line_is c.print_text.ensures.err) c.print_text.ensures.fault c.print_text.ensures.unfailed c.print_text.ensures.unwanted c.print_text.ensures.counts)
+    (subst (λ bs. OnErr c.print_text.result (GainedPrefix out out' bs)) line_is c.print_text.ensures.err) c.print_text.ensures.fault c.print_text.ensures.unfailed c.print_text.ensures.unwanted c.print_text.ensures.counts)

@@ -1,7 +1,7 @@
 use Rattle.std.proofs.Common.{◌≡◌, ◌∙◌, ◌∷◌, [], ◌++◌, Some, ap, arith, below_more, rules, sym}
 use Rattle.std.specs.Prelude.{slice_get}
-use Rattle.net_semantics.proofs.Places.{slice_get-append_left, slice_get-append_last}
 use Rattle.net_semantics.proofs.events.first_states.Goals as goal
+use Rattle.lists.specs.Places.{slice_get-front, slice_get_last}
 
 pub loop-n-preserved : goal.loop-n-preserved
 loop-n-preserved g c =
@@ -15,8 +15,8 @@ loop-n-preserved g c =
     record {
       nodes = search rules;
       first = below_more (λ k. slice_get c.push.new.self.items k ≡ Some (meaning.init k)) c.loop-n.n
-          (λ k lt. ap (λ xs. slice_get xs k) items ∙ (slice_get-append_left old (state ∷ []) k (omega (arith, kept.nodes)) ∙ kept.first k lt))
-          (ap (λ xs. slice_get xs c.loop-n.n) items ∙ (slice_get-append_last old state c.loop-n.n (sym kept.nodes) ∙ ap (λ x. Some x) first));
+          (λ k lt. ap (λ xs. slice_get xs k) items ∙ (slice_get-front old (state ∷ []) k (omega (arith, kept.nodes)) ∙ kept.first k lt))
+          (ap (λ xs. slice_get xs c.loop-n.n) items ∙ (slice_get_last old state c.loop-n.n (sym kept.nodes) ∙ ap (λ x. Some x) first));
       sound = below_more (λ k. g.H.Handlers.sound c.args.handlers.now k (meaning.init k)) c.loop-n.n kept.sound
           (rw node at (rw c.in_ok-init.ensures.first at c.in_ok-init.ensures.sound));
     }

@@ -1,7 +1,8 @@
 use Rattle.std.proofs.Common.{◌-◌, ◌<◌, ◌≤◌, length, take, drop, option_map, arith, ap, sym, ◌∙◌, refl, take_all, length-drop}
-use Rattle.node_config.proofs.Fills.{ended, filled-more, front-stays, further, left-more, left-none, room, taken-all, where-told}
+use Rattle.node_config.proofs.Fills.{ended, filled-more, front-stays, further, left-more, left-none, room, taken-all}
 use borrow.Rule.Slice.PartMut.{same_len_mid}
 use Rattle.node_config.proofs.filling.fill.Goals as goal
+use Rattle.lists.specs.Options.{if_some}
 
 pub returns-in-Got-eq0-clause-bytes : goal.returns-in-Got-eq0-clause-bytes
 returns-in-Got-eq0-clause-bytes g c =
@@ -11,7 +12,7 @@ returns-in-Got-eq0-clause-bytes g c =
     let len = c.loop-len.len in
     let e = c.in-Got-eq0.ensures.read in
     let some : 0 < length (take (length buf - len) (drop len buf)) = omega (arith, room buf len, c.loop-len-test.true) in
-    where-told _ (s.left c.args.source.now) (λ bytes is.
+    if_some _ (s.left c.args.source.now) (λ bytes is.
     let nothing = ended (s.left c.args.source.now) (s.left c.loop-len.source) len c.in-Got-eq0.field-0 _ c.read.new.buf inv.taken e.2 c.in-Got-eq0.field-0-test some bytes is in
     let few = taken-all bytes len nothing in
     front-stays buf c.read.new.buf len inv.within

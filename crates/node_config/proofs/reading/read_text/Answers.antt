@@ -1,7 +1,7 @@
 use Rattle.std.proofs.Common.{◌≡◌, ◌≤◌, ◌++◌, length, take, drop, ap, ◌∙◌, arith}
 use Rattle.std.proofs.lemmas.List.{take-take, take-append-le}
-use Rattle.node_config.proofs.Fills.{of-left, where-told}
 use Rattle.node_config.proofs.reading.read_text.Goals as goal
+use Rattle.lists.specs.Options.{if_some, of_some}
 
 pub returns-in-Some-clause-text : goal.returns-in-Some-clause-text
 returns-in-Some-clause-text g c =
@@ -14,9 +14,9 @@ returns-in-Some-clause-text g c =
     let whole : length filled ≡ length first = c.fill.auto.buf in
     let within : len ≤ c.in_ok-text.text.len = omega (arith, c.in-Some.ensures.count, c.in_ok-text.ensures.len, size) in
     let fits : len ≤ length filled = omega (arith, c.in-Some.ensures.count, whole) in
-    where-told _ (s.left c.args.source.now) (λ bytes is.
+    if_some _ (s.left c.args.source.now) (λ bytes is.
     c.truncate.ensures.items
     ∙ (take-take len c.in_ok-text.text.len (filled ++ rest) within
     ∙ (take-append-le len filled rest fits
-    ∙ (of-left (λ given. take len filled ≡ take (length first) given) (s.left c.args.source.now) bytes is c.in-Some.ensures.bytes
+    ∙ (of_some (λ given. take len filled ≡ take (length first) given) (s.left c.args.source.now) bytes is c.in-Some.ensures.bytes
     ∙ ap (λ n. take n bytes) size))))

@@ -13,10 +13,10 @@ pub returns-clause-nothing : goal.returns-clause-nothing
 returns-clause-nothing c = record { did = []; is = refl; says = tt; datagrams = refl }
 
 pub returns-clause-begun : goal.returns-clause-begun
-returns-clause-begun c = record { did = sent 0 ∷ []; is = refl; says = (tt, tt); datagrams = (_, refl) }
+returns-clause-begun c = record { did = sent 0 ∷ []; is = refl; says = (tt, tt); datagrams = refl }
 
 pub returns-clause-not_begun : goal.returns-clause-not_begun
-returns-clause-not_begun c = record { did = []; is = refl; says = tt; datagrams = (_, refl) }
+returns-clause-not_begun c = record { did = []; is = refl; says = tt; datagrams = refl }
 
 pub returns-clause-all : goal.returns-clause-all
-returns-clause-all c = record { did = sent 0 ∷ lost 1 ∷ []; is = refl; says = (tt, (tt, tt)); datagrams = ([], refl) }
+returns-clause-all c = record { did = sent 0 ∷ lost 1 ∷ []; is = refl; says = (tt, (tt, tt)); datagrams = refl }

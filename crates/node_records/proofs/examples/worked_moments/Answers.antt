@@ -44,12 +44,12 @@ returns-clause-refused c =
     moments_grow settings kv kv_command kv_output (by_length voted) (Starting first) first at_rest (Now 0 ∷ []) (Now 0 ∷ Took 300 (at_port 7100) put_a_x ∷ said)
     (quiet_leaves settings kv kv_command kv_output (by_length voted) (Starting first) _ first 0 at_rest 0 (Now 0 ∷ []) (hear.first first 0) rests).0 refl
     (event_leaves settings kv kv_command kv_output (by_length voted) _ first 0 at_rest 1 _ event (Now 0 ∷ Took 300 (at_port 7100) put_a_x ∷ []) [] said
-    (hear.event _ 0 300 (at_port 7100) put_a_x asked_put refl refl) rests tt (tt, tt) ([], refl) saving.whole.1 (inr saving.whole.2)).0
+    (hear.event _ 0 300 (at_port 7100) put_a_x asked_put refl refl) rests tt (tt, tt) refl saving.whole.1 (inr saving.whole.2)).0
 
 -- the silent event, saved
 pub returns-clause-saved : goal.returns-clause-saved
 unfolding number_bytes number_in has_bytes read_number
 returns-clause-saved c = record {
-  at = record { c = 1; near = inl refl; ended = omega arith; opens = search rules; sent = ([], refl) };
+  at = record { c = 1; near = inl refl; ended = omega arith; opens = search rules; sent = refl };
   saved = omega arith;
 }

@@ -1,5 +1,5 @@
 use Rattle.std.proofs.Common.{◌≡◌, ℕ, ◌++◌, List, length}
-use Rattle.outside.specs.Wholes.{Gained, GainedFront}
+use Rattle.outside.specs.Wholes.{Gained, GainedPrefix}
 use Rattle.outside.proofs.whole.write_all.Given as goal
 
 -- what is written and what is left are all the bytes
@@ -8,7 +8,7 @@ invariant-loop-rest g l =
     let k = g.K.Sink in
     record {
       written : (done : List ℕ) × (l.bytes ≡ done ++ l.rest) × Gained (k.written l.initial.sink) (k.written l.sink) done;
-      front : GainedFront (k.written l.initial.sink) (k.written l.sink) l.bytes;
+      front : GainedPrefix (k.written l.initial.sink) (k.written l.sink) l.bytes;
       faults : k.faults l.sink ≡ k.faults l.initial.sink;
       wants : k.wants l.sink ≡ k.wants l.initial.sink;
     }

@@ -4,8 +4,9 @@ use Rattle.schedule_text.specs.Streams.{HeaderIsNear, ReadsHeader}
 use Rattle.schedule_text.specs.HeaderLaws.{header_of-row}
 use Rattle.stacks.specs.Table.{stack_at}
 use Rattle.stacks.proofs.Found.{weaker-found}
-use Rattle.schedule_replay.proofs.Openings.{found-comes, header-comes, header-then, fresh-rest, if-told, going-of, kept-all, kept-header, kept-unread}
+use Rattle.schedule_replay.proofs.Openings.{found-comes, header-comes, header-then, fresh-rest, going-of, kept-all, kept-header, kept-unread}
 use Rattle.schedule_replay.proofs.stream.replay.Goals as goal
+use Rattle.lists.specs.Options.{if_some}
 
 pub on_stack-requires : goal.on_stack-requires
 on_stack-requires g c =
@@ -21,7 +22,7 @@ returns-in-Err-clause-told g c =
     let new = c.read_header.new.reader in
     let r = c.in_ok-reader.reader in
     let y = c.in-Err.fault in
-    if-told left _ (λ bytes told.
+    if_some _ left (λ bytes told.
     let reads = c.in-Err.ensures.told bytes (fresh-rest r left bytes c.in_ok-reader.ensures told) in
     header-comes new left' out bytes y c.replay_fault.result c.replay_fault.ensures (subst (λ (v : ReaderView). ReadsHeader v new left' bytes (Err y)) c.in_ok-reader.ensures reads))
 
@@ -37,7 +38,7 @@ returns-clause-told g c =
     let h = c.in-Ok.header in
     let is = c.in_ok-reader.ensures in
     let rests = found-comes (stack_at h.net h.stack) h.nodes new mid left' out out' _ _ _ _ _ _ c.on_stack.result c.on_stack.ensures in
-    if-told left _ (λ bytes told.
+    if_some _ left (λ bytes told.
     let reads = subst (λ (v : ReaderView). ReadsHeader v new mid bytes (Ok h)) is (c.in-Ok.ensures.told bytes (fresh-rest r left bytes is told)) in
     header-then h new (c.read_header.ensures.kept.0 ∙ ap (λ (v : ReaderView). v.most) is) (c.read_header.ensures.kept.1 ∙ ap (λ (v : ReaderView). v.events) is) reads.0 reads.3
     mid left' out out' bytes reads.1 c.on_stack.result (going-of new.ended _ _ _ _ c.on_stack.result rests.fault) (rests.told reads.1.rest' reads.1.left))
@@ -45,7 +46,7 @@ returns-clause-told g c =
 pub returns-in_err-reader-clause-kept_up : goal.returns-in_err-reader-clause-kept_up
 returns-in_err-reader-clause-kept_up g c =
     let left = g.S.Source.left c.args.source.now in
-    if-told left _ (λ bytes told. kept-unread left (g.K.Sink.written c.args.sink.now) bytes told)
+    if_some _ left (λ bytes told. kept-unread left (g.K.Sink.written c.args.sink.now) bytes told)
 
 pub returns-in-Err-clause-kept_up : goal.returns-in-Err-clause-kept_up
 returns-in-Err-clause-kept_up g c =
@@ -53,7 +54,7 @@ returns-in-Err-clause-kept_up g c =
     let left' = g.S.Source.left c.read_header.new.source in
     let r = c.in_ok-reader.reader in
     let is = c.in_ok-reader.ensures in
-    if-told left _ (λ bytes told. kept-header left' (g.K.Sink.written c.args.sink.now) bytes
+    if_some _ left (λ bytes told. kept-header left' (g.K.Sink.written c.args.sink.now) bytes
     (subst (λ (v : ReaderView). HeaderIsNear v left' bytes) is (c.read_header.ensures.near bytes (fresh-rest r left bytes is told))))
 
 pub returns-clause-kept_up : goal.returns-clause-kept_up
@@ -68,7 +69,7 @@ returns-clause-kept_up g c =
     let h = c.in-Ok.header in
     let is = c.in_ok-reader.ensures in
     let rests = found-comes (stack_at h.net h.stack) h.nodes new mid left' out out' _ _ _ _ _ _ c.on_stack.result c.on_stack.ensures in
-    if-told left _ (λ bytes told.
+    if_some _ left (λ bytes told.
     let has = fresh-rest r left bytes is told in
     let reads = subst (λ (v : ReaderView). ReadsHeader v new mid bytes (Ok h)) is (c.in-Ok.ensures.told bytes has) in
     let near = subst (λ (v : ReaderView). HeaderIsNear v mid bytes) is (c.read_header.ensures.near bytes has) in

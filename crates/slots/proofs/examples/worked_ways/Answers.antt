@@ -2,8 +2,9 @@ use Rattle.std.proofs.Common.{◌≡◌, [], ◌∷◌, refl, ap, arith, inl, in
 use Rattle.slots.specs.Opening.{BadSlot}
 use Rattle.slots.specs.Examples.{counted_found, slot, image_of, at_rest}
 use Rattle.slots.proofs.Turning.{nothing_is_such}
-use Rattle.slots.proofs.Worked.{state_of, not_none, not_held, rests, first_save}
+use Rattle.slots.proofs.Worked.{state_of, not_held, rests, first_save}
 use Rattle.slots.proofs.examples.worked_ways.Goals as goal
+use Rattle.lists.specs.Places.{not_empty}
 
 pub returns : goal.returns
 returns c = record {
@@ -15,6 +16,6 @@ returns c = record {
         | inl o ↦ not_held BadSlot (1 ∷ []) (o.0) (o.1)
         | inr o ↦ not_held BadSlot (2 ∷ 2 ∷ []) (o.0) (o.1)
       ];
-  not_synced = λ w. not_none (0, 1) [] w.done.pending.selector.ranges;
+  not_synced = λ w. not_empty (0, 1) [] w.done.pending.selector.ranges;
   elsewhere = λ w. w.only.0;
 }

@@ -1,5 +1,5 @@
 use Rattle.std.proofs.Common.{Err, ap, refl, subst, ◌∙◌, arith}
-use Rattle.outside.specs.Wholes.{GainedFront}
+use Rattle.outside.specs.Wholes.{GainedPrefix}
 use Rattle.command_line.specs.declared.command.Command.TheVariants as command
 use Rattle.run_streams.specs.Seen.{ran_beside}
 use Rattle.text_commands.specs.declared.complaint.Complaint.TheVariants as complaint
@@ -20,5 +20,5 @@ returns g c = λ input.
     let run = ran_beside g.O.Sink g.E.Sink input c.args.out.now c.write_all.new.sink c.args.err.now c.tell-in-Err-Memory.new.err in
     let found = c.in-Err-Memory in
     wanted_memory (command.Summarize c.args.schedule) run _ c.tell-in-Err-Memory.ensures.told (memory-told run refl (found.ensures.memory (ap Err found.field-0-is)).0)
-    (record { out = subst (λ text. GainedFront out out' text) (c.deref.ensures.value ∙ c.in-Ok.ensures) found.ensures.err; verdict = tt; kept_up = tt })
+    (record { out = subst (λ text. GainedPrefix out out' text) (c.deref.ensures.value ∙ c.in-Ok.ensures) found.ensures.err; verdict = tt; kept_up = tt })
     (record { reads = omega arith; writes = found.ensures.counts; complains = c.tell-in-Err-Memory.ensures.counts })

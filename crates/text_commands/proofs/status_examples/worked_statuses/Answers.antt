@@ -1,5 +1,5 @@
 -- These print numbers, whose digits have to be computed.
-use Rattle.std.proofs.Common.{◌≡◌, ◌≤◌, ◌++◌, ◌∙◌, ap, arith, codes, inl, inr, length, lit≤, refl, replicate, sym, ℕ, List, [], Option, Some}
+use Rattle.std.proofs.Common.{◌≡◌, ◌++◌, ◌∙◌, ap, arith, codes, inl, inr, lit≤, refl, ℕ, List, [], Option, Some}
 use Rattle.std.specs.Fmt.{digits}
 use Rattle.line_reader.specs.declared.why.Why.TheVariants as why
 use Rattle.vst_base.specs.declared.stack.StackId.TheVariants as stack

@@ -6,10 +6,10 @@ use Rattle.vst_base.specs.declared.step.Step.TheVariants as step
 use Rattle.net_semantics.specs.Shown.{IsSoundState}
 use Rattle.net_semantics.specs.ShownFail.{IsSoundFailBy, ShowsFailBy}
 use Rattle.net_semantics.specs.TakingFail.{AnswersFailBy}
-use Rattle.net_semantics.proofs.Eventful.{if_some_given}
 use Rattle.net_semantics.proofs.FailShowing.{fail_view}
 use Rattle.net_semantics.proofs.FailTaken.{answers_crash, exists_node}
 use Rattle.net_semantics.proofs.fail_world.FailWorld.take_crash.Goals as goal
+use Rattle.lists.specs.Options.{of_some}
 
 pub keep-requires : goal.keep-requires
 keep-requires g c =
@@ -18,7 +18,7 @@ keep-requires g c =
     let was : IsSoundFailBy facts (fail_view u kept) = subst (IsSoundFailBy facts) (sym c.self.view_is) c.requires.sound in
     let found = exists_node c.args.n (facts.meaning u.handlers).nodes c.in_ok-node.node (Ok c.in_ok-node.node) refl (rw c.handlers.ensures at c.in_ok-node.ensures) in
     let s = c.held_state-state.result.now in
-    let state : IsSoundState (facts.sound u.handlers c.in_ok-node.node) (facts.spent u.handlers) u.taken s = if_some_given (IsSoundState (facts.sound u.handlers c.in_ok-node.node) (facts.spent u.handlers) u.taken) (slice_get u.states c.in_ok-node.node) s c.held_state-state.ensures (was.world.states c.in_ok-node.node) in
+    let state : IsSoundState (facts.sound u.handlers c.in_ok-node.node) (facts.spent u.handlers) u.taken s = of_some (IsSoundState (facts.sound u.handlers c.in_ok-node.node) (facts.spent u.handlers) u.taken) (slice_get u.states c.in_ok-node.node) s c.held_state-state.ensures (was.world.states c.in_ok-node.node) in
     rw c.handlers-2.ensures (record { sound = (c.in_ok-node.node, found.1, state.keeps) })
 
 pub returns : goal.returns

@@ -7,10 +7,10 @@ use Rattle.vst_base.specs.declared.step.StepRefusal.TheVariants as refusal
 use Rattle.net_semantics.specs.declared.fault.StepFault.TheVariants as fault
 use Rattle.net_semantics.specs.ShownFail.{IsSoundFailBy, kept_at}
 use Rattle.net_semantics.specs.TakingFail.{AnswersFailBy}
-use Rattle.net_semantics.proofs.Eventful.{if_some_given}
 use Rattle.net_semantics.proofs.FailShowing.{fail_view}
 use Rattle.net_semantics.proofs.FailTaken.{answers_reboot, answers_reboot_up, exists_node}
 use Rattle.net_semantics.proofs.fail_world.FailWorld.take_reboot.Goals as goal
+use Rattle.lists.specs.Options.{of_some}
 
 pub returns-in_default : goal.returns-in_default
 returns-in_default g c =
@@ -31,7 +31,7 @@ returns g c =
     let found = exists_node c.args.n (facts.meaning u.handlers).nodes c.in_ok-node.node (Ok c.in_ok-node.node) refl (rw c.handlers.ensures at c.in_ok-node.ensures) in
     let k = c.in-Some.kept in let s = c.in_ok-state.state in
     let stopped : kept_at (slice_get kept c.in_ok-node.node) ≡ Some k = sym c.start.ensures.kept ∙ c.in-Some.is in
-    let fit = if_some_given (facts.fits u.handlers) (kept_at (slice_get kept c.in_ok-node.node)) k stopped (was.stopped c.in_ok-node.node) in
+    let fit = of_some (facts.fits u.handlers) (kept_at (slice_get kept c.in_ok-node.node)) k stopped (was.stopped c.in_ok-node.node) in
     let starts = rw c.handlers-2.ensures at c.in_ok-state.ensures.reboots in
     let ok = rw c.handlers-2.ensures at c.in_ok-state.ensures.sound in
     let fresh = ap (facts.spent u.handlers) starts ∙ g.met.H.Rebootable.rebooted_fresh u.handlers c.in_ok-node.node k found.1 fit in

@@ -4,11 +4,11 @@ use Rattle.handler_trait.specs.Facts.{promises_of}
 use Rattle.net_semantics.specs.Shown.{IsSoundPacket}
 use Rattle.net_semantics.specs.Held.{held_copies, held_less}
 use Rattle.net_semantics.specs.Order.{LanesFollow, all_ends}
-use Rattle.net_semantics.proofs.Eventful.{if_some_given}
 use Rattle.net_semantics.proofs.Keeping.{parcel_of}
 use Rattle.net_semantics.proofs.Ordering.{all_ends-change_at, order-less}
 use Rattle.net_semantics.proofs.Taken.{modest_most, ready_there, takes_deliver}
 use Rattle.net_semantics.proofs.world.World.deliver.Goals as goal
+use Rattle.lists.specs.Options.{of_some}
 
 pub message_event-requires-clause-ready : goal.message_event-requires-clause-ready
 message_event-requires-clause-ready g c =
@@ -29,7 +29,7 @@ returns-clause-takes g c =
     let p = parcel_of r.source r.destination (held_copies (slice_get now.packets c.args.k)) r.content.now in
     let sent : slice_get now.packets c.args.k ≡ Some p = rw packets at c.at-packet.ensures in
     let IsOne = IsSoundPacket (g.H.Handlers.meaning now.handlers).nodes now.taken in
-    let sound : IsOne p = if_some_given IsOne (slice_get now.packets c.args.k) p sent (c.requires.sound.packets c.args.k) in
+    let sound : IsOne p = of_some IsOne (slice_get now.packets c.args.k) p sent (c.requires.sound.packets c.args.k) in
     takes_deliver (promises_of g.H.Handlers now.handlers) now _ c.args.k p r.content.now c.message_event.new.effects sent
     c.requires.copy refl
     (record {

@@ -5,9 +5,9 @@ use Rattle.node_device.specs.Telling.{Did}
 use Rattle.node_state.specs.Crashes.{StoppedWith}
 use Rattle.node_state.specs.Ends.{NewFits, end_of, new_acts, new_end}
 use Rattle.node_state.proofs.Changes.{did_new, fits_new, knows_new, not_held, stopped_new, terms_new}
-use Rattle.node_state.proofs.Ends.{slice_after}
 use Rattle.node_state.proofs.Stopping.{on_err, stopped_before}
 use Rattle.node_state.proofs.store.Store.write.Goals as goal
+use Rattle.lists.specs.Places.{take_rest}
 
 pub returns-in_err-reserve-clause-stopped : goal.returns-in_err-reserve-clause-stopped
 returns-in_err-reserve-clause-stopped g c = on_err _ _ (inl (stopped_before _ _ [] refl))
@@ -68,5 +68,5 @@ returns-clause-knows g c =
     let held : c.reserve.new.self.items ≡ store.terms = c.reserve.ensures.items ∙ ap (λ (v : StoreView). v.terms) c.self.view_is in
     let front = c.truncate.ensures.items ∙ ap (λ (ts : List ℕ). take keep ts) held in
     let items = terms_new store.terms c.append.new.self.items c.truncate.new.self.items c.in_ok-added.added.items c.args.log.now _ keep c.in_ok-append.ensures.items front c.in_ok-added.ensures
-    (slice_after keep c.args.log.now) same in
+    (take_rest keep c.args.log.now) same in
     rw (ap (λ (v : StoreView). v.who) c.self.view_is) (knows_new s f store kept keep same c.in_ok-end.end c.append.new.self.items new end items)

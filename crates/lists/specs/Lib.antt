@@ -1,0 +1,4 @@
+pub mod Each
+pub mod Prefixes
+pub mod Places
+pub mod Options
