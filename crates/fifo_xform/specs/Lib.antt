@@ -1,0 +1,5 @@
+pub mod Peers
+pub mod PeersLaws
+pub mod Fifo
+pub mod FifoLaws
+pub mod Image

@@ -1,0 +1,3 @@
+pub mod Mirroring
+pub mod MirrorLaws
+pub mod Prefix
