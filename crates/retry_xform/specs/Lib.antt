@@ -1,0 +1,6 @@
+pub mod Keeping
+pub mod KeptEntries
+pub mod Retransmission
+pub mod RetransmissionLaws
+pub mod Image
+pub mod Examples
