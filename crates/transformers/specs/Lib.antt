@@ -1,0 +1,3 @@
+pub mod Transformers
+pub mod TransformerLaws
+pub mod Known
