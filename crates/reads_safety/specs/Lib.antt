@@ -1,0 +1,4 @@
+pub mod Examples
+pub mod Orders
+pub mod Runs
+pub mod Safety
