@@ -1,0 +1,3 @@
+mod StoreLaws
+mod NodeLaws
+pub mod NodeRuns

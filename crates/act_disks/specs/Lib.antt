@@ -1,0 +1,4 @@
+pub mod Stores
+pub mod NodeStores
+pub mod NodeLaws
+pub mod Examples

@@ -1,0 +1,10 @@
+pub mod Disks
+pub mod ActWorlds
+pub mod Listing
+pub mod ActRefusals
+pub mod ActSteps
+pub mod ActRuns
+pub mod Words
+pub mod Noting
+pub mod ActLaws
+pub mod Cells

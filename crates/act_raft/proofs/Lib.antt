@@ -1,0 +1,3 @@
+mod Fewer
+mod Noting
+pub mod Linear
