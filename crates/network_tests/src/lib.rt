@@ -15,4 +15,6 @@ mod seqnum_xform_tests;
 #[cfg(test)]
 mod trace_maps_tests;
 #[cfg(test)]
+mod transformer_tests;
+#[cfg(test)]
 mod xform_stack_tests;
