@@ -7,6 +7,7 @@ import signal
 import sys
 import time
 from collections.abc import Callable
+from pathlib import Path
 from typing import NoReturn
 
 if sys.version_info < (3, 11):
@@ -17,11 +18,17 @@ MOST_SECONDS = 86_400.0
 SAME_SECONDS = 1.0
 
 
+def version() -> str:
+    """The version of this repository."""
+    return (Path(__file__).resolve().parent.parent / "VERSION").read_text(encoding="ascii").strip()
+
+
 class Parser(argparse.ArgumentParser):
     """A parser whose complaint is one line."""
 
     def __init__(self, prog: str, doc: str | None = None) -> None:
         super().__init__(prog=prog, description=doc, formatter_class=argparse.RawDescriptionHelpFormatter, allow_abbrev=False)
+        self.add_argument("--version", action="version", version=f"%(prog)s {version()}", help="say which version this is, and end")
 
     def error(self, message: str) -> NoReturn:
         """Says what is wrong with the words, and ends."""

@@ -3,6 +3,7 @@ from __future__ import annotations
 
 import random
 import threading
+import time
 from collections.abc import Iterable
 from dataclasses import dataclass
 
@@ -20,17 +21,23 @@ class Trace:
 
     def __init__(self) -> None:
         self.lines: list[str] = []
+        # when each was noted
+        self.times: list[float] = []
         self.lock = threading.Lock()
+
+    def note(self, line: str) -> None:
+        """Notes a line, with its time."""
+        with self.lock:
+            self.lines.append(line)
+            self.times.append(time.monotonic())
 
     def asks(self, node: int, client: int, number: int, words: Words) -> None:
         """Notes an input, before it is sent."""
-        with self.lock:
-            self.lines.append(f"in {node} {client} {number} {' '.join(words)}")
+        self.note(f"in {node} {client} {number} {' '.join(words)}")
 
     def hears(self, reply: Reply) -> None:
         """Notes an output, once it has come."""
-        with self.lock:
-            self.lines.append(f"out {reply.node} {reply.text()}")
+        self.note(f"out {reply.node} {reply.text()}")
 
 
 @dataclass

@@ -128,6 +128,11 @@ def schedule(seed: int, nodes: int, seconds: float, rates: Rates) -> list[Event]
     return sorted(events, key=lambda event: event.at)
 
 
+def links_of(event: Event) -> list[str]:
+    """The links of an event, as words."""
+    return [f"{sender}-{to}" for sender, to in event.links]
+
+
 class Faults:
     """Does the events of a schedule to nodes and the network between them, and counts what it did."""
 
@@ -138,6 +143,12 @@ class Faults:
         self.paused: set[int] = set()
         # how nodes ended by themselves, which none should
         self.ended: set[str] = set()
+        # what was done, and when
+        self.noted: list[tuple[float, str]] = []
+
+    def note(self, act: Act, *which: object) -> None:
+        """Notes what was done to a node or to links."""
+        self.noted.append((time.monotonic(), " ".join([act.value, *map(str, which)])))
 
     def run(self, begun: float, seconds: float, each_second: Callable[[], None]) -> None:
         """Does what is due from the begin on, for so many seconds."""
@@ -157,8 +168,10 @@ class Faults:
         if event.act is Act.CUT:
             self.proxy.cut(event.links)
             self.cuts += 1
+            self.note(Act.CUT, *links_of(event))
         elif event.act is Act.MEND:
             self.proxy.mend(event.links)
+            self.note(Act.MEND, *links_of(event))
         elif event.act is Act.RESTART:
             self.restart(event.node)
         elif self.nodes.node(event.node).state == RUNNING:
@@ -172,18 +185,22 @@ class Faults:
             self.nodes.kill(event.node)
             self.paused.discard(event.node)
             self.kills += 1
+            self.note(Act.KILL, event.node)
         elif event.act is Act.PAUSE:
             node.send(signal.SIGSTOP)
             self.paused.add(event.node)
             self.pauses += 1
+            self.note(Act.PAUSE, event.node)
         elif event.node in self.paused:
             node.send(signal.SIGCONT)
             self.paused.discard(event.node)
+            self.note(Act.WAKE, event.node)
 
     def restart(self, node: int) -> None:
         """Starts a node again, unless it runs."""
         if self.nodes.node(node).state != RUNNING:
             self.nodes.restart(node)
+            self.note(Act.RESTART, node)
 
     def look(self) -> None:
         """Looks for nodes that ended by themselves, and starts them again."""
@@ -200,6 +217,7 @@ class Faults:
         self.look()
         for node in sorted(self.paused):
             self.nodes.node(node).send(signal.SIGCONT)
+            self.note(Act.WAKE, node)
         self.paused.clear()
         for node in self.nodes.all:
             self.restart(node.me)

@@ -21,7 +21,7 @@ from vstcluster import ClusterError, Plan, Room
 
 TOOLS = Path(vstcluster.__file__).resolve().parent
 FAKE = Path(__file__).resolve().parent / "fake-vst"
-PATIENCE = 10.0
+PATIENCE = 30.0
 
 
 def load(name: str) -> ModuleType:
@@ -48,6 +48,17 @@ def hears_interrupts() -> None:
     signal.signal(signal.SIGINT, signal.SIG_DFL)
 
 
+def remove(folder: Path) -> None:
+    """Removes a folder, of which a program that is just ending may still remove files itself."""
+
+    def gone() -> bool:
+        shutil.rmtree(folder, ignore_errors=True)
+        return not folder.exists()
+
+    if not awaits(gone):
+        raise OSError(f"{folder} can't be removed")
+
+
 def tool(name: str, *words: object) -> subprocess.CompletedProcess[str]:
     """A tool run with these words."""
     return subprocess.run([str(TOOLS / name), *map(str, words)], capture_output=True, text=True, timeout=60, check=False)
@@ -58,7 +69,7 @@ class InFolder(unittest.TestCase):
 
     def setUp(self) -> None:
         self.folder = Path(tempfile.mkdtemp(prefix="vst-test-"))
-        self.addCleanup(shutil.rmtree, self.folder)
+        self.addCleanup(remove, self.folder)
         self.room = Room(self.folder / "d")
 
     def make(self, nodes: int = 3, clients: int = 2, how: str = "", **fields: object) -> Plan:

@@ -1,12 +1,14 @@
 """The tools as commands that a user gives."""
 from __future__ import annotations
 
+import json
 import signal
 import subprocess
 import time
 
-from support import FAKE, PATIENCE, TOOLS, InFolder, awaits, hears_interrupts, tool
+from support import FAKE, PATIENCE, TOOLS, InFolder, awaits, hears_interrupts, load, tool
 from vstcluster import Room
+from vstwire import Asked, Entry, State
 
 
 class Commands(InFolder):
@@ -42,6 +44,26 @@ class Commands(InFolder):
         self.complains(tool("client", "get", "a", "--dir", self.room.path), 3, "is stopped")
         self.assertLess(time.monotonic() - begun, 5.0)
         self.complains(tool("cluster", "kill", 0, "--dir", self.room.path), 1, "is stopped")
+
+    def test_json_and_inspect(self) -> None:
+        self.start()
+        told = json.loads(tool("client", "--dir", self.room.path, "--json", "get", "a").stdout)
+        self.assertEqual((told["output"], told["node"], told["request"]), ("a - -", 0, 1))
+        status = json.loads(tool("cluster", "status", "--dir", self.room.path, "--json").stdout)
+        self.assertEqual((status["leader"], [node["state"] for node in status["nodes"]]), (0, ["running"]))
+        kept = json.loads(tool("cluster", "inspect", "--dir", self.room.path, "--json").stdout)
+        self.assertEqual(kept["nodes"], [{"node": 0, "term": 0, "voted": None, "entries": 0, "requests": 0, "last": []}])
+
+    def test_what_a_node_keeps_in_words(self) -> None:
+        cluster = load("cluster")
+        asked = Asked(7, 1, 2, ("put", "a", "x"))
+        state = State(3, None, (Entry(1, None), Entry(1, asked), Entry(3, None)))
+        self.assertEqual(cluster.kept_lines(0, state, 2), [
+            "node 0: term 3, voted for nobody, 3 entries, 1 requests among them",
+            "    entry 2: term 1, request 1 of client 7, taken by node 2: put a x",
+            "    entry 3: term 3, no-op",
+        ])
+        self.assertEqual(cluster.kept_of(0, state, 1)["last"], [{"index": 3, "term": 3, "asked": None}])
 
     def test_node_that_ends_at_once(self) -> None:
         self.complains(self.start("ends"), 1, "node 0 does not run")

@@ -5,11 +5,13 @@ import contextlib
 import io
 import signal
 import subprocess
+from pathlib import Path
 from unittest import mock
 
 import vstasker
 import vstcluster
-from support import FAKE, PATIENCE, TOOLS, InFolder, hears_interrupts, load, tool
+import vsttimeline
+from support import FAKE, PATIENCE, TOOLS, InFolder, hears_interrupts, load, tool, remove
 from vstwire import Asked
 
 
@@ -17,9 +19,17 @@ class Judged(InFolder):
     """Runs of the fake, which permits all."""
 
     def test_judge(self) -> None:
-        done = tool("judge", "--nodes", 2, "--clients", 2, "--seconds", 1.2, "--vst", FAKE, "--kills", 60)
-        self.assertEqual((done.returncode, done.stdout.splitlines()[-1]), (0, "verdict: permitted"), done.stderr)
+        done = tool("judge", "--nodes", 2, "--clients", 2, "--seconds", 1.2, "--vst", FAKE, "--kills", 60, "--keep")
+        *_, verdict, files = done.stdout.splitlines()
+        self.assertEqual((done.returncode, verdict), (0, "verdict: permitted"), done.stderr)
         self.assertIn("1 s: ", done.stderr)
+        kept = Path(files.removeprefix("files: "))
+        self.addCleanup(remove, kept)
+        history = vsttimeline.read_history((kept / "history").read_text(encoding="ascii").splitlines())
+        trace = [" ".join(noted.words) for noted in history.noted if noted.words[0] in vsttimeline.TRACE]
+        self.assertEqual(trace, (kept / "claim").read_text(encoding="ascii").splitlines()[: len(trace)])
+        self.assertIn("kill", {noted.words[0] for noted in history.noted})
+        self.assertTrue((kept / "history.svg").read_text(encoding="ascii").endswith("</svg>\n"))
 
     def test_interrupted(self) -> None:
         words = [str(TOOLS / "judge"), "--nodes", "1", "--clients", "1", "--seconds", "60", "--vst", str(FAKE)]

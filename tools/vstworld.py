@@ -1,0 +1,420 @@
+"""Schedules and what a replay makes of them, as a model in Python of all nine stacks.
+
+It is written from the page of formats, tested against the golden cases, and proves nothing: the tools use it where they have to know what is in
+flight, who leads, and what a step would do.
+"""
+from __future__ import annotations
+
+import re
+from collections import Counter
+from collections.abc import Iterable
+from dataclasses import dataclass, field
+
+from vstmachines import MACHINES
+from vstraft import LEADER, Effect, Node, Request
+
+MAX_LINE, MAX_LINES, MAX_EVENTS = 4_096, 2_000_000, 1_000_000
+MAX_NUMBER, MAX_REQUEST = 2**32 - 1, 2**64 - 1
+KINDS = {"one": ("in",), "bag": ("in", "tick", "deliver"), "dup": ("in", "tick", "deliver", "dup")}
+KINDS["fail"] = (*KINDS["dup"], "lose", "crash", "reboot")
+WORDS = (*KINDS["fail"], "act", "stop")
+OF_NODES = ("in", "tick", "crash", "reboot")
+DIGITS = re.compile(r"0|[1-9][0-9]{0,19}")
+
+
+@dataclass(frozen=True)
+class Stack:
+    """A stack: its word, its network, and how few and how many nodes it has."""
+
+    word: str
+    net: str
+    least: int
+    most: int
+
+    @property
+    def app(self) -> str:
+        """Its application."""
+        return self.word.split("/")[0]
+
+    @property
+    def over(self) -> str:
+        """What carries the application: `lock` itself, `one`, `pb` or `raft`."""
+        if self.app == "lock":
+            return "lock"
+        return self.word.split("/")[1] if "/" in self.word else "one"
+
+
+STACKS = {
+    stack.word: stack
+    for stack in (
+        Stack("lock", "bag", 2, 9), Stack("lock/seq", "dup", 2, 9), Stack("kv", "one", 1, 1), Stack("table", "one", 1, 1),
+        Stack("kv/pb", "bag", 2, 2), Stack("kv/pb/seq", "dup", 2, 2), Stack("table/pb/seq", "dup", 2, 2),
+        Stack("kv/raft", "fail", 1, 9), Stack("table/raft", "fail", 1, 9),
+    )
+}
+
+
+class Refused(Exception):
+    """A line is refused, and why."""
+
+
+@dataclass(frozen=True)
+class Step:
+    """A step: its kind, the number of a node or packet, and of `in` the text."""
+
+    kind: str
+    number: int
+    text: str = ""
+
+    def line(self) -> str:
+        """As a line."""
+        return f"{self.kind} {self.number}" + (f" {self.text}" if self.kind == "in" else "")
+
+
+def number_in(text: str, limit: int = MAX_NUMBER) -> int:
+    """A number without sign and leading zero."""
+    if not DIGITS.fullmatch(text) or int(text) > limit:
+        raise Refused("number")
+    return int(text)
+
+
+def read_header(line: str) -> tuple[Stack, int]:
+    """The stack and the number of nodes of a header."""
+    words = line.split(" ")
+    if len(words) != 5 or words[:2] != ["schedule", "1"] or words[3] not in STACKS:
+        raise Refused("header")
+    stack = STACKS[words[3]]
+    if words[2] != stack.net or words[4] not in map(str, range(stack.least, stack.most + 1)):
+        raise Refused("header")
+    return stack, int(words[4])
+
+
+def read_step(line: str) -> Step:
+    """A step, whose text and network are not looked at."""
+    kind, space, rest = line.partition(" ")
+    number, second, text = rest.partition(" ")
+    if kind not in WORDS or not space or (kind in ("in", "stop") and not second):
+        raise Refused("unknown word")
+    if kind == "stop":
+        number_in(text)
+    return Step(kind, number_in(number if kind in ("in", "stop") else rest), text)
+
+
+def read_request(text: str, app: str) -> Request | None:
+    """The request of a cluster's client that this is the text of, if it is one."""
+    client, _, rest = text.partition(" ")
+    number, _, command = rest.partition(" ")
+    if not MACHINES[app].COMMAND.fullmatch(command):
+        return None
+    try:
+        return Request(number_in(client, MAX_REQUEST), number_in(number, MAX_REQUEST), command)
+    except Refused:
+        return None
+
+
+class Alone:
+    """A machine alone at one node, and what the handlers of the other stacks are made of."""
+
+    def __init__(self, app: str, _nodes: int) -> None:
+        self.app = app
+        self.machine = MACHINES[app]()
+
+    def is_input(self, text: str) -> bool:
+        """Whether it is the text of an input."""
+        return MACHINES[self.app].COMMAND.fullmatch(text) is not None
+
+    def input(self, _node: int, text: str) -> Effect:
+        """The machine answers."""
+        return Effect([self.machine.apply(text)])
+
+    def message(self, _node: int, _sender: int, _message: object) -> Effect:
+        """There are none."""
+        return Effect()
+
+    def timeout(self, _node: int) -> Effect:
+        """There are none."""
+        return Effect()
+
+
+class Lock(Alone):
+    """The lock server."""
+
+    def __init__(self, _app: str, nodes: int) -> None:
+        self.queue: list[int] = []
+        self.held = [False] * nodes
+
+    def is_input(self, text: str) -> bool:
+        """There are two."""
+        return text in ("lock", "unlock")
+
+    def input(self, node: int, text: str) -> Effect:
+        """A client asks for the lock, or gives it back."""
+        if text == "unlock" and not self.held[node]:
+            return Effect()
+        if text == "unlock":
+            self.held[node] = False
+        return Effect(sends=[(0, text)])
+
+    def message(self, node: int, sender: int, message: object) -> Effect:
+        """The server hands the lock round; a client is handed it."""
+        if node:
+            if message != "locked":
+                return Effect()
+            self.held[node] = True
+            return Effect(["locked"])
+        if message == "lock":
+            self.queue.append(sender)
+            return Effect(sends=[(sender, "locked")] if len(self.queue) == 1 else [])
+        if message == "unlock":
+            del self.queue[:1]
+            return Effect(sends=[(to, "locked") for to in self.queue[:1]])
+        return Effect()
+
+
+class Backed(Alone):
+    """A machine at a primary, node 0, and its backup, node 1."""
+
+    def __init__(self, app: str, _nodes: int) -> None:
+        self.app = app
+        self.machines = [MACHINES[app](), MACHINES[app]()]
+        self.waiting: list[str] = []
+
+    def input(self, node: int, text: str) -> Effect:
+        """The primary hands commands to the backup one after the other."""
+        if node:
+            return Effect(["redirect"])
+        self.waiting.append(text)
+        return Effect(sends=[(1, text)] if len(self.waiting) == 1 else [])
+
+    def message(self, node: int, _sender: int, message: object) -> Effect:
+        """The backup applies a command and says so, with no text; the primary then applies and replies."""
+        if node and isinstance(message, str):
+            self.machines[1].apply(message)
+            return Effect(sends=[(0, None)])
+        if node or message is not None or not self.waiting:
+            return Effect()
+        output = self.machines[0].apply(self.waiting.pop(0))
+        return Effect([output], [(1, command) for command in self.waiting[:1]])
+
+
+class Cluster(Alone):
+    """A Raft cluster, with the longest list of entries that any node has applied."""
+
+    def __init__(self, app: str, nodes: int) -> None:
+        self.app = app
+        self.nodes = [Node(me, nodes, MACHINES[app]) for me in range(nodes)]
+        self.order: list[Request] = []
+        self.ordered = 0
+        self.last: dict[int, int] = {}
+
+    def follow(self, node: int, effect: Effect) -> Effect:
+        """Notes what a node has applied that none had before."""
+        here = self.nodes[node]
+        for entry in here.log[self.ordered : here.applied]:
+            request = entry.request
+            if request is not None and request.number > self.last.get(request.client, -1):
+                self.last[request.client] = request.number
+                self.order.append(request)
+        self.ordered = max(self.ordered, here.applied)
+        return effect
+
+    def is_input(self, text: str) -> bool:
+        """Whether it is the text of a request."""
+        return read_request(text, self.app) is not None
+
+    def input(self, node: int, text: str) -> Effect:
+        """A request comes."""
+        request = read_request(text, self.app)
+        assert request is not None
+        return self.follow(node, self.nodes[node].input(request))
+
+    def message(self, node: int, sender: int, message: object) -> Effect:
+        """A message comes."""
+        return self.follow(node, self.nodes[node].message(sender, message))
+
+    def timeout(self, node: int) -> Effect:
+        """A timer fires."""
+        return self.follow(node, self.nodes[node].tick())
+
+    def leader(self, up: Iterable[int]) -> Node | None:
+        """Of the nodes that are up and lead, the one of the greatest term."""
+        return max((self.nodes[node] for node in up if self.nodes[node].role == LEADER), key=lambda node: node.term, default=None)
+
+
+def handlers_of(stack: Stack, nodes: int) -> Alone:
+    """The handlers of a stack."""
+    kinds: dict[str, type[Alone]] = {"one": Alone, "lock": Lock, "pb": Backed, "raft": Cluster}
+    return kinds[stack.over](stack.app, nodes)
+
+
+@dataclass(frozen=True)
+class Packet:
+    """A packet that was sent."""
+
+    sender: int
+    to: int
+    message: object
+
+
+@dataclass
+class World:
+    """A run of a stack: its nodes, its packets and the copies of each that are in flight, the trace, and the steps that were taken."""
+
+    stack: Stack
+    nodes: int
+    packets: list[Packet] = field(default_factory=list)
+    copies: Counter[int] = field(default_factory=Counter)
+    trace: list[str] = field(default_factory=list)
+    taken: list[Step] = field(default_factory=list)
+
+    def __post_init__(self) -> None:
+        self.handlers = handlers_of(self.stack, self.nodes)
+        self.up = set(range(self.nodes))
+        self.came: set[int] = set()
+        # the steps that were events of the handlers within
+        self.events: list[Step] = []
+
+    @property
+    def cluster(self) -> Cluster:
+        """Its handlers, of a cluster."""
+        assert isinstance(self.handlers, Cluster)
+        return self.handlers
+
+    def refuse(self, step: Step) -> None:
+        """Raises why a step is refused, if it is."""
+        if step.kind not in KINDS[self.stack.net]:
+            raise Refused("not this network")
+        sent = self.packets[step.number] if step.kind not in OF_NODES and step.number < len(self.packets) else None
+        node = step.number if step.kind in OF_NODES else sent.to if sent and step.kind == "deliver" else None
+        if step.kind in OF_NODES and step.number >= self.nodes:
+            raise Refused("no such node")
+        if step.kind == "in" and self.stack.over == "lock" and not node:
+            raise Refused("no input here")
+        if step.kind == "reboot" and node in self.up:
+            raise Refused("node up")
+        if step.kind != "reboot" and node is not None and node not in self.up:
+            raise Refused("node down")
+        if step.kind not in OF_NODES and step.number not in self.copies:
+            raise Refused("no copy")
+
+    def take(self, step: Step) -> None:
+        """Takes a step, or raises why it is refused."""
+        if step.kind == "in" and not self.handlers.is_input(step.text):
+            raise Refused("text")
+        self.refuse(step)
+        self.taken.append(step)
+        if step.kind == "dup":
+            self.copies[step.number] += 1
+        elif step.kind == "lose":
+            self.end_copy(step.number)
+        elif step.kind == "crash":
+            self.up.discard(step.number)
+        elif step.kind == "reboot":
+            self.up.add(step.number)
+            self.cluster.nodes[step.number].start()
+        elif step.kind != "deliver":
+            self.happen(step.number, step)
+        else:
+            self.deliver(step)
+
+    def end_copy(self, packet: int) -> None:
+        """A copy is in flight no more."""
+        self.copies[packet] -= 1
+        if not self.copies[packet]:
+            del self.copies[packet]
+
+    def deliver(self, step: Step) -> None:
+        """A copy comes. Where packets are numbered, a second one of a packet does nothing."""
+        self.end_copy(step.number)
+        if step.number not in self.came or not self.stack.word.endswith("/seq"):
+            self.happen(self.packets[step.number].to, step)
+        self.came.add(step.number)
+
+    def happen(self, node: int, step: Step) -> None:
+        """An event at a node, with its line and outputs, and what it sends."""
+        self.events.append(step)
+        if step.kind == "in":
+            self.trace.append(f"in {node} {step.text}")
+            effect = self.handlers.input(node, step.text)
+        elif step.kind == "tick":
+            effect = self.handlers.timeout(node)
+        else:
+            effect = self.handlers.message(node, self.packets[step.number].sender, self.packets[step.number].message)
+        self.trace += [f"out {node} {text}" for text in effect.outputs]
+        for to, message in effect.sends:
+            self.copies[len(self.packets)] += 1
+            self.packets.append(Packet(node, to, message))
+
+    def in_flight(self) -> list[int]:
+        """The packets with a copy in flight, ascending."""
+        return sorted(self.copies)
+
+    def image(self) -> list[str]:
+        """The lines of the image, with its header if it has one."""
+        word, app = self.stack.word, self.stack.app
+        if self.stack.over == "raft":
+            return [f"order {request.text()}" for request in self.cluster.order]
+        if self.stack.over == "pb":
+            inputs = [line.removeprefix("in 0 ") for line in self.trace if line.startswith("in 0 ")]
+            replies = sum(line.startswith("out 0 ") for line in self.trace)
+            return [f"schedule 1 one {app} 1", *(f"in 0 {text}" for text in inputs[:replies])]
+        if word == "lock/seq":
+            return [f"schedule 1 bag lock {self.nodes}", *(step.line() for step in self.events)]
+        return [header_of(self.stack, self.nodes), *(step.line() for step in self.taken)]
+
+
+def header_of(stack: Stack, nodes: int) -> str:
+    """The header of a schedule."""
+    return f"schedule 1 {stack.net} {stack.word} {nodes}"
+
+
+@dataclass
+class Replay:
+    """What a replay makes of a text: the world, where the header is one, and the line that is refused, if one is, and why."""
+
+    world: World | None = None
+    line: int = 0
+    why: str = ""
+
+    def output(self) -> list[str]:
+        """What `vst replay` writes."""
+        if self.world is None:
+            return []
+        return self.world.trace + ([] if self.why else ["below", *self.world.image()])
+
+
+def lines_of(data: bytes) -> list[str]:
+    """The lines of a text. Bytes that are no ASCII stand as characters of their number."""
+    lines = data.decode("latin-1").split("\n")
+    return lines if lines[-1] else lines[:-1]
+
+
+def take_line(found: Replay, number: int, line: str) -> None:
+    """Takes a line, or raises why it is refused."""
+    if len(line) > MAX_LINE:
+        raise Refused("line too long")
+    if number > MAX_LINES:
+        raise Refused("too many events")
+    if not line or line.startswith("#"):
+        return
+    if found.world is None:
+        found.world = World(*read_header(line))
+        return
+    step = read_step(line)
+    if len(found.world.taken) == MAX_EVENTS:
+        raise Refused("too many events")
+    found.world.take(step)
+
+
+def replay(lines: Iterable[str]) -> Replay:
+    """What a replay makes of these lines."""
+    found, number = Replay(), 0
+    for number, line in enumerate(lines, 1):
+        try:
+            take_line(found, number, line)
+        except Refused as why:
+            found.line, found.why = number, str(why)
+            return found
+    if found.world is None:
+        found.line, found.why = number + 1, "header"
+    return found
