@@ -34,15 +34,19 @@ module _ {S K I O M D A X : Type 0} (m : Meaning S I O M) (r : Recovery S K) (d 
   module _ (w : ActWorld S I O M D A X) (reached : Reached m r d CanSave laws w) where
     keeps-to : (s : ActStep I X) → act_refusal m w s ≡ None → MayLeave m r d w s → KeepsTo m r d CanSave w s
     keeps-to (act.In n i) e may =
-        let h = not-refused m w (act.In n i) e in
-        can-save w reached.fail reached.owner n (Input i) (m.input n (w.state n) i)
-        (pends-at m r d CanSave laws w reached n (Input i) (m.input n (w.state n) i) (λ k. refl) (is-none (w.down n) (not-false _ h.up_is)) (is-none (w.turn n) (not-false _ h.idle))
-        (record { exists = not-false _ h.exists; takes = not-false _ h.takes; effect_is = refl }))
+        let h = not-refused m w (act.In n i) e in (
+          may,
+          can-save w reached.fail reached.owner n (Input i) (m.input n (w.state n) i)
+              (pends-at m r d CanSave laws w reached n (Input i) (m.input n (w.state n) i) (λ k. refl) (is-none (w.down n) (not-false _ h.up_is)) (is-none (w.turn n) (not-false _ h.idle))
+              (record { exists = not-false _ h.exists; takes = not-false _ h.takes; effect_is = refl })),
+        )
     keeps-to (act.Tick n) e may =
-        let h = not-refused m w (act.Tick n) e in
-        can-save w reached.fail reached.owner n Fired (m.timeout n (w.state n))
-        (pends-at m r d CanSave laws w reached n Fired (m.timeout n (w.state n)) (λ k. refl) (is-none (w.down n) (not-false _ h.up_is)) (is-none (w.turn n) (not-false _ h.idle))
-        (record { exists = not-false _ h.exists; effect_is = refl }))
+        let h = not-refused m w (act.Tick n) e in (
+          may,
+          can-save w reached.fail reached.owner n Fired (m.timeout n (w.state n))
+              (pends-at m r d CanSave laws w reached n Fired (m.timeout n (w.state n)) (λ k. refl) (is-none (w.down n) (not-false _ h.up_is)) (is-none (w.turn n) (not-false _ h.idle))
+              (record { exists = not-false _ h.exists; effect_is = refl })),
+        )
     keeps-to (act.Deliver k) e may =
         let h = not-refused m w (act.Deliver k) e in
         let p = copies-there w.packets k h.copy in
@@ -50,12 +54,12 @@ module _ {S K I O M D A X : Type 0} (m : Meaning S I O M) (r : Recovery S K) (d 
         let flies = packet-there w.packets k p.0 is in
         let down = rw flies at h.up_is in
         let idle = rw flies at h.idle in
-        rw is (can-save _ reached.fail reached.owner p.0.packet.destination (Came p.0.number) _ (pends m r d CanSave laws w reached k p.0 p.1 p.2 (is-none (w.down p.0.packet.destination) (not-false _ down)) (is-none (w.turn p.0.packet.destination) (not-false _ idle))))
-    keeps-to (act.Stop n left) e may = may
-    keeps-to (act.Act n) e may = tt
-    keeps-to (act.Dup k) e may = tt
-    keeps-to (act.Lose k) e may = tt
-    keeps-to (act.Reboot n) e may = tt
+        rw is (may, can-save _ reached.fail reached.owner p.0.packet.destination (Came p.0.number) _ (pends m r d CanSave laws w reached k p.0 p.1 p.2 (is-none (w.down p.0.packet.destination) (not-false _ down)) (is-none (w.turn p.0.packet.destination) (not-false _ idle))))
+    keeps-to (act.Stop n left) e may = (may, tt)
+    keeps-to (act.Act n) e may = (tt, tt)
+    keeps-to (act.Dup k) e may = (tt, tt)
+    keeps-to (act.Lose k) e may = (tt, tt)
+    keeps-to (act.Reboot n) e may = (tt, tt)
 
   all-taken : (w : ActWorld S I O M D A X) → Reached m r d CanSave laws w → (ss : List (ActStep I X)) → AreAllowed m r d w ss → AreTaken m r d CanSave w ss
   all-taken w reached [] h = tt

@@ -314,17 +314,17 @@ module _ {S K I O M D A X : Type 0} (m : Meaning S I O M) (r : Recovery S K) (d 
     step-reached home (act.In n i) e can =
         let h = not-refused m w (act.In n i) e in
         begin-reached n (Input i) (m.input n (w.state n) i) (λ k. refl) (is-none (w.down n) (not-false _ h.up_is)) (is-none (w.turn n) (not-false _ h.idle))
-        (record { exists = not-false _ h.exists; takes = not-false _ h.takes; effect_is = refl }) can
+        (record { exists = not-false _ h.exists; takes = not-false _ h.takes; effect_is = refl }) can.1
     step-reached home (act.Tick n) e can =
         let h = not-refused m w (act.Tick n) e in
         begin-reached n Fired (m.timeout n (w.state n)) (λ k. refl) (is-none (w.down n) (not-false _ h.up_is)) (is-none (w.turn n) (not-false _ h.idle))
-        (record { exists = not-false _ h.exists; effect_is = refl }) can
+        (record { exists = not-false _ h.exists; effect_is = refl }) can.1
     step-reached home (act.Act n) e can =
         let h = not-refused m w (act.Act n) e in
         act-reached m r d CanSave laws w reached n (is-none (w.down n) (not-false _ h.up_is)) (w.turn n) refl
     step-reached home (act.Stop n left) e may =
         let h = not-refused m w (act.Stop n left) e in
-        cut-reached m r d CanSave laws w reached n (is-none (w.down n) (not-false _ h.up_is)) left (not-false _ h.exists) may (w.turn n) refl
+        cut-reached m r d CanSave laws w reached n (is-none (w.down n) (not-false _ h.up_is)) left (not-false _ h.exists) may.0 (w.turn n) refl
     step-reached home (act.Reboot n) e can =
         let h = not-refused m w (act.Reboot n) e in
         restart-reached home n (not-false _ h.exists) (w.down n) refl
@@ -343,7 +343,8 @@ module _ {S K I O M D A X : Type 0} (m : Meaning S I O M) (r : Recovery S K) (d 
         let flies = packet-there w.packets k p.0 is in
         let down = rw flies at h.up_is in
         let idle = rw flies at h.idle in
-        let may = rw is at can in
+        let saves = can.1 in
+        let may = rw is at saves in
         rw is (deliver-reached k p.0 p.1 p.2 (is-none (w.down p.0.packet.destination) (not-false _ down)) (is-none (w.turn p.0.packet.destination) (not-false _ idle)) may)
 
   pub run-reached : IsRecoverable m r d laws.Holds → (w : ActWorld S I O M D A X) → Reached m r d CanSave laws w → (ss : List (ActStep I X)) → AreTaken m r d CanSave w ss →

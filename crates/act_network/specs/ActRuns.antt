@@ -1,6 +1,6 @@
 -- Runs of single acts: which schedules the network takes, the run of whole events that one comes to, and the trace of the turns that
 -- count.
-use Rattle.std.specs.Prelude.{◌≡◌, ℕ, true, List, [], ◌∷◌, Option, None, IfSome, slice_get}
+use Rattle.std.specs.Prelude.{◌≡◌, ℕ, true, List, [], ◌∷◌, Option, Some, None, IfSome, slice_get}
 use Rattle.handler_trait.specs.Handling.{Meaning, Effect, Recovery}
 use Rattle.vst_base.specs.declared.step.Item.{Item}
 use Rattle.vst_base.specs.declared.step.Step.{Step}
@@ -9,7 +9,7 @@ use Rattle.net_semantics.specs.Runs.{place_and_why}
 use Rattle.act_network.specs.declared.step.ActStep.{ActStep}
 use Rattle.act_network.specs.declared.step.ActStep.TheVariants as act
 use Rattle.act_network.specs.Disks.{Disks}
-use Rattle.act_network.specs.ActWorlds.{ActWorld, first_act_world}
+use Rattle.act_network.specs.ActWorlds.{ActWorld, Flying, first_act_world}
 use Rattle.act_network.specs.ActRefusals.{act_refusal}
 use Rattle.act_network.specs.ActSteps.{act_next}
 use Rattle.act_network.specs.Listing.{shown}
@@ -58,22 +58,29 @@ module _ {S K I O M D A X : Type 0} (m : Meaning S I O M) (r : Recovery S K) (d 
   abbrev pub IsActSchedule : List (ActStep I X) → Type 0
   IsActSchedule ss = AreAllowed (first_act_world m d) ss
 
+  abbrev pub begins_at : ActWorld S I O M D A X → Option (Flying M) → Option (ℕ × Effect S O M)
+  begins_at w None = None
+  begins_at w (Some p) =
+      Some (p.packet.destination, m.message p.packet.destination (w.state p.packet.destination) p.packet.source p.packet.content)
+
+  -- the turn that a step begins: its node, and what the handlers make of its event
+  abbrev pub begins : ActWorld S I O M D A X → ActStep I X → Option (ℕ × Effect S O M)
+  begins w (act.In n i) = Some (n, m.input n (w.state n) i)
+  begins w (act.Deliver k) = begins_at w (slice_get w.packets k)
+  begins w (act.Tick n) = Some (n, m.timeout n (w.state n))
+  begins w (act.Act n) = None
+  begins w (act.Dup k) = None
+  begins w (act.Lose k) = None
+  begins w (act.Stop n left) = None
+  begins w (act.Reboot n) = None
+
   module _ (CanSave : ℕ → K → K → Type 0) where
     abbrev pub MaySave : ActWorld S I O M D A X → ℕ → Effect S O M → Type 0
     MaySave w n e = CanSave n (r.keep (w.state n)) (r.keep e.state)
 
-    -- the same, and the state after a turn that begins can be saved
+    -- what a stop leaves may be left, and the state after a turn that begins can be saved
     abbrev pub KeepsTo : ActWorld S I O M D A X → ActStep I X → Type 0
-    KeepsTo w (act.In n i) = MaySave w n (m.input n (w.state n) i)
-    KeepsTo w (act.Deliver k) =
-        IfSome (slice_get w.packets k) (λ p.
-        MaySave w p.packet.destination (m.message p.packet.destination (w.state p.packet.destination) p.packet.source p.packet.content))
-    KeepsTo w (act.Tick n) = MaySave w n (m.timeout n (w.state n))
-    KeepsTo w (act.Act n) = Unit {0}
-    KeepsTo w (act.Dup k) = Unit {0}
-    KeepsTo w (act.Lose k) = Unit {0}
-    KeepsTo w (act.Stop n left) = d.may_leave (w.disk n) left ≡ true
-    KeepsTo w (act.Reboot n) = Unit {0}
+    KeepsTo w s = MayLeave w s × IfSome (begins w s) (λ b. MaySave w b.0 b.1)
 
     abbrev pub AreTaken : ActWorld S I O M D A X → List (ActStep I X) → Type 0
     AreTaken w [] = Unit {0}

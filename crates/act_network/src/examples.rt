@@ -119,6 +119,8 @@ pub fn worked_premises()
     ensures not_kept { CellsRecover one_more_kept → ⊥ }
     ensures can_save { CellEventsCanSave CellCanSave }
     ensures cannot_save { CellEventsCanSave NothingCanSave → ⊥ }
+    ensures begins_a_turn { IsActRun summing all_kept cells NothingCanSave (ActStep.Tick 0 ∷ []) → ⊥ }
+    ensures begins_none { IsActRun summing all_kept cells NothingCanSave (ActStep.Stop 0 0 ∷ ActStep.Reboot 0 ∷ []) }
     ensures allowed { CellsAllow (cells_by_words (saves_5 (ActStep.Act 0 ∷ ActStep.Stop 0 1 ∷ []))) }
     ensures not_allowed { CellsAllow (saves_5 (ActStep.Act 0 ∷ ActStep.Stop 0 3 ∷ [])) → ⊥ }
     ensures busy { CellsAllow (saves_5 (ActStep.Tick 0 ∷ [])) → ⊥ }

@@ -8,11 +8,11 @@ returns-clause-no_short_name g h = cc
 
 pub returns-clause-taken : goal.returns-clause-taken
 unfolding number_bytes number_in has_bytes read_number from_gate
-returns-clause-taken g = (refl, refl, (refl, tt, tt))
+returns-clause-taken g = (refl, (refl, tt), (refl, (tt, tt), tt))
 
 pub returns-clause-not_left : goal.returns-clause-not_left
 unfolding number_bytes number_in has_bytes read_number from_gate
-returns-clause-not_left g h = let clash : false ≡ true = h.1 in cc
+returns-clause-not_left g h = let clash : false ≡ true = h.1.0 in cc
 
 pub returns-clause-not_up : goal.returns-clause-not_up
 returns-clause-not_up g h = let clash = h.0 in cc

@@ -20,3 +20,6 @@ returns-clause-can_save g ss s allowed = always (event_of summing (run summing a
 
 pub returns-clause-cannot_save : goal.returns-clause-cannot_save
 returns-clause-cannot_save g h = h [] (step.Tick 0) refl
+
+pub returns-clause-begins_a_turn : goal.returns-clause-begins_a_turn
+returns-clause-begins_a_turn g h = h.1.1
