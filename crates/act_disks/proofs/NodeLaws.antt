@@ -16,7 +16,7 @@ use Rattle.node_body.specs.declared.version.Version.{Version}
 use Rattle.node_body.specs.declared.version.Version.TheVariants.{One, Two}
 use Rattle.node_body.specs.declared.who.Who.{Who}
 use Rattle.node_body.specs.declared.why.Why.{Why}
-use Rattle.raft_types.specs.Keeping.{KeptView}
+use Rattle.raft_types.specs.Messages.{KeptView}
 use Rattle.slots.specs.Opening.{Held, by_selector, named, opened}
 use Rattle.slots.specs.Saving.{next, save_acts}
 use Rattle.slots.specs.SavingLaws.{Rests}

@@ -11,7 +11,7 @@ use Rattle.node_acts.specs.StateActs.{state_acts, store_after}
 use Rattle.node_acts.specs.StateLaws.{StateSaved}
 use Rattle.node_acts.specs.Stores.{StoreView, found_by}
 use Rattle.node_body.specs.declared.commands.TheConstants.{MAX_COMMAND}
-use Rattle.raft_types.specs.Keeping.{KeptView}
+use Rattle.raft_types.specs.Messages.{KeptView}
 use Rattle.slots.specs.TurnLaws.{KeepsBy}
 use Rattle.vst_base.specs.declared.stack.StackId.{StackId}
 use Rattle.wire_fields.specs.Formats.{Format, IsFormat}

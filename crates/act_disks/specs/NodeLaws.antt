@@ -5,7 +5,7 @@ use Rattle.disk.specs.Disk.{Image}
 use Rattle.node_acts.specs.StateActs.{first_kept}
 use Rattle.node_body.specs.Bodies.{body, body_of}
 use Rattle.node_body.specs.declared.who.Who.{Who}
-use Rattle.raft_types.specs.Ranges.{IsClusterSize}
+use Rattle.raft_types.specs.Messages.{IsClusterSize}
 use Rattle.raft_types.specs.declared.client.RaftInput.{RaftInput}
 use Rattle.raft_xform.specs.Raft.{raft, raft_recovery}
 use Rattle.vst_base.specs.Machines.{MachineMeaning}

@@ -11,7 +11,7 @@ use Rattle.node_body.specs.declared.slot.Held.{Held}
 use Rattle.node_body.specs.declared.version.Version.TheVariants.{One}
 use Rattle.node_body.specs.declared.who.Who.{Who}
 use Rattle.node_body.specs.declared.why.Why.{Why}
-use Rattle.raft_types.specs.Keeping.{KeptView}
+use Rattle.raft_types.specs.Messages.{KeptView}
 use Rattle.slots.specs.Opening.{named}
 use Rattle.vst_base.specs.declared.stack.StackId.{StackId}
 use Rattle.wire_fields.specs.Formats.{Format}

@@ -7,8 +7,7 @@ use Rattle.act_network.specs.Listing.{LeavesOut}
 use Rattle.act_network.specs.declared.step.ActStep.{ActStep}
 use Rattle.node_histories.specs.Views.{HasView}
 use Rattle.linearizability.specs.Linearizable.{Seen}
-use Rattle.raft_types.specs.Keeping.{KeptView}
-use Rattle.raft_types.specs.Ranges.{IsClusterSize}
+use Rattle.raft_types.specs.Messages.{KeptView, IsClusterSize}
 use Rattle.raft_types.specs.declared.client.RaftInput.{RaftInput}
 use Rattle.raft_xform.specs.Raft.{raft, raft_recovery}
 use Rattle.vst_base.specs.Machines.{MachineMeaning}

@@ -8,8 +8,7 @@ use Rattle.std.specs.Option.{option_to_list}
 use Rattle.vst_base.specs.declared.entry.Entry.{Entry}
 use Rattle.raft_clients.proofs.Known.{Knows, knows_kept, knows_none, knows_passed}
 use Rattle.raft_clients.proofs.Listed.{executed-append}
-use Rattle.raft_clients.specs.Executed.{executed, is_executed}
-use Rattle.raft_clients.specs.Requests.{request_of, requests}
+use Rattle.raft_clients.specs.Executed.{executed, is_executed, request_of, requests}
 use Rattle.raft_clients.specs.Sessions.{is_new}
 use Rattle.raft_types.specs.declared.client.RaftInput.{RaftInput}
 use Rattle.applied_order.specs.Orders.{HasFollowed, OrderView, counted, with_executed, with_entry}

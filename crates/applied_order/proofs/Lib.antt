@@ -1,4 +1,2 @@
 pub mod Adding
-pub mod ByNode
 pub mod CatchingUp
-pub mod Shown

@@ -1,6 +1,5 @@
 //! What a Raft cluster has applied so far, kept as it grows: how many entries, and the requests of them that
-//! were executed, each with the index of its entry. It looks at each entry once, and knows nothing of how a
-//! step is taken.
+//! were executed. It looks at each entry once, and knows nothing of how a step is taken.
 #![tactic(auto)]
 
 mod examples;

@@ -1,6 +1,6 @@
 ghost use Rattle.std.specs.Prelude.{◌≡◌, ◌+◌, ◌<◌, List, [], ◌∷◌, ◌++◌, false, IsOk, OnOk};
 ghost use Rattle.vst_base.specs.declared.entry.Entry.{Entry as EntryView};
-ghost use Rattle.raft_clients.specs.Requests.{asked_by, request_of};
+ghost use Rattle.raft_clients.specs.Executed.{asked_by, request_of};
 ghost use Rattle.applied_order.specs.Orders.{HasFollowed, is_executed_by, with_entry};
 
 use raft_clients::Sessions;

@@ -6,12 +6,14 @@ use Rattle.line_reader.specs.declared.why.Why.{Why}
 use Rattle.line_reader.specs.declared.why.Why.TheVariants as why
 use Rattle.line_reader.specs.declared.read_fault.ReadFault.{ReadFault}
 use Rattle.line_reader.specs.declared.read_fault.ReadFault.TheVariants as fault
-use Rattle.line_reader.specs.Limits.{line_refusals}
+use Rattle.line_reader.specs.Whys.{line_refusals}
 use Rattle.line_reader.specs.Lines.{decided, lines_of, whole_lines}
 use Rattle.line_reader.specs.Readers.{ReaderView, fresh}
 use Rattle.line_reader.specs.Outcomes.{Uses, StandsAt, BreaksOff, EndsAll, ReadsLine, HasReadCause}
 use Rattle.line_reader.proofs.Lining.{whole-append}
 use Rattle.line_reader.proofs.Using.{uses-none, uses-more, lines-more, breaks-after, stands-at-end, stands-after}
+use Rattle.schedule_text.specs.declared.text_faults.TextFault.{TextFault}
+use Rattle.schedule_text.specs.declared.text_faults.TextFault.TheVariants as text
 use Rattle.check_text.specs.Claims.{Claim}
 use Rattle.check_text.specs.Drafts.{Draft, EndsBy, EndsClaim, Finishes, TakesLine, comes_to, no_lines}
 use Rattle.check_text.specs.Forms.{Form, claim_of}
@@ -29,7 +31,7 @@ pub nothing-left : (new : ReaderView) (left' : Option (List ℕ)) → EndsAll ne
 nothing-left new left' ends = ends.left.left_is ∙ ap Some (none-behind new.ahead ends.left.unread ends.left.rest_is)
 
 -- what was given, where a reader stands at the byte that decided a line
-given-of : (new : ReaderView) (left' : Option (List ℕ)) (bytes : List ℕ) (n : ℕ) (w : Why) → StandsAt (fresh most_lines) new left' bytes n → LooksAhead left' bytes (fault.Refused n w)
+given-of : (new : ReaderView) (left' : Option (List ℕ)) (bytes : List ℕ) (n : ℕ) (w : Why) → StandsAt (fresh most_lines) new left' bytes n → LooksAhead left' bytes (text.Refused n w)
 given-of new left' bytes n w s =
     let all : n - 0 ≡ n = omega arith in
     let decides : length s.used ≡ decided n bytes = s.decides ∙ ap (λ k. decided k bytes) all in (
@@ -81,7 +83,7 @@ module _ {I O X : Type 0} (f : Form I O X) where
           ∙ (takes (mid.number + 1) (lines_of u.rest') allows ∙ ap (λ n. RefusedAt n w) (sym next))))
 
     -- no further line was read
-    line-broke : (cause : mid.ended ≡ false) (part : List ℕ) → BreaksOff left' s.uses.rest' part → whole_lines part ≡ [] → ReadsClaim f left' bytes (Err fault.Read)
+    line-broke : (cause : mid.ended ≡ false) (part : List ℕ) → BreaksOff left' s.uses.rest' part → whole_lines part ≡ [] → ReadsClaim f left' bytes (Err text.Read)
     line-broke going part breaks none = (
       s.used ++ part,
       breaks-after (fresh most_lines) mid left left' bytes s.used part s.uses (s.uses.closed going) breaks,
@@ -90,7 +92,7 @@ module _ {I O X : Type 0} (f : Form I O X) where
     )
 
     line-stopped : (n : ℕ) (w : Why) (l : List ℕ) (ls : List (List ℕ)) → mid.most ≡ most_lines → n ≡ mid.number + 1 → lines_of s.uses.rest' ≡ l ∷ ls
-        → first_of (line_refusals mid.most n l) ≡ Some w → ReadsClaim f left' bytes (Err (fault.Refused n w))
+        → first_of (line_refusals mid.most n l) ≡ Some w → ReadsClaim f left' bytes (Err (text.Refused n w))
     line-stopped n w l ls most there first refused =
         ap refusal_of (of-rest
         ∙ (ap (comes_to f d (mid.number + 1)) first
@@ -101,15 +103,15 @@ module _ {I O X : Type 0} (f : Form I O X) where
     claim-whole : (c : Claim I O X) → s.uses.rest' ≡ [] → EndsAll new left' → Finishes f d (Some c) → ReadsClaim f left' bytes (Ok c)
     claim-whole c none ends finishes = (nothing-left new left' ends, of-rest ∙ (ap (λ xs. comes_to f d (mid.number + 1) (lines_of xs)) none ∙ finishes (mid.number + 1)))
 
-    claim-short : s.uses.rest' ≡ [] → new.number ≡ mid.number → Finishes f d None → ReadsClaim f left' bytes (Err (fault.Refused (new.number + 1) why.Header))
+    claim-short : s.uses.rest' ≡ [] → new.number ≡ mid.number → Finishes f d None → ReadsClaim f left' bytes (Err (text.Refused (new.number + 1) why.Header))
     claim-short none still finishes =
         ap refusal_of (of-rest ∙ (ap (λ xs. comes_to f d (mid.number + 1) (lines_of xs)) none ∙ finishes (mid.number + 1))) ∙ ap (λ n. Some (n + 1, why.Header)) (sym still)
 
-    claim-ends : (r : Result (Claim I O X) ReadFault) → s.uses.rest' ≡ [] → EndsAll new left' → new.number ≡ mid.number → EndsClaim f d new.number r → ReadsClaim f left' bytes r
+    claim-ends : (r : Result (Claim I O X) TextFault) → s.uses.rest' ≡ [] → EndsAll new left' → new.number ≡ mid.number → EndsClaim f d new.number r → ReadsClaim f left' bytes r
     claim-ends (Ok c) none ends still is = claim-whole c none ends is
     claim-ends (Err found) none ends still is = rw is.0 (claim-short none still is.1)
 
-    pub claim-ended : (A : Type 0) (found : ReadFault) (r : Result (Claim I O X) ReadFault) (f0 f' : ℕ) → mid.most ≡ most_lines → HasReadCause mid f0 f' found → ReadsLine {A = A} mid new left' s.uses.rest' (Err found)
+    pub claim-ended : (A : Type 0) (found : ReadFault) (r : Result (Claim I O X) TextFault) (f0 f' : ℕ) → mid.most ≡ most_lines → HasReadCause mid f0 f' found → ReadsLine {A = A} mid new left' s.uses.rest' (Err found)
         → new.number ≡ mid.number → EndsBy f d new.number found r → ReadsClaim f left' bytes r
     claim-ended A fault.End r f0 f' most cause reads still is = claim-ends r reads.1 reads.0 still is
     claim-ended A fault.Read r f0 f' most cause (part, breaks, none) still is = rw is (line-broke cause.1 part breaks none)
@@ -117,15 +119,15 @@ module _ {I O X : Type 0} (f : Form I O X) where
     claim-ended A (fault.Refused n w) r f0 f' most cause (stands, there, l, ls, first, refused) still is = rw is (line-stopped n w l ls most there first refused)
 
     -- how much was given where a line is refused
-    pub ahead-refused : (w : Why) → StandsAt mid new left' s.uses.rest' new.number → LooksAhead left' bytes (fault.Refused new.number w)
+    pub ahead-refused : (w : Why) → StandsAt mid new left' s.uses.rest' new.number → LooksAhead left' bytes (text.Refused new.number w)
     ahead-refused w stands = given-of new left' bytes new.number w (stands-after (fresh most_lines) mid new left left' bytes s.used new.number s.uses stands)
 
-    ahead-ends : (r : Result (Claim I O X) ReadFault) → s.uses.rest' ≡ [] → EndsAll new left' → new.number ≡ mid.number → EndsClaim f d new.number r → IfErr r (LooksAhead left' bytes)
+    ahead-ends : (r : Result (Claim I O X) TextFault) → s.uses.rest' ≡ [] → EndsAll new left' → new.number ≡ mid.number → EndsClaim f d new.number r → IfErr r (LooksAhead left' bytes)
     ahead-ends (Ok c) none ends still is = tt
     ahead-ends (Err found) none ends still is =
         rw is.0 (given-of new left' bytes (new.number + 1) why.Header (stands-at-end (fresh most_lines) mid new left left' bytes s.used s.uses (new.number + 1) none ends.left (ap (λ n. n + 1) still)))
 
-    pub ahead-ended : (A : Type 0) (found : ReadFault) (r : Result (Claim I O X) ReadFault) → ReadsLine {A = A} mid new left' s.uses.rest' (Err found) → new.number ≡ mid.number → EndsBy f d new.number found r
+    pub ahead-ended : (A : Type 0) (found : ReadFault) (r : Result (Claim I O X) TextFault) → ReadsLine {A = A} mid new left' s.uses.rest' (Err found) → new.number ≡ mid.number → EndsBy f d new.number found r
         → IfErr r (LooksAhead left' bytes)
     ahead-ended A fault.End r reads still is = ahead-ends r reads.1 reads.0 still is
     ahead-ended A fault.Read r reads still is = rw is tt
@@ -134,11 +136,11 @@ module _ {I O X : Type 0} (f : Form I O X) where
         rw is (given-of new left' bytes n w (stands-after (fresh most_lines) mid new left left' bytes s.used n s.uses reads.0))
 
 -- the cause of a fault
-ends-quiet : {I O X : Type 0} (f : Form I O X) (d : Draft I O X) (n f0 f' : ℕ) (r : Result (Claim I O X) ReadFault) → EndsClaim f d n r → IfErr r (HasReadFault f0 f')
+ends-quiet : {I O X : Type 0} (f : Form I O X) (d : Draft I O X) (n f0 f' : ℕ) (r : Result (Claim I O X) TextFault) → EndsClaim f d n r → IfErr r (HasReadFault f0 f')
 ends-quiet f d n f0 f' (Ok c) is = tt
 ends-quiet f d n f0 f' (Err found) is = rw is.0 tt
 
-pub ends-cause : {I O X : Type 0} (f : Form I O X) (d : Draft I O X) (n : ℕ) (old : ReaderView) (f0 f1 f' : ℕ) (found : ReadFault) (r : Result (Claim I O X) ReadFault) → f0 ≤ f1 → HasReadCause old f1 f' found
+pub ends-cause : {I O X : Type 0} (f : Form I O X) (d : Draft I O X) (n : ℕ) (old : ReaderView) (f0 f1 f' : ℕ) (found : ReadFault) (r : Result (Claim I O X) TextFault) → f0 ≤ f1 → HasReadCause old f1 f' found
     → EndsBy f d n found r → IfErr r (HasReadFault f0 f')
 ends-cause f d n old f0 f1 f' fault.End r grew cause is = ends-quiet f d n f0 f' r is
 ends-cause f d n old f0 f1 f' fault.Read r grew cause is = rw is (omega (arith, grew, cause.0))
@@ -146,7 +148,7 @@ ends-cause f d n old f0 f1 f' fault.Memory r grew cause is = rw is tt
 ends-cause f d n old f0 f1 f' (fault.Refused k w) r grew cause is = rw is tt
 
 -- a failed read is told
-pub ends-failed : {I O X : Type 0} (f : Form I O X) (d : Draft I O X) (n : ℕ) (found : ReadFault) (r : Result (Claim I O X) ReadFault) → EndsBy f d n found r → found ≡ fault.Read → r ≡ Err fault.Read
+pub ends-failed : {I O X : Type 0} (f : Form I O X) (d : Draft I O X) (n : ℕ) (found : ReadFault) (r : Result (Claim I O X) TextFault) → EndsBy f d n found r → found ≡ fault.Read → r ≡ Err text.Read
 ends-failed f d n fault.Read r is e = is
 ends-failed f d n fault.End r is e = cc
 ends-failed f d n fault.Memory r is e = cc

@@ -6,8 +6,7 @@ use Rattle.line_reader.specs.declared.why.Why.{Why}
 use Rattle.line_reader.specs.declared.why.Why.TheVariants as why
 use Rattle.schedule_text.specs.declared.line.Line.{Line}
 use Rattle.schedule_text.specs.declared.line.Line.TheVariants as line
-use Rattle.schedule_text.specs.Lines.{is_skipped}
-use Rattle.schedule_text.specs.Reading.{line_of, line_says, said_of, step_or_refusal}
+use Rattle.schedule_text.specs.Reading.{is_skipped, line_of, line_says, said_of, step_or_refusal}
 use Rattle.schedule_text.specs.Words.{cut}
 use Rattle.check_text.specs.declared.image_line.ImageLine.{ImageLine}
 use Rattle.check_text.specs.declared.image_line.ImageLine.TheVariants as image

@@ -4,7 +4,7 @@ use Rattle.std.proofs.Common.{ap, ◌∙◌, sym, append_assoc}
 use Rattle.std.proofs.lemmas.List.{append-nil}
 use Rattle.vst_base.specs.Firsts.{first_of}
 use Rattle.vst_base.specs.declared.step.Item.{Item}
-use Rattle.line_reader.specs.Limits.{line_refusals}
+use Rattle.line_reader.specs.Whys.{line_refusals}
 use Rattle.line_reader.specs.declared.why.Why.{Why}
 use Rattle.schedule_text.specs.declared.header.Header.{Header}
 use Rattle.vst_base.specs.declared.stack.StackId.{StackId}

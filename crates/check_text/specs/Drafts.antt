@@ -6,8 +6,10 @@ use Rattle.line_reader.specs.declared.why.Why.{Why}
 use Rattle.line_reader.specs.declared.why.Why.TheVariants as why
 use Rattle.line_reader.specs.declared.read_fault.ReadFault.{ReadFault}
 use Rattle.line_reader.specs.declared.read_fault.ReadFault.TheVariants as fault
-use Rattle.line_reader.specs.Limits.{line_refusals}
+use Rattle.line_reader.specs.Whys.{line_refusals}
 use Rattle.schedule_text.specs.declared.header.Header.{Header}
+use Rattle.schedule_text.specs.declared.text_faults.TextFault.{TextFault}
+use Rattle.schedule_text.specs.declared.text_faults.TextFault.TheVariants as text
 use Rattle.check_text.specs.declared.stage.Stage.{Stage}
 use Rattle.check_text.specs.declared.stage.Stage.TheVariants as stage
 use Rattle.check_text.specs.Claims.{Claim}
@@ -66,13 +68,13 @@ module _ {I O X : Type 0} where
   Finishes form d (Some c) = (number : ℕ) → comes_to form d number [] ≡ Whole c
 
   -- and where it ends too early, the line after the last is refused
-  abbrev pub EndsClaim : Form I O X → Draft I O X → ℕ → Result (Claim I O X) ReadFault → Type 0
+  abbrev pub EndsClaim : Form I O X → Draft I O X → ℕ → Result (Claim I O X) TextFault → Type 0
   EndsClaim form d number (Ok c) = Finishes form d (Some c)
-  EndsClaim form d number (Err found) = (found ≡ fault.Refused (number + 1) why.Header) × Finishes form d None
+  EndsClaim form d number (Err found) = (found ≡ text.Refused (number + 1) why.Header) × Finishes form d None
 
   -- and where no line was read for some fault
-  abbrev pub EndsBy : Form I O X → Draft I O X → ℕ → ReadFault → Result (Claim I O X) ReadFault → Type 0
+  abbrev pub EndsBy : Form I O X → Draft I O X → ℕ → ReadFault → Result (Claim I O X) TextFault → Type 0
   EndsBy form d number fault.End r = EndsClaim form d number r
-  EndsBy form d number fault.Read r = r ≡ Err fault.Read
-  EndsBy form d number fault.Memory r = r ≡ Err fault.Memory
-  EndsBy form d number (fault.Refused n w) r = r ≡ Err (fault.Refused n w)
+  EndsBy form d number fault.Read r = r ≡ Err text.Read
+  EndsBy form d number fault.Memory r = r ≡ Err text.Memory
+  EndsBy form d number (fault.Refused n w) r = r ≡ Err (text.Refused n w)

@@ -3,7 +3,7 @@ use Rattle.std.specs.Prelude.{ℕ, ◌+◌, List, [], ◌∷◌, Option, Some, N
 use Rattle.vst_base.specs.Firsts.{first_of}
 use Rattle.line_reader.specs.declared.why.Why.{Why}
 use Rattle.line_reader.specs.declared.why.Why.TheVariants as why
-use Rattle.line_reader.specs.Limits.{line_refusals}
+use Rattle.line_reader.specs.Whys.{line_refusals}
 use Rattle.schedule_text.specs.declared.header.Header.{Header}
 use Rattle.vst_base.specs.declared.stack.StackId.{StackId}
 use Rattle.check_text.specs.declared.trace_line.TraceLine.{TraceLine}

@@ -6,7 +6,7 @@ use Rattle.vst_base.specs.Stacks.{stack_word}
 use Rattle.vst_base.specs.declared.step.Step.{Step}
 use Rattle.line_reader.specs.declared.why.Why.{Why}
 use Rattle.line_reader.specs.declared.why.Why.TheVariants as why
-use Rattle.line_reader.specs.Limits.{line_refusals}
+use Rattle.line_reader.specs.Whys.{line_refusals}
 use Rattle.schedule_text.specs.declared.header.Header.{Header}
 use Rattle.schedule_text.specs.Headers.{IsHeader, header_of}
 use Rattle.schedule_text.specs.Words.{cut, is_text}

@@ -5,7 +5,7 @@ use Rattle.vst_base.specs.declared.step.Item.{Item}
 use Rattle.vst_base.specs.declared.step.Item.TheVariants as item
 use Rattle.line_reader.specs.declared.why.Why.{Why}
 use Rattle.line_reader.specs.declared.why.Why.TheVariants as why
-use Rattle.line_reader.specs.Limits.{line_refusals}
+use Rattle.line_reader.specs.Whys.{line_refusals}
 use Rattle.schedule_text.specs.Words.{cut, is_text}
 use Rattle.schedule_text.specs.Reading.{number_of}
 use Rattle.check_text.specs.declared.trace_line.TraceLine.{TraceLine}

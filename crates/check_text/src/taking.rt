@@ -12,7 +12,7 @@ use crate::trace_line::TraceLine;
 use crate::trace_lines::counted_says;
 use crate::{Claim, ImageLine, ImageText};
 use app_text::AppText;
-use schedule_text::{ReadFault, Reader, Why};
+use schedule_text::{ReadFault, Reader, TextFault, Why, text_fault};
 use std::alloc::{AllocError, Global};
 use vst_base::StackId;
 
@@ -142,7 +142,7 @@ pub(crate) fn end_claim<A: AppText, G: ImageText>(
     draft: Draft<A::Input, A::Output, G::Line>,
     reader: &Reader,
     fault: ReadFault,
-) -> Result<Claim<A::Input, A::Output, G::Line>, ReadFault>
+) -> Result<Claim<A::Input, A::Output, G::Line>, TextFault>
     ensures ends { (nodes : ℕ) (below : Option SpecId) → EndsBy (form_of nodes A.input_of A.output_of below G.says) draft
         reader.now.number fault result }
     ensures lines { IfOk result (λ claim. length claim.trace + length claim.image ≡ lines_of draft) }
@@ -152,8 +152,8 @@ pub(crate) fn end_claim<A: AppText, G: ImageText>(
     match fault {
         ReadFault::End => match finish::<A, G>(draft) {
             Some(claim) => Ok(claim),
-            None => Err(reader.refuse_next(Why::Header)),
+            None => Err(text_fault(reader, fault)),
         },
-        _ => Err(fault),
+        _ => Err(text_fault(reader, fault)),
     }
 }

@@ -1,11 +1,7 @@
 -- Lines that come one after another, and those that are claimed.
 use Rattle.std.specs.Prelude.{◌≡◌, ℕ, ◌+◌, ◌<◌, ◌≤◌, List, [], ◌∷◌, ◌++◌, length, map, drop, Option, Some, refl}
 use Rattle.std.proofs.Common.{ap, ◌∙◌, sym, append_assoc, arith, drop-drop}
-use Rattle.std.proofs.lemmas.List.{append-nil, drop_all, drop-map}
-use Rattle.vst_base.specs.declared.step.Item.{Item}
-use Rattle.vst_base.specs.declared.step.Step.{Step}
-use Rattle.net_semantics.specs.Runs.{trace}
-use Rattle.xform_stack.specs.Running.{HasRun, Progress, System}
+use Rattle.std.proofs.lemmas.List.{drop_all, drop-map}
 use Rattle.claim_verdicts.specs.Comparing.{difference_after}
 use Rattle.claim_verdicts.specs.Places.{first_difference}
 use Rattle.claim_verdicts.specs.declared.comparison.Comparison.{Comparison}
@@ -37,15 +33,3 @@ pub compares-more : (c d : Comparison) (claimed before came : List (List ℕ)) �
     → ((more : List (List ℕ)) → difference_after c claimed (came ++ more) ≡ difference_after d claimed more) → Compares d claimed (before ++ came)
 compares-more c d claimed before came had on = λ more.
     ap (first_difference 0 claimed) (append_assoc before came more) ∙ (had (came ++ more) ∙ on more)
-
--- the trace so far may be cleared
-pub forgotten : {R S K I O M G : Type 0} (sys : System S K I O M G) (follows : R → List (Step I) → Type 0) (progress : R → Progress I O)
-    (ss : List (Step I)) (gone : List (Item I O)) (r q : R) → HasRun sys follows progress ss gone r
-    → progress q ≡ record (progress r) { trace = [] } → ((ts : List (Step I)) → follows r ts → follows q ts)
-    → HasRun sys follows progress ss (trace sys.meaning sys.recovery ss) q
-forgotten {I} {O} sys follows progress ss gone r q had is stays = record {
-  followed = stays ss had.followed;
-  traced = ap (λ (p : Progress I O). trace sys.meaning sys.recovery ss ++ p.trace) is ∙ append-nil (trace sys.meaning sys.recovery ss);
-  allowed = had.allowed;
-  counted = ap (λ (p : Progress I O). p.taken) is ∙ had.counted;
-}

@@ -8,7 +8,7 @@ use Rattle.linearizability.specs.Linearizable.{IsLinearizable}
 use Rattle.net_semantics.specs.BelowPb.{below_pb, inputs_at}
 use Rattle.net_semantics.specs.Runs.{first_refused, no_recovery, trace}
 use Rattle.schedule_text.specs.Printing.{item_text, step_text}
-use Rattle.trace_maps.specs.Replying.{alone}
+use Rattle.trace_maps.specs.SingleNode.{alone}
 use Rattle.vst_base.specs.Machines.{MachineMeaning, fold}
 use Rattle.vst_base.specs.declared.net.Net.{Net}
 use Rattle.claim_verdicts.specs.Backups.{BackupClaim, backup_verdict, is_wrong_answer, is_wrong_at_backup}

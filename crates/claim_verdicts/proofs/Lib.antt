@@ -12,3 +12,4 @@ pub mod Explained
 pub mod Apart
 pub mod ClusterVerdicts
 pub mod Decided
+pub mod Stepping

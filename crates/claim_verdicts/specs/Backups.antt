@@ -7,7 +7,7 @@ use Rattle.vst_base.specs.declared.step.Item.{Item}
 use Rattle.vst_base.specs.declared.step.Item.TheVariants as item
 use Rattle.vst_base.specs.declared.step.Step.{Step}
 use Rattle.net_semantics.specs.BelowPb.{below_pb, inputs_at, outputs_at}
-use Rattle.trace_maps.specs.Replying.{alone}
+use Rattle.trace_maps.specs.SingleNode.{alone}
 use Rattle.schedule_text.specs.Printing.{step_text}
 use Rattle.schedule_text.specs.Words.{is_text}
 use Rattle.check_text.specs.Claims.{Claim, image_line, item_line}

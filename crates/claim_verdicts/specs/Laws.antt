@@ -12,7 +12,7 @@ use Rattle.vst_base.specs.declared.pb_out.PbOut.{PbOut}
 use Rattle.vst_base.specs.declared.pb_out.PbOut.TheVariants as pb
 use Rattle.net_semantics.specs.BelowPb.{IsExplainedBy, below_pb, inputs_at}
 use Rattle.net_semantics.specs.Runs.{IsAllowed, no_recovery, trace}
-use Rattle.trace_maps.specs.Replying.{alone}
+use Rattle.trace_maps.specs.SingleNode.{alone}
 use Rattle.schedule_text.specs.Printing.{item_text, step_text}
 use Rattle.claim_verdicts.specs.Backups.{BackupClaim}
 use Rattle.claim_verdicts.specs.Schedules.{ScheduleClaim}

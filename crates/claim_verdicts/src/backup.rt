@@ -9,9 +9,8 @@ use crate::lines::{image_line, item_line};
 use crate::redirecting::wrong_at_backup;
 use app_text::AppText;
 use check_text::Claim;
-use single_node::SingleNode;
 use std::alloc::{AllocError, Global};
-use trace_maps::below_primary_backup;
+use trace_maps::{SingleNode, below_primary_backup};
 use vst_base::{Machine, PbOut, Step};
 
 /// The verdict on a claim, of at most `MAX_LINES` items and steps, on a primary and its backup: whether the machine alone explains

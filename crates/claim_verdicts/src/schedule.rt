@@ -5,7 +5,7 @@ ghost use Rattle.claim_verdicts.specs.Schedules.{schedule_verdict};
 ghost use Rattle.vst_base.specs.Nets.{stops_no_node};
 ghost use Rattle.vst_base.specs.declared.step.TheConstants.{MAX_STEPS};
 ghost use Rattle.check_text.specs.declared.reading.TheConstants.{MAX_LINES};
-ghost use Rattle.xform_stack.specs.Running.{HasRun};
+ghost use Rattle.xform_stack.specs.Running.{HasTaken};
 
 use crate::Verdict;
 use crate::comparison::Comparison;
@@ -14,40 +14,42 @@ use crate::text_pair::TextPair;
 use app_text::AppText;
 use check_text::Claim;
 use handler_trait::Handlers;
+use net_semantics::StepFault;
 use std::alloc::{AllocError, Global};
 use vst_base::{Item, Net, Step};
-use xform_stack::{NoImage, RunFault, Running, Runs};
+use xform_stack::{Network, SteadyWorld};
 
-// The verdict on a claim whose image is a schedule, where no step of it was taken yet. What clients see is compared with the claimed
-// trace after each step, and then cleared.
-fn verdict_by_run<R: Runs, A: AppText<Input = R::Input, Output = R::Output>>(
+// The verdict on a claim whose image is a schedule, by a network that has taken no step yet. What clients see is compared with the
+// claimed trace after each step, and then cleared.
+fn verdict_by_run<H: Handlers, W: Network<H>, A: AppText<Input = H::Input, Output = H::Output>>(
     alloc: Global,
-    mut running: R,
-    claim: &Claim<R::Input, R::Output, Step<R::Input>>,
+    mut network: W,
+    claim: &Claim<H::Input, H::Output, Step<H::Input>>,
 ) -> Result<Verdict, AllocError>
-    requires started { HasRun (R.system running) R.follows R.progress [] [] running }
-    requires sound { R.sound running }
+    requires started { HasTaken (W.system network) W.follows W.progress [] network }
+    requires clear { (W.progress network).trace ≡ [] }
+    requires sound { W.sound network }
     requires few { length claim.now.trace + length claim.now.image ≤ MAX_LINES }
     requires counted { length claim.now.image ≤ MAX_STEPS }
     ensures { IfOk result (λ verdict. verdict ≡ explained_by A.input_text A.output_text claim.now
-        (first_refused (R.system running).net (R.system running).meaning (R.system running).recovery claim.now.image)
-        (trace (R.system running).meaning (R.system running).recovery claim.now.image)) }
+        (first_refused (W.system network).net (W.system network).meaning (W.system network).recovery claim.now.image)
+        (trace (W.system network).meaning (W.system network).recovery claim.now.image)) }
 {
     let mut texts = TextPair::new(alloc)?;
     let mut comparison = Comparison::SameSoFar(0);
     for (place, step) in claim.image().iter().enumerate() {
-        match running.step(step) {
+        match network.step(step) {
             Ok(()) => {}
-            Err(RunFault::Step(_, _)) => return Ok(Verdict::No(4, image_line(claim, place))),
-            Err(RunFault::Memory) => return Err(AllocError),
+            Err(StepFault::Refused(_)) => return Ok(Verdict::No(4, image_line(claim, place))),
+            Err(StepFault::Memory) => return Err(AllocError),
         }
-        let came = running.trace().items();
+        let came = network.trace().items();
         comparison = comparison.after::<A, Item<A::Input, A::Output>>(
             &mut texts,
             claim.trace(),
             came,
         )?;
-        running.forget_trace();
+        network.forget_trace();
     }
     match comparison.difference(claim.trace().len()) {
         Some(place) => Ok(Verdict::No(5, item_line(place))),
@@ -70,6 +72,6 @@ pub fn schedule_verdict<H: Handlers, A: AppText<Input = H::Input, Output = H::Ou
     requires counted { length claim.now.image ≤ MAX_STEPS }
     ensures { IfOk result (λ verdict. verdict ≡ schedule_verdict A.input_text A.output_text net (H.meaning handlers) claim.now) }
 {
-    let running = Running::<H, NoImage<H::Input>>::new(alloc, handlers, net)?;
-    verdict_by_run::<Running<H, NoImage<H::Input>>, A>(alloc, running, claim)
+    let world = SteadyWorld::new(alloc, handlers, net)?;
+    verdict_by_run::<H, SteadyWorld<H>, A>(alloc, world, claim)
 }

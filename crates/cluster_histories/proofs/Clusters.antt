@@ -8,7 +8,7 @@ use Rattle.node_histories.specs.Views.{HasView}
 use Rattle.raft_safety.proofs.Ordering.{runs_are_linearizable}
 use Rattle.raft_safety.specs.Applied.{executed_by}
 use Rattle.raft_safety.specs.Runs.{seen}
-use Rattle.raft_types.specs.Ranges.{IsClusterSize}
+use Rattle.raft_types.specs.Messages.{IsClusterSize}
 use Rattle.raft_xform.specs.Raft.{raft, raft_recovery}
 use Rattle.vst_base.specs.Machines.{MachineMeaning}
 use Rattle.cluster_histories.proofs.Explaining.{allowed_front, explains, moments_are_of_one_run, moves_are_explained}

@@ -6,8 +6,7 @@ use Rattle.node_histories.specs.HistoryLaws.{RunsAs}
 use Rattle.node_histories.specs.Views.{HasView}
 use Rattle.raft_safety.specs.Applied.{executed_by}
 use Rattle.raft_safety.specs.Runs.{AreMoments, seen}
-use Rattle.raft_types.specs.Keeping.{KeptView}
-use Rattle.raft_types.specs.Ranges.{IsClusterSize}
+use Rattle.raft_types.specs.Messages.{KeptView, IsClusterSize}
 use Rattle.raft_types.specs.declared.client.RaftInput.{RaftInput}
 use Rattle.raft_types.specs.declared.client.RaftOut.{RaftOut}
 use Rattle.raft_types.specs.declared.msg.RaftMsg.{RaftMsg}

@@ -4,7 +4,7 @@ use Rattle.handler_trait.specs.Echo.{echo, echo_recovery}
 use Rattle.linearizability.specs.Examples.{asks}
 use Rattle.node_histories.specs.Histories.{Asked, Fired, Heard, History, own}
 use Rattle.raft_safety.specs.Examples.{five, sent_first}
-use Rattle.raft_types.specs.Keeping.{KeptView}
+use Rattle.raft_types.specs.Messages.{KeptView}
 use Rattle.raft_types.specs.declared.client.RaftInput.{RaftInput}
 use Rattle.raft_types.specs.declared.client.RaftOut.{RaftOut}
 use Rattle.raft_types.specs.declared.client.RaftOut.TheVariants as told

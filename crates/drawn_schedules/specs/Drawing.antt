@@ -1,7 +1,7 @@
 -- What drawing a schedule comes to, by what replay makes of its text. Of the picture it says nothing.
 use Rattle.std.specs.Prelude.{◌≡◌, ℕ, List, None, Some, Result, Ok, Err}
 use Rattle.outside.specs.Counting.{Rose}
-use Rattle.run_streams.specs.Seen.{CountsNothing, SinkSeen}
+use Rattle.commands.specs.Seen.{CountsNothing, SinkSeen}
 use Rattle.schedule_replay.specs.Replaying.{Replayed}
 use Rattle.schedule_replay.specs.Replays.{replayed}
 use Rattle.schedule_replay.specs.declared.fault.ReplayFault.{ReplayFault}

@@ -3,8 +3,8 @@ use Rattle.std.specs.Prelude.{◌≡◌, ◌⊎◌, ℕ, None, Some, IfSome}
 use Rattle.line_reader.specs.declared.why.Why.{Why}
 use Rattle.outside.specs.Counting.{Rose}
 use Rattle.outside.specs.Wholes.{Gained}
-use Rattle.run_streams.specs.Lines.{memory_line, read_failed_line}
-use Rattle.run_streams.specs.Seen.{IsQuiet, Run, WritesQuietly}
+use Rattle.commands.specs.Lines.{memory_line, read_failed_line}
+use Rattle.commands.specs.Seen.{IsQuiet, Run, WritesQuietly}
 use Rattle.schedule_replay.specs.Replays.{replayed}
 use Rattle.schedule_text.specs.Printing.{refusal_line}
 

@@ -1,6 +1,6 @@
 -- What the definitions are computed on.
 use Rattle.std.specs.Prelude.{ℕ, List, None, Some, codes}
-use Rattle.run_streams.specs.Seen.{Run, SinkSeen}
+use Rattle.commands.specs.Seen.{Run, SinkSeen}
 
 -- a schedule of which no line is refused, and one whose line 3 is, since no such packet was sent
 abbrev pub taken_text : List ℕ

@@ -1,12 +1,11 @@
 ghost use Rattle.drawn_schedules.specs.Endings.{EndsAs};
-ghost use Rattle.run_streams.specs.Seen.{KeepsCounts, ran};
+ghost use Rattle.commands.specs.Seen.{KeepsCounts, ran};
 
 use crate::draw;
+use commands::{Complaint, DONE, WRITE_FAILED, tell};
 use outside::{Sink, Source};
-use run_streams::{DONE, WRITE_FAILED};
 use schedule_replay::ReplayFault;
 use std::alloc::Global;
-use text_commands::{Complaint, tell};
 
 /// Draws the schedule on the input, and answers the status: 0 done, 3 a line is refused, 4 the input could not be read, 5 a write failed,
 /// 8 want of memory.

@@ -1,12 +1,12 @@
 ghost use Rattle.std.specs.Prelude.{◌≡◌, ◌≢◌, ◌≤◌, None, Err, IfErr, IfSome, OnOk};
 ghost use Rattle.drawn_schedules.specs.Drawing.{DrawsTo, IsItsRefusal, Writes};
 ghost use Rattle.outside.specs.Counting.{Rose};
-ghost use Rattle.run_streams.specs.Seen.{sink_seen};
+ghost use Rattle.commands.specs.Seen.{sink_seen};
 ghost use Rattle.schedule_replay.specs.Replays.{replayed};
 
+use crate::picture_of;
 use crate::reading::read_whole;
 use drawing::svg_of;
-use drawn_runs::picture_of;
 use outside::{Sink, Source, WriteFault, write_all};
 use outside_mem::{SteadySink, SteadySource};
 use schedule_replay::{ReplayFault, replay};

@@ -1,8 +1,8 @@
 ghost use Rattle.std.specs.Prelude.{[], Err, Ok, codes};
-ghost use Rattle.run_streams.specs.Lines.{memory_line, read_failed_line};
-ghost use Rattle.run_streams.specs.Seen.{Run};
+ghost use Rattle.commands.specs.Lines.{memory_line, read_failed_line};
+ghost use Rattle.commands.specs.Seen.{Run};
 ghost use Rattle.schedule_replay.specs.Replays.{replayed};
-ghost use Rattle.text_commands.specs.Examples.{err_failed, err_wanted, out_failed, quiet_run, read_failed};
+ghost use Rattle.commands.specs.Examples.{err_failed, err_wanted, out_failed, quiet_run, read_failed};
 ghost use Rattle.drawn_schedules.specs.Drawing.{DrawsTo, IsItsRefusal, Writes};
 ghost use Rattle.drawn_schedules.specs.Endings.{EndsAs};
 ghost use Rattle.drawn_schedules.specs.Examples.{refused_text, sink, taken_text, untold};

@@ -1,7 +1,6 @@
 -- What the definitions are computed on.
 use Rattle.std.specs.Prelude.{ℕ, List}
-use Rattle.handler_trait.specs.Gathering.{Gathered}
-use Rattle.handler_trait.specs.Handling.{Effect}
+use Rattle.handler_trait.specs.Handling.{Gathered, Effect}
 
 -- what was gathered, with no more room
 abbrev pub gathered : List ℕ → List (ℕ × ℕ) → Gathered ℕ ℕ

@@ -1,7 +1,14 @@
 -- Handlers as functions (Verdi, PLDI 2015): theorems on runs are about these records alone.
 use Rattle.std.specs.Prelude.{◌≡◌, ℕ, Bool, ◌+◌, ◌<◌, ◌≤◌, List, [], ◌∷◌, ◌++◌, length}
-use Rattle.handler_trait.specs.Gathering.{Gathered}
 use Rattle.handler_trait.specs.declared.handlers.TheConstants.{MAX_OUTPUTS, STEP_COST}
+
+-- the outputs, the packets to send with their destinations, and how many of each can be added without
+-- taking memory
+pub record Gathered (O M : Type 0) : Type 0 where
+  pub outputs : List O
+  pub sends : List (ℕ × M)
+  pub output_places : ℕ
+  pub send_places : ℕ
 
 -- what one event makes of a node: its state, outputs, and sends (destination and content)
 pub record Effect (S O M : Type 0) : Type 0 where

@@ -1,4 +1,3 @@
-pub mod Gathering
 pub mod Handling
 pub mod Facts
 pub mod Echo

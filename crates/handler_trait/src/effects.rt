@@ -16,7 +16,7 @@ pub struct Effects<O, M> {
 
 impl<O, M> Model for Effects<O, M> {
     ghost use Rattle.std.specs.Prelude.{◌-◌, vec_len, vec_capacity};
-    ghost use Rattle.handler_trait.specs.Gathering.{Gathered};
+    ghost use Rattle.handler_trait.specs.Handling.{Gathered};
 
     ghost Value = { Gathered O M };
 
@@ -29,7 +29,7 @@ impl<O, M> Model for Effects<O, M> {
 }
 
 impl<O: Drop, M: Drop> Effects<O, M> {
-    ghost use Rattle.handler_trait.specs.Gathering.{Gathered};
+    ghost use Rattle.handler_trait.specs.Handling.{Gathered};
 
     /// No outputs and no sends. It takes no memory.
     pub fn new(alloc: Global) -> Self

@@ -2,7 +2,7 @@
 use Rattle.std.specs.Prelude.{◌≡◌, ℕ, Bool, true, false, ◌==◌, ◌<◌, List, [], ◌∷◌, ◌++◌, length, take, drop, Option, Some, None, cond, refl}
 use Rattle.std.proofs.Common.{zero, suc, ap, ◌∙◌, sym, arith}
 use Rattle.memchr.specs.Find.{Passes, Nowhere, is_byte}
-use Rattle.line_reader.specs.Cuts.{cut_at, onto_cut}
+use Rattle.line_reader.specs.Lines.{cut_at, onto_cut}
 
 -- a cut after a front
 abbrev pub after_front : List ℕ → Option (List ℕ × List ℕ) → Option (List ℕ × List ℕ)

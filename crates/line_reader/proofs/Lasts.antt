@@ -3,7 +3,7 @@ use Rattle.std.specs.Prelude.{◌≡◌, ℕ, Bool, true, false, ◌==◌, ◌+�
 use Rattle.std.proofs.Common.{zero, suc, inl, inr, is_some, cond, refl, ap, ◌∙◌, sym, arith}
 use Rattle.std.proofs.lemmas.Bool.{cases_lt, le-ltb, lt-ltb}
 use Rattle.memchr.specs.Find.{Passes, Nowhere, is_byte}
-use Rattle.line_reader.specs.Cuts.{cut_at, onto_cut, has_cut, LastEnds}
+use Rattle.line_reader.specs.Lines.{cut_at, onto_cut, has_cut, LastEnds}
 use Rattle.line_reader.proofs.Cutting.{cut-nowhere}
 
 -- it is found from each place up to one where it stands

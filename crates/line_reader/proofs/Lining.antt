@@ -2,8 +2,7 @@
 use Rattle.std.specs.Prelude.{◌≡◌, ℕ, Bool, true, false, ◌==◌, ◌+◌, ◌<◌, List, [], ◌∷◌, ◌++◌, length, drop, Option, Some, None, cond, refl}
 use Rattle.std.proofs.Common.{zero, suc, ap, ◌∙◌, sym, subst, append_assoc, arith, zero-add, suc-add}
 use Rattle.std.proofs.lemmas.List.{append-nil}
-use Rattle.line_reader.specs.Cuts.{cut_at, onto_cut}
-use Rattle.line_reader.specs.Lines.{split_lines, onto_first, last_line, lines_of, whole_lines, first_size, after_lines}
+use Rattle.line_reader.specs.Lines.{cut_at, onto_cut, split_lines, onto_first, last_line, lines_of, whole_lines, first_size, after_lines}
 use Rattle.line_reader.proofs.Cutting.{none-parts, cut-here}
 
 -- a text by what its first newline cuts it into

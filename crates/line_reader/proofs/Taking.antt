@@ -4,9 +4,8 @@ use Rattle.std.proofs.Common.{ap, ◌∙◌, sym, subst, append_assoc, arith, le
 use Rattle.std.proofs.lemmas.Bool.Decides.{nat_tests}
 use Rattle.std.proofs.lemmas.List.{append-nil, take-append-le}
 use Rattle.vst_base.specs.Firsts.{first_of}
-use Rattle.line_reader.specs.Cuts.{cut_at}
-use Rattle.line_reader.specs.Lines.{split_lines, lines_of, first_size, after_lines, decided}
-use Rattle.line_reader.specs.Limits.{line_refusals}
+use Rattle.line_reader.specs.Lines.{cut_at, split_lines, lines_of, first_size, after_lines, decided}
+use Rattle.line_reader.specs.Whys.{line_refusals}
 use Rattle.line_reader.specs.Readers.{ReaderView, HasRest}
 use Rattle.line_reader.specs.Outcomes.{ReadsLine, EndsLine, LineIsNear, TakesPiece}
 use Rattle.line_reader.specs.declared.why.Why.{Why}

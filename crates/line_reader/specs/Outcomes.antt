@@ -2,9 +2,8 @@
 use Rattle.std.specs.Prelude.{◌≡◌, ℕ, true, false, ◌+◌, ◌-◌, ◌<◌, ◌≤◌, List, [], ◌∷◌, ◌++◌, length, Option, Some, None, Result, Ok, Err}
 use Rattle.outside.specs.Counting.{Rose}
 use Rattle.vst_base.specs.Firsts.{first_of}
-use Rattle.line_reader.specs.Cuts.{cut_at}
-use Rattle.line_reader.specs.Lines.{split_lines, lines_of, whole_lines, after_lines, decided}
-use Rattle.line_reader.specs.Limits.{line_refusals}
+use Rattle.line_reader.specs.Lines.{cut_at, split_lines, lines_of, whole_lines, after_lines, decided}
+use Rattle.line_reader.specs.Whys.{line_refusals}
 use Rattle.line_reader.specs.Readers.{ReaderView, HasRest}
 use Rattle.line_reader.specs.declared.why.Why.TheVariants as why
 use Rattle.line_reader.specs.declared.piece.Piece.{Piece}

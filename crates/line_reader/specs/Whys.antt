@@ -1,7 +1,14 @@
--- The words of the reasons for which lines are refused.
-use Rattle.std.specs.Prelude.{ℕ, List, codes}
+-- Why any line may be refused, whatever it says, and the words of all reasons.
+use Rattle.std.specs.Prelude.{ℕ, List, codes, Bool, nat_lt, [], ◌∷◌, length}
 use Rattle.line_reader.specs.declared.why.Why.{Why}
 use Rattle.line_reader.specs.declared.why.Why.TheVariants as why
+
+-- in the order in which they are tried, where lines have at most this number
+abbrev pub line_refusals : ℕ → ℕ → List ℕ → List (Why × Bool)
+line_refusals most number line =
+    (why.LineTooLong, nat_lt 4096 (length line))
+    ∷ (why.TooManyEvents, nat_lt most number)
+    ∷ []
 
 abbrev pub why_text : Why → List ℕ
 why_text why.LineTooLong = codes "line too long"

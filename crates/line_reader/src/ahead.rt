@@ -1,5 +1,5 @@
 ghost use Rattle.std.specs.Prelude.{◌≡◌, ◌≢◌, ◌≤◌, [], length, drop};
-ghost use Rattle.line_reader.specs.Cuts.{LastEnds, has_cut};
+ghost use Rattle.line_reader.specs.Lines.{LastEnds, has_cut};
 ghost use Rattle.line_reader.specs.Filling.{Fills};
 
 use crate::cuts::NEWLINE;
@@ -19,7 +19,7 @@ pub(crate) struct Ahead {
 
 impl Model for Ahead {
     ghost use Rattle.std.specs.Prelude.{◌≤◌, ℕ, List, take, drop};
-    ghost use Rattle.line_reader.specs.Cuts.{LastEnds};
+    ghost use Rattle.line_reader.specs.Lines.{LastEnds};
 
     ghost Value = { List ℕ };
 

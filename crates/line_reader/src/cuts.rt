@@ -1,5 +1,5 @@
 ghost use Rattle.std.specs.Prelude.{◌≡◌};
-ghost use Rattle.line_reader.specs.Cuts.{cut_at};
+ghost use Rattle.line_reader.specs.Lines.{cut_at};
 ghost use Rattle.line_reader.specs.Slices.{both};
 
 use memchr::memchr;

@@ -1,9 +1,7 @@
 ghost use Rattle.std.specs.Prelude.{◌≡◌, [], ◌∷◌, ◌++◌, None, Some, false, true, codes, replicate};
 ghost use Rattle.vst_base.specs.Firsts.{first_of};
-ghost use Rattle.line_reader.specs.Cuts.{LastEnds, cut_at, has_cut};
-ghost use Rattle.line_reader.specs.Lines.{after_lines, decided, lines_of, whole_lines};
-ghost use Rattle.line_reader.specs.Limits.{line_refusals};
-ghost use Rattle.line_reader.specs.Whys.{why_text};
+ghost use Rattle.line_reader.specs.Lines.{LastEnds, cut_at, has_cut, after_lines, decided, lines_of, whole_lines};
+ghost use Rattle.line_reader.specs.Whys.{line_refusals, why_text};
 
 use crate::Why;
 

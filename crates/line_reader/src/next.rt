@@ -1,5 +1,5 @@
 ghost use Rattle.std.specs.Prelude.{◌≡◌, ◌≢◌, ◌+◌, ◌≤◌, ℕ, List, true, length, Err, Some, IfErr, OnOk, OnErr};
-ghost use Rattle.line_reader.specs.Cuts.{cut_at, has_cut};
+ghost use Rattle.line_reader.specs.Lines.{cut_at, has_cut};
 ghost use Rattle.line_reader.specs.Outcomes.{HasReadCause, LineIsNear, ReadsLine, StopsAt};
 ghost use Rattle.line_reader.specs.Readers.{HasRest};
 

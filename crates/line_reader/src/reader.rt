@@ -1,5 +1,5 @@
 ghost use Rattle.std.specs.Prelude.{◌≡◌, ◌≢◌, ◌+◌, ◌-◌, ◌≤◌, ◌<◌, ◌^◌, ℕ, List, [], ◌++◌, false, true, length, drop, IfOk, IfErr, OnOk, Ok, Err};
-ghost use Rattle.line_reader.specs.Cuts.{has_cut};
+ghost use Rattle.line_reader.specs.Lines.{has_cut};
 ghost use Rattle.line_reader.specs.Outcomes.{CannotRead, EndsLine, TakesPiece};
 ghost use Rattle.line_reader.specs.Readers.{HasRest, fresh};
 
@@ -99,6 +99,13 @@ impl Reader {
         ensures { result ≡ self.now.number }
     {
         self.number
+    }
+
+    /// The number of the line after it.
+    pub fn next_number(&self) -> u32
+        ensures { result ≡ self.now.number + 1 }
+    {
+        self.number + 1
     }
 
     /// The bytes that were read ahead of the next line.
@@ -216,8 +223,8 @@ impl Reader {
         }
     }
 
-    /// The refusal of the line after it.
-    pub fn refuse_next(&self, why: Why) -> ReadFault
+    // The refusal of the line after it.
+    pub(crate) fn refuse_next(&self, why: Why) -> ReadFault
         ensures is { result ≡ ReadFault.Refused (self.now.number + 1) why }
         ensures few { length self.now.ahead ≤ 4096 }
     {

@@ -1,3 +1,11 @@
+pub mod Sends
+pub mod RaftSends
+pub mod Packets
+pub mod Numbers
+pub mod StepLines
+pub mod Texts
+pub mod KindLines
+pub mod StacksMake
 pub mod Allowed
 pub mod Openings
 pub mod ReadBack

@@ -2,7 +2,7 @@
 use Rattle.std.specs.Prelude.{◌≡◌, ℕ, List, ◌++◌, refl}
 use Rattle.std.specs.Fmt.{digits}
 use Rattle.line_reader.specs.Lines.{lines_of}
-use Rattle.schedule_replay.specs.Replays.{most_lines}
+use Rattle.schedule_replay.specs.Explained.{most_lines}
 use Rattle.schedule_text.specs.Headers.{header_text}
 use Rattle.schedule_text.specs.Printing.{as_line}
 use Rattle.schedule_text.specs.Schedules.{Opened, opening}

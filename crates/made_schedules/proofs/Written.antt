@@ -1,6 +1,7 @@
 -- The steps of a made schedule, while they are written.
 use Rattle.std.proofs.Common.{◌≡◌, ℕ, zero, suc, ◌+◌, ◌-◌, ◌<◌, ◌≤◌, List, [], ◌∷◌, ◌++◌, length, take, Option, Some, None, refl, sym, ap, subst, ◌∙◌, arith, append_assoc, append-nil, length-append}
 use Rattle.outside.specs.Wholes.{Gained, GainedPrefix}
+use Rattle.outside.proofs.Wholes.{gained-front, gained-nothing}
 use Rattle.net_semantics.specs.RunLaws.{place_and_why-none, run_from-append}
 use Rattle.net_semantics.specs.Runs.{first_refused_from}
 use Rattle.net_semantics.specs.Steps.{next}
@@ -10,32 +11,37 @@ use Rattle.schedule_make.specs.Made.{Inputs, after_words, made_from}
 use Rattle.schedule_make.specs.Making.{CanStep, HasMade, MakingView, step_after}
 use Rattle.schedule_text.specs.Printing.{as_line, step_text, steps_text}
 use Rattle.vst_base.specs.declared.step.Step.{Step}
-use Rattle.xform_stack.specs.Running.{Progress, System, world_of}
+use Rattle.xform_stack.specs.Running.{Progress}
+use Rattle.xform_stack.specs.Systems.{System, world_of}
 use Rattle.line_reader.specs.declared.write_fault.WriteFault.{WriteFault}
 use Rattle.line_reader.specs.declared.write_fault.WriteFault.TheVariants as line
 use Rattle.schedule_text.specs.Sending.{HasWriteCause}
-use Rattle.stacks.specs.Stack.{Entry, Found, Here, IfFound, Nowhere, found_or, made_of}
+use Rattle.stacks.specs.Plays.{Found, Here, IfFound, Nowhere, found_map, found_or}
+use Rattle.stacks.specs.Kinds.{Clustered, Kind, Steady}
+use Rattle.stacks.specs.Made.{made_on, makes}
+use Rattle.stacks.specs.Stack.{AnyStack, stack}
 use Rattle.std.proofs.lemmas.Result.{on_err_weaker, on_ok_weaker}
 use Rattle.std.specs.Prelude.{IfErr, IsErrOf, OnErr, Result, Ok, Err}
+use Rattle.made_schedules.specs.MadeTexts.{step_lines}
 use Rattle.made_schedules.specs.Making.{WritesText}
 
-module _ {R S K I O M G : Type 0} (sys : System S K I O M G) (follows : R → List (Step I) → Type 0) (progress : R → Progress I O) (inputs : Inputs I) (input_text : I → List ℕ)
+module _ {W S K I O M : Type 0} (sys : System S K I O M) (follows : W → List (Step I) → Type 0) (progress : W → Progress I O) (inputs : Inputs I) (input_text : I → List ℕ)
     (seed total : ℕ) (out : Option (List ℕ)) where
   -- so many steps that are made after these, from these random words on
   pub rest : List (Step I) → Lcg → ℕ → List (Step I)
   rest ss random n = made_from sys.net sys.meaning sys.recovery inputs (world_of sys ss) (length ss) random n
 
   -- some steps were made and their lines written, and so many are left
-  pub record Written (left : ℕ) (v : MakingView R) (out' : Option (List ℕ)) : Type 0 where
+  pub record Written (left : ℕ) (v : MakingView W) (out' : Option (List ℕ)) : Type 0 where
     pub steps : List (Step I)
     pub made : HasMade sys follows progress steps v
-    pub whole : made_of sys inputs seed total ≡ steps ++ made_from sys.net sys.meaning sys.recovery inputs (world_of sys steps) (length steps) v.random left
+    pub whole : made_on sys inputs seed total ≡ steps ++ made_from sys.net sys.meaning sys.recovery inputs (world_of sys steps) (length steps) v.random left
     pub allowed : first_refused_from sys.net sys.meaning sys.recovery (world_of sys steps) (made_from sys.net sys.meaning sys.recovery inputs (world_of sys steps) (length steps) v.random left) ≡ None
     pub written : Gained out out' (steps_text input_text steps)
     pub counted : length steps + left ≡ total
 
   -- the next step is allowed
-  pub can-step : (left n : ℕ) (v : MakingView R) (out' : Option (List ℕ)) → left ≡ suc n → Written left v out' → CanStep sys follows progress inputs v
+  pub can-step : (left n : ℕ) (v : MakingView W) (out' : Option (List ℕ)) → left ≡ suc n → Written left v out' → CanStep sys follows progress inputs v
   can-step left n v out' e w = record {
     steps = w.steps;
     made = w.made;
@@ -43,8 +49,8 @@ module _ {R S K I O M G : Type 0} (sys : System S K I O M G) (follows : R → Li
   }
 
   -- how many were taken
-  pub few-taken : (left : ℕ) (v : MakingView R) (out' : Option (List ℕ)) → Written left v out' → 0 < left → (progress v.running).taken < total
-  few-taken left v out' w some = omega (arith, w.made.ran.counted, w.counted, some)
+  pub few-taken : (left : ℕ) (v : MakingView W) (out' : Option (List ℕ)) → Written left v out' → 0 < left → (progress v.network).taken < total
+  few-taken left v out' w some = omega (arith, w.made.taken.counted, w.counted, some)
 
   pub gained-more : (o o' : Option (List ℕ)) (a b : List ℕ) → Gained out o a → Gained o o' b → Gained out o' (a ++ b)
   gained-more = go out where
@@ -57,7 +63,7 @@ module _ {R S K I O M G : Type 0} (sys : System S K I O M G) (follows : R → Li
   steps-more (t ∷ ss) s = ap (λ bs. as_line (step_text input_text t) ++ bs) (steps-more ss s) ∙ sym (append_assoc (as_line (step_text input_text t)) (steps_text input_text ss) (as_line (step_text input_text s)))
 
   -- one step more
-  pub written-more : (left n : ℕ) (v v' : MakingView R) (mid out' : Option (List ℕ)) (s : Step I) → left ≡ suc n → (w : Written left v mid)
+  pub written-more : (left n : ℕ) (v v' : MakingView W) (mid out' : Option (List ℕ)) (s : Step I) → left ≡ suc n → (w : Written left v mid)
       → s ≡ step_after sys inputs w.steps v.random → HasMade sys follows progress (w.steps ++ s ∷ []) v' → v'.random ≡ after_words v.random
       → Gained mid out' (as_line (step_text input_text s)) → Written n v' out'
   written-more left n v v' mid out' s e w is made random gained =
@@ -86,7 +92,7 @@ module _ {R S K I O M G : Type 0} (sys : System S K I O M G) (follows : R → Li
       }
 
   -- nothing is left
-  pub written-all : (v : MakingView R) (out' : Option (List ℕ)) → Written 0 v out' → Gained out out' (steps_text input_text (made_of sys inputs seed total))
+  pub written-all : (v : MakingView W) (out' : Option (List ℕ)) → Written 0 v out' → Gained out out' (steps_text input_text (made_on sys inputs seed total))
   written-all v out' w = subst (λ ss. Gained out out' (steps_text input_text ss)) (sym (w.whole ∙ append-nil w.steps)) w.written
 
   steps-append : (ss ts : List (Step I)) → steps_text input_text (ss ++ ts) ≡ steps_text input_text ss ++ steps_text input_text ts
@@ -111,8 +117,8 @@ module _ {R S K I O M G : Type 0} (sys : System S K I O M G) (follows : R → Li
       take-whole (y ∷ bs) c (suc n) = let r = take-whole bs c n in (suc r.0, ap (λ ys. y ∷ ys) r.1)
 
   -- a front of the next line is one of the whole text
-  pub front-line : (left n : ℕ) (v : MakingView R) (mid out' : Option (List ℕ)) (s : Step I) → left ≡ suc n → (w : Written left v mid) → s ≡ step_after sys inputs w.steps v.random
-      → GainedPrefix mid out' (as_line (step_text input_text s)) → GainedPrefix out out' (steps_text input_text (made_of sys inputs seed total))
+  pub front-line : (left n : ℕ) (v : MakingView W) (mid out' : Option (List ℕ)) (s : Step I) → left ≡ suc n → (w : Written left v mid) → s ≡ step_after sys inputs w.steps v.random
+      → GainedPrefix mid out' (as_line (step_text input_text s)) → GainedPrefix out out' (steps_text input_text (made_on sys inputs seed total))
   front-line left n v mid out' s e w is front =
       let ss = w.steps in
       let tail = made_from sys.net sys.meaning sys.recovery inputs (next sys.meaning sys.recovery (world_of sys ss) s) (length ss + 1) (after_words v.random) n in
@@ -123,7 +129,7 @@ module _ {R S K I O M G : Type 0} (sys : System S K I O M G) (follows : R → Li
       (front-more out mid out' (steps_text input_text ss) (as_line (step_text input_text s)) (steps_text input_text tail) w.written front)
 
   -- and where no line was begun
-  pub front-so-far : (left : ℕ) (v : MakingView R) (mid : Option (List ℕ)) → Written left v mid → GainedPrefix out mid (steps_text input_text (made_of sys inputs seed total))
+  pub front-so-far : (left : ℕ) (v : MakingView W) (mid : Option (List ℕ)) → Written left v mid → GainedPrefix out mid (steps_text input_text (made_on sys inputs seed total))
   front-so-far left v mid w =
       let ss = w.steps in
       let tail = made_from sys.net sys.meaning sys.recovery inputs (world_of sys ss) (length ss) v.random left in
@@ -166,11 +172,21 @@ module _ {A : Type 0} (a b : List ℕ) (out mid out' : Option (List ℕ)) (f f1 
     counts = omega (arith, s.counts, fs);
   }
 
+-- what is allowed of what is made for a kind is allowed on its stack
+pub ready-stack : (found : Found Kind) (n seed steps : ℕ) {P : AnyStack → Type 0}
+    → ((a : AnyStack) → a.plays.play.refused (a.made seed steps) ≡ None → P a)
+    → IfFound (found_map (λ k. makes k n) found) (λ a. a.plays.play.refused (a.made seed steps) ≡ None) → IfFound (found_map (λ k. stack k n) found) P
+ready-stack Nowhere n seed steps by none = absurd none
+ready-stack (Here (Steady l)) n seed steps by none = by (stack (Steady l) n) none
+ready-stack (Here (Clustered p)) n seed steps by none = by (stack (Clustered p) n) none
+
 -- what is said of the stack that was found is said of its text
-pub found-writes : {A : Type 0} (found : Found Entry) (text : Entry → List ℕ) (out out' : Option (List ℕ)) (f f' w w' : ℕ) (r : Result A WriteFault)
-    → IfFound found (λ e. WritesText (text e) out out' f f' w w' r) → WritesText (found_or [] text found) out out' f f' w w' r
-found-writes Nowhere text out out' f f' w w' r none = absurd none
-found-writes (Here e) text out out' f f' w w' r is = is
+pub found-writes : {A : Type 0} (found : Found Kind) (n seed steps : ℕ) (out out' : Option (List ℕ)) (f f' w w' : ℕ) (r : Result A WriteFault)
+    → IfFound (found_map (λ k. stack k n) found) (λ a. WritesText (step_lines a.plays.play a.made seed steps) out out' f f' w w' r)
+    → WritesText (found_or [] (λ a. step_lines a.plays.play a.made seed steps) (found_map (λ k. makes k n) found)) out out' f f' w w' r
+found-writes Nowhere n seed steps out out' f f' w w' r none = absurd none
+found-writes (Here (Steady l)) n seed steps out out' f f' w w' r is = is
+found-writes (Here (Clustered p)) n seed steps out out' f f' w w' r is = is
 
 -- and where the first text breaks off, nothing stands after it
 within : (xs ys : List ℕ) (n : ℕ) → (k : ℕ) × (take n xs ≡ take k (xs ++ ys))
@@ -188,3 +204,16 @@ module _ {A : Type 0} (a b : List ℕ) (out out' : Option (List ℕ)) (f f' w w'
   broken-writes (Ok x) is err fault unfailed unwanted counts = cc is
   broken-writes (Err z) is err fault unfailed unwanted counts =
       record { ok = tt; err = longer a b out out' err; fault = fault; unfailed = unfailed; unwanted = unwanted; quiet = tt; counts = counts }
+
+-- nothing is written where there is no memory for the network
+pub unwritten : {A : Type 0} (text : List ℕ) (out : Option (List ℕ)) (faults wants : ℕ) (r : Result A WriteFault) (w : WriteFault)
+    → r ≡ Err w → w ≡ line.Memory → WritesText text out out faults faults wants wants r
+unwritten text out faults wants r w is memory = subst (λ r. WritesText text out out faults faults wants wants r) (sym (is ∙ ap Err memory)) (record {
+  ok = tt;
+  err = gained-front out out [] text text refl (gained-nothing out);
+  fault = tt;
+  unfailed = λ _. refl;
+  unwanted = λ _. refl;
+  quiet = tt;
+  counts = omega arith;
+})

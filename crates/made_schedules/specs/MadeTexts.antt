@@ -5,14 +5,15 @@ use Rattle.vst_base.specs.declared.net.Net.{Net}
 use Rattle.vst_base.specs.declared.net.Net.TheVariants as net
 use Rattle.vst_base.specs.declared.stack.StackId.{StackId}
 use Rattle.vst_base.specs.declared.stack.StackRow.{StackRow}
+use Rattle.vst_base.specs.declared.step.Step.{Step}
 use Rattle.schedule_text.specs.Headers.{header_text}
 use Rattle.schedule_text.specs.Printing.{as_line, steps_text}
 use Rattle.schedule_text.specs.declared.header.Header.{Header}
 use Rattle.schedule_replay.specs.Replaying.{counts_of, no_counts}
 use Rattle.schedule_replay.specs.declared.done.Done.{Done}
 use Rattle.stacks.specs.Kinds.{header_on}
-use Rattle.stacks.specs.Stack.{AnyStack, Stack, found_or}
-use Rattle.stacks.specs.Table.{stack_at}
+use Rattle.stacks.specs.Plays.{found_or, Play}
+use Rattle.stacks.specs.Made.{AnyMade, makes_at}
 
 -- four nodes, five where they stop, so that a majority can outlive two, or as many as the stack can have
 abbrev pub wanted_nodes : Net → ℕ
@@ -27,18 +28,18 @@ made_nodes row = min (wanted_nodes row.net) row.most
 abbrev pub made_header : StackId → Header
 made_header i = header_on i (made_nodes (row_of i))
 
--- a value that the stack of that header gives, if it is in the table
-abbrev pub with_made : {B : Type 0} → B → (AnyStack → B) → StackId → B
-with_made b f i = found_or b (λ e. f (e.of (made_header i).nodes)) (stack_at (made_header i).net i)
+-- a value by what is made for a stack with that header, if it is in the table
+abbrev pub with_made : {B : Type 0} → B → (AnyMade → B) → StackId → B
+with_made b f i = found_or b f (makes_at (made_header i))
 
 -- the lines of the steps, where schedules are made by this number and have so many steps
-abbrev pub step_lines : {I O G : Type 0} → Stack I O G → ℕ → ℕ → List ℕ
-step_lines st seed steps = steps_text st.play.texts.input_text (st.made seed steps)
+abbrev pub step_lines : {I O G : Type 0} → Play I O G → (ℕ → ℕ → List (Step I)) → ℕ → ℕ → List ℕ
+step_lines p made seed steps = steps_text p.texts.input_text (made seed steps)
 
 -- the whole text
 abbrev pub made_text : StackId → ℕ → ℕ → List ℕ
-made_text i seed steps = as_line (header_text (made_header i)) ++ with_made [] (λ a. step_lines a.stack seed steps) i
+made_text i seed steps = as_line (header_text (made_header i)) ++ with_made [] (λ a. step_lines a.plays.play a.made seed steps) i
 
 -- what replaying it comes to in numbers
 abbrev pub made_counts : StackId → ℕ → ℕ → Done
-made_counts i seed steps = with_made no_counts (λ a. counts_of a.stack.play (a.stack.made seed steps)) i
+made_counts i seed steps = with_made no_counts (λ a. counts_of a.plays.play (a.made seed steps)) i

@@ -6,7 +6,8 @@ use Rattle.outside.specs.Wholes.{Gained, GainedPrefix}
 use Rattle.schedule_text.specs.Sending.{HasWriteCause}
 
 -- the sink gained the whole text, or, at a failed write or want of memory, a front of it; and no fault of the sink is hidden
-pub record WritesText {A : Type 0} (text : List ℕ) (out out' : Option (List ℕ)) (faults faults' wants wants' : ℕ) (result : Result A WriteFault) : Type 0 where
+pub record WritesText {A : Type 0} (text : List ℕ) (out out' : Option (List ℕ)) (faults faults' wants wants' : ℕ)
+    (result : Result A WriteFault) : Type 0 where
   pub ok : OnOk result (Gained out out' text)
   pub err : OnErr result (GainedPrefix out out' text)
   pub fault : IfErr result (HasWriteCause faults faults')

@@ -2,8 +2,7 @@
 use Rattle.std.proofs.Common.{◌≡◌, ℕ, ◌<◌, List, [], ◌++◌, length, get_or, set, Some, refl, ap, sym, ◌∙◌, subst}
 use Rattle.std.specs.Prelude.{slice_get, IfSome}
 use Rattle.std.proofs.lemmas.Option.{slice_get_read}
-use Rattle.handler_trait.specs.Handling.{Effect, Does}
-use Rattle.handler_trait.specs.Gathering.{Gathered}
+use Rattle.handler_trait.specs.Handling.{Effect, Does, Gathered}
 use Rattle.net_semantics.specs.Worlds.{change_at}
 use Rattle.net_semantics.specs.Taking.{Happens}
 use Rattle.net_semantics.proofs.Places.{set-change_at, change_at-there}

@@ -8,8 +8,7 @@ use Rattle.vst_base.specs.declared.net.Net.TheVariants as net
 use Rattle.vst_base.specs.declared.step.Step.{Step}
 use Rattle.vst_base.specs.declared.step.StepKind.{StepKind}
 use Rattle.vst_base.specs.declared.step.StepKind.TheVariants as kind
-use Rattle.vst_base.specs.StepViews.{StepView, AtNode, OfPacket, Stops, Starts, view_of}
-use Rattle.vst_base.specs.Nets.{has_kind, keeps_order, kind_at, kind_in, kind_of, kind_of_fate}
+use Rattle.vst_base.specs.Nets.{StepView, AtNode, OfPacket, Stops, Starts, view_of, has_kind, keeps_order, kind_at, kind_in, kind_of, kind_of_fate}
 use Rattle.net_semantics.specs.Worlds.{World, Packet, put, change_at}
 use Rattle.net_semantics.specs.Steps.{acting, acts_at, after_event, copied, delivered, delivery, fails, items_in, items_of, items_of_event, next, next_in, refusal_in, refusal_of, with_packets}
 use Rattle.net_semantics.specs.Runs.{no_recovery}

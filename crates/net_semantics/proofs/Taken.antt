@@ -5,8 +5,7 @@ use Rattle.std.specs.Prelude.{◌==◌, nat_lt, slice_get, IfSome, IsSome, if◌
 use Rattle.std.proofs.lemmas.Bool.{ne_eqb, eq-eqb, cases_eq, cases_lt, lt-ltb, false≢true}
 use Rattle.std.proofs.lemmas.Option.{IfSome_then, MatchOption-from_none, slice_get_past}
 use Rattle.handler_trait.specs.Facts.{Promises}
-use Rattle.handler_trait.specs.Handling.{Meaning, Effect, IsModest, AreSentBelow}
-use Rattle.handler_trait.specs.Gathering.{Gathered}
+use Rattle.handler_trait.specs.Handling.{Meaning, Effect, IsModest, AreSentBelow, Gathered}
 use Rattle.handler_trait.specs.declared.handlers.TheConstants.{MAX_OUTPUTS, MAX_SENDS}
 use Rattle.vst_base.specs.declared.net.Net.{Net}
 use Rattle.vst_base.specs.declared.net.Net.TheVariants as net

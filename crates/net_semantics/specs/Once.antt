@@ -1,7 +1,7 @@
 -- A schedule without its repeats: what is left where each packet is delivered once and none is copied.
 use Rattle.std.specs.Prelude.{ℕ, Bool, true, false, List, [], ◌∷◌, if◌then◌else◌}
 use Rattle.vst_base.specs.declared.step.Step.{Step}
-use Rattle.vst_base.specs.StepViews.{Fate, Delivered, Copied, Lost, StepView, AtNode, OfPacket, Stops, Starts, view_of}
+use Rattle.vst_base.specs.Nets.{Fate, Delivered, Copied, Lost, StepView, AtNode, OfPacket, Stops, Starts, view_of}
 use Rattle.net_semantics.specs.Worlds.{put}
 
 -- whether a step is left out after deliveries of these packets: every copy, and each further delivery of one of them

@@ -2,7 +2,7 @@
 use Rattle.std.specs.Prelude.{◌≡◌, Option, Some}
 use Rattle.std.proofs.Common.{refl}
 use Rattle.std.proofs.lemmas.Option.{none-some}
-use Rattle.vst_base.specs.StepViews.{Fate, Delivered, Copied, Lost}
+use Rattle.vst_base.specs.Nets.{Fate, Delivered, Copied, Lost}
 use Rattle.net_semantics.specs.Steps.{copied, delivered}
 use Rattle.net_semantics.specs.Worlds.{Packet, ends_of}
 

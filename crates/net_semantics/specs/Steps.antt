@@ -8,8 +8,7 @@ use Rattle.vst_base.specs.declared.step.Item.TheVariants as item
 use Rattle.vst_base.specs.declared.step.StepRefusal.{StepRefusal}
 use Rattle.vst_base.specs.declared.step.StepRefusal.TheVariants as refusal
 use Rattle.vst_base.specs.Firsts.{first_of}
-use Rattle.vst_base.specs.Nets.{has_kind, keeps_order, kind_in}
-use Rattle.vst_base.specs.StepViews.{Fate, Delivered, Copied, Lost, StepView, AtNode, OfPacket, Stops, Starts, view_of}
+use Rattle.vst_base.specs.Nets.{has_kind, keeps_order, kind_in, Fate, Delivered, Copied, Lost, StepView, AtNode, OfPacket, Stops, Starts, view_of}
 use Rattle.net_semantics.specs.declared.fault.StepFault.{StepFault}
 use Rattle.net_semantics.specs.declared.fault.StepFault.TheVariants as fault
 use Rattle.net_semantics.specs.Worlds.{World, Packet, put, change_at, one_more, one_less, sent_by, copies, ends}

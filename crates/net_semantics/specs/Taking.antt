@@ -1,7 +1,6 @@
 -- What one step makes of a `World`, as its parts do it.
 use Rattle.std.specs.Prelude.{◌≡◌, ◌≢◌, ℕ, ◌+◌, ◌*◌, ◌≤◌, ◌++◌, List, length, Result, IfSome, IfErr, OnOk, slice_get}
-use Rattle.handler_trait.specs.Handling.{Effect}
-use Rattle.handler_trait.specs.Gathering.{Gathered}
+use Rattle.handler_trait.specs.Handling.{Effect, Gathered}
 use Rattle.handler_trait.specs.Facts.{HandlersFacts, Promises, promises_of}
 use Rattle.handler_trait.specs.declared.handlers.TheConstants.{MAX_OUTPUTS, SPENT_MAX, STEP_COST}
 use Rattle.vst_base.specs.declared.step.Step.{Step}

@@ -1,10 +1,12 @@
 ghost use Rattle.std.specs.Prelude.{◌+◌, ◌≤◌, length};
 ghost use Rattle.vst_base.specs.declared.step.TheConstants.{MAX_STEPS};
 
+use handler_trait::Handlers;
+use net_semantics::StepFault;
 use vst_base::{Node, Step};
-use xform_stack::{Explores, RunFault};
+use xform_stack::Network;
 
-// What a running schedule tells: how many packets were sent, how many copies of the first three are in flight, between which nodes the
+// What a network tells: how many packets were sent, how many copies of the first three are in flight, between which nodes the
 // first two go, and whether a node is up.
 #[derive(Clone, Copy, PartialEq, Eq)]
 pub struct Counts {
@@ -23,39 +25,39 @@ const AT_FIRST: Counts = Counts {
 };
 
 // The source and the destination of a packet, where it was sent.
-fn ends<R: Explores>(running: &R, k: u32) -> Option<(u8, u8)> {
-    match running.ends(k) {
+fn ends<H: Handlers, W: Network<H>>(network: &W, k: u32) -> Option<(u8, u8)> {
+    match network.ends(k) {
         Some((from, to)) => Some((from.index(), to.index())),
         None => None,
     }
 }
 
-fn told<R: Explores>(running: &R, node: Node) -> Counts
-    requires { R.sound running.now }
+fn told<H: Handlers, W: Network<H>>(network: &W, node: Node) -> Counts
+    requires { W.sound network.now }
 {
     Counts {
-        sent: running.sent(),
-        copies: [running.copies(0), running.copies(1), running.copies(2)],
-        ends: [ends(running, 0), ends(running, 1)],
-        is_up: running.is_up(node),
+        sent: network.sent(),
+        copies: [network.copies(0), network.copies(1), network.copies(2)],
+        ends: [ends::<H, W>(network, 0), ends::<H, W>(network, 1)],
+        is_up: network.is_up(node),
     }
 }
 
-// Whether a schedule that takes its first steps tells this of its packets and of a node after each of them.
-pub fn tells<R: Explores>(
-    mut running: R,
+// Whether a network that takes its first steps tells this of its packets and of a node after each of them.
+pub fn tells<H: Handlers, W: Network<H>>(
+    mut network: W,
     node: Node,
-    steps: &[(Step<R::Input>, Counts)],
-) -> Result<bool, RunFault>
-    requires sound { R.sound running }
-    requires few { (R.progress running).taken + length steps.now ≤ MAX_STEPS }
+    steps: &[(Step<H::Input>, Counts)],
+) -> Result<bool, StepFault>
+    requires sound { W.sound network }
+    requires few { (W.progress network).taken + length steps.now ≤ MAX_STEPS }
 {
-    if told(&running, node) != AT_FIRST {
+    if told::<H, W>(&network, node) != AT_FIRST {
         return Ok(false);
     }
     for (step, wanted) in steps {
-        running.step(step)?;
-        if told(&running, node) != *wanted {
+        network.step(step)?;
+        if told::<H, W>(&network, node) != *wanted {
             return Ok(false);
         }
     }

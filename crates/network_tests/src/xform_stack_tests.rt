@@ -1,10 +1,11 @@
 use crate::counts::{Counts, tells};
 use lock_server::LockServer;
+use net_semantics::FailWorld;
+use raft_xform::Raft;
 use std::test::Fail;
 use vst_base::{Counter, LockInput, Net, Node, Step, StepRefusal};
 use xform_stack::{
-    Itself, Ran, RunFault, Running, RunningCluster, run_backed, run_backed_dup, run_bag, run_dup,
-    run_one,
+    Ran, RunFault, SteadyWorld, run_backed, run_backed_dup, run_bag, run_dup, run_one,
 };
 
 #[test]
@@ -69,7 +70,7 @@ fn told(sent: u32, copies: [u32; 3], ends: [Option<(u8, u8)>; 2]) -> Counts {
 #[test]
 fn the_packets_in_flight_are_counted(rt: HostRuntime) -> Result<(), Fail> {
     let server = LockServer::new(2);
-    let running = Running::<LockServer, Itself<LockInput>>::new(rt.alloc(), server, Net::Dup)?;
+    let network = SteadyWorld::new(rt.alloc(), server, Net::Dup)?;
     let client = Node::new(1, 2).unwrap();
     let (asks, answer) = (Some((1, 0)), Some((0, 1)));
     let steps = [
@@ -80,7 +81,7 @@ fn the_packets_in_flight_are_counted(rt: HostRuntime) -> Result<(), Fail> {
         (Step::Dup(0), told(1, [2, 0, 0], [asks, None])),
         (Step::Deliver(0), told(2, [1, 1, 0], [asks, answer])),
     ];
-    assert!(rt; tells(running, client, &steps)?);
+    assert!(rt; tells::<LockServer, SteadyWorld<LockServer>>(network, client, &steps)?);
     Ok(())
 }
 
@@ -97,7 +98,7 @@ fn told_of_three(copies: [u32; 3], is_up: bool) -> Counts {
 // Node 0's first packet is there twice, the second is lost, and then node 1 is down.
 #[test]
 fn what_a_failing_network_holds_is_counted(rt: HostRuntime) -> Result<(), Fail> {
-    let running = RunningCluster::new(rt.alloc(), Counter, 3)?;
+    let network = FailWorld::new(rt.alloc(), Raft::new(Counter, 3))?;
     let node = Node::new(1, 3).unwrap();
     let steps = [
         (Step::Tick(0), told_of_three([1, 1, 0], true)),
@@ -105,6 +106,6 @@ fn what_a_failing_network_holds_is_counted(rt: HostRuntime) -> Result<(), Fail> 
         (Step::Lose(1), told_of_three([2, 0, 0], true)),
         (Step::Crash(1), told_of_three([2, 0, 0], false)),
     ];
-    assert!(rt; tells(running, node, &steps)?);
+    assert!(rt; tells::<Raft<Counter>, FailWorld<Raft<Counter>>>(network, node, &steps)?);
     Ok(())
 }

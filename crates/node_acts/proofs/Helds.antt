@@ -4,7 +4,7 @@ use Rattle.std.proofs.lemmas.Bool.{and_parts, false≢true}
 use Rattle.std.proofs.lemmas.List.{take_all}
 use Rattle.disk.specs.Areas.{area_at}
 use Rattle.disk.specs.Disk.{Disk, contents}
-use Rattle.raft_types.specs.Keeping.{KeptView}
+use Rattle.raft_types.specs.Messages.{KeptView}
 use Rattle.slots.specs.Opening.{Is, named}
 use Rattle.slots.specs.SavingLaws.{Rests}
 use Rattle.slots.proofs.Images.{held_from, contents_at}

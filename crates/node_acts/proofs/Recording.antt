@@ -6,7 +6,7 @@ use Rattle.disk.specs.Areas.{area_at}
 use Rattle.disk.specs.Disk.{Disk, overwritten, after}
 use Rattle.disk.specs.Between.{Crash}
 use Rattle.disk.proofs.Between.{IsCrash}
-use Rattle.raft_types.specs.Keeping.{KeptView}
+use Rattle.raft_types.specs.Messages.{KeptView}
 use Rattle.slots.specs.Opening.{Is, named}
 use Rattle.slots.specs.SavingLaws.{Rests}
 use Rattle.slots.specs.PatchLaws.{patch_acts, TornIsEither}

@@ -10,7 +10,7 @@ use Rattle.disk.specs.DiskLaws.{IsCutShort}
 use Rattle.disk.proofs.Between.{IsCrash, by_model}
 use Rattle.disk.proofs.CutShort.{faults_add_nothing_by}
 use Rattle.disk.proofs.Disks.{settled_stays}
-use Rattle.raft_types.specs.Keeping.{KeptView}
+use Rattle.raft_types.specs.Messages.{KeptView}
 use Rattle.slots.specs.Opening.{Held, named, opening}
 use Rattle.slots.specs.Saving.{sync_acts, fresh_acts, open_acts}
 use Rattle.slots.specs.SavingLaws.{Rests}

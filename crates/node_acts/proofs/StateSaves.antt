@@ -5,7 +5,7 @@ use Rattle.disk.specs.Acts.{Act}
 use Rattle.disk.specs.Disk.{Disk, NothingPending, after, may_become}
 use Rattle.disk.specs.Between.{Crash, may_become_between}
 use Rattle.disk.proofs.Between.{IsCrash, by_model, by_between}
-use Rattle.raft_types.specs.Keeping.{KeptView}
+use Rattle.raft_types.specs.Messages.{KeptView}
 use Rattle.slots.specs.Opening.{Is, named}
 use Rattle.slots.specs.Saving.{next, save_acts}
 use Rattle.slots.specs.TurnLaws.{KeepsBy}

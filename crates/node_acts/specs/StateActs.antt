@@ -3,7 +3,7 @@ use Rattle.std.specs.Prelude.{ℕ, suc, ◌+◌, ◌-◌, ◌==◌, List, [], �
 use Rattle.disk.specs.Acts.{Act}
 use Rattle.disk.specs.Areas.{area_at}
 use Rattle.disk.specs.Disk.{Image}
-use Rattle.raft_types.specs.Keeping.{KeptView}
+use Rattle.raft_types.specs.Messages.{KeptView}
 use Rattle.slots.specs.Opening.{named}
 use Rattle.slots.specs.PatchLaws.{patch_acts}
 use Rattle.slots.specs.Saving.{next, save_acts, sync_acts, fresh_acts}

@@ -5,7 +5,7 @@ use Rattle.disk.specs.Areas.{area_at}
 use Rattle.disk.specs.Disk.{Disk, Image, contents, after}
 use Rattle.disk.specs.Between.{Crash, leaves_by, may_become_between}
 use Rattle.disk.specs.DiskLaws.{IsCutShort}
-use Rattle.raft_types.specs.Keeping.{KeptView}
+use Rattle.raft_types.specs.Messages.{KeptView}
 use Rattle.slots.specs.Opening.{Found, Fresh, Held, named, opening, OpensAs}
 use Rattle.slots.specs.Saving.{sync_acts}
 use Rattle.slots.specs.SavingLaws.{Rests}

@@ -2,7 +2,7 @@
 use Rattle.std.specs.Prelude.{◌≡◌, ℕ, suc, ◌+◌, ◌==◌, Bool, true, false, ◌&&◌, List, [], ◌∷◌, length, map, take, Option, None, Some, Result, Ok, Err, if◌then◌else◌, ◌⊎◌}
 use Rattle.disk.specs.Areas.{area_at}
 use Rattle.disk.specs.Disk.{Disk, NothingPending}
-use Rattle.raft_types.specs.Keeping.{KeptView}
+use Rattle.raft_types.specs.Messages.{KeptView}
 use Rattle.slots.specs.Opening.{Found, Is, Not, BadSlot, BadBody, BadJournal, OtherStack, OtherNode, OtherCluster, OtherName, named}
 use Rattle.slots.specs.Opening as area
 use Rattle.vst_base.specs.Entries.{EntryView}

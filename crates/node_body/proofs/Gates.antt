@@ -1,7 +1,7 @@
 -- What following the gates finds at one of them, by the answer that the whole journal has.
 use Rattle.std.proofs.Common.{◌≡◌, ℕ, zero, suc, ◌-◌, ◌%◌, List, [], ◌∷◌, length, Option, None, Some, refl, sym, ap, ◌∙◌, arith}
 use Rattle.std.proofs.lemmas.Bool.{eq-eqb, ne_eqb}
-use Rattle.raft_types.specs.Keeping.{KeptView}
+use Rattle.raft_types.specs.Messages.{KeptView}
 use Rattle.wire_fields.specs.Formats.{Format}
 use Rattle.node_body.specs.JournalLaws.{gate_closed, gate_missing, gate_open, gate_past}
 use Rattle.node_body.specs.Journals.{from_gate, go_on, journal_as, next_state}

@@ -1,6 +1,6 @@
 -- The bytes of a node's state: a mark with the version, whose state it is, and what the node keeps.
 use Rattle.std.specs.Prelude.{◌≡◌, ℕ, ◌<◌, ◌==◌, nat_lt, Bool, true, List, [], ◌∷◌, length, Option, None, Some, if◌then◌else◌}
-use Rattle.raft_types.specs.Keeping.{KeptView}
+use Rattle.raft_types.specs.Messages.{KeptView}
 use Rattle.vst_base.specs.Entries.{EntryView}
 use Rattle.vst_base.specs.declared.node.TheConstants.{MAX_NODES}
 use Rattle.vst_base.specs.declared.stack.StackId.{StackId}

@@ -1,7 +1,7 @@
 -- Slots whose bytes were worked out by hand.
 use Rattle.std.specs.Prelude.{ℕ, List, [], ◌∷◌, ◌++◌, Option, Some, None, Result}
 use Rattle.kv_machine.specs.declared.cmd.KvCmd.{KvCmd}
-use Rattle.raft_types.specs.Keeping.{KeptView}
+use Rattle.raft_types.specs.Messages.{KeptView}
 use Rattle.vst_base.specs.Entries.{EntryView}
 use Rattle.vst_base.specs.declared.stack.StackId.TheVariants as stack
 use Rattle.vst_base.specs.declared.what.What.TheVariants as what

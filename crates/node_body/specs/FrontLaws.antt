@@ -1,6 +1,6 @@
 -- A front that decides what a slot is has its first closed gate, or a body that is none.
 use Rattle.std.proofs.Common.{◌≡◌, ℕ, suc, ◌+◌, ◌-◌, Bool, true, false, List, [], ◌∷◌, ◌++◌, length, Option, None, Some, Result, Ok, Err, if◌then◌else◌, refl, sym, ap, subst, ◌∙◌, append_assoc, length-append, ◌⊎◌, inl, inr}
-use Rattle.raft_types.specs.Keeping.{KeptView}
+use Rattle.raft_types.specs.Messages.{KeptView}
 use Rattle.vst_base.specs.declared.stack.StackId.{StackId}
 use Rattle.wire_codec.specs.Headings.{stack_byte}
 use Rattle.wire_fields.specs.Formats.{Format, IsFormat}

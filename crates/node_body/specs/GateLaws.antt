@@ -1,6 +1,6 @@
 -- Where a record may follow, the last gate stands: the bytes up to it are found to be the same state.
 use Rattle.std.proofs.Common.{◌≡◌, ℕ, zero, suc, Bool, true, false, List, [], ◌∷◌, ◌++◌, length, Option, None, Some, Ok, refl, sym, ap, subst, ◌∙◌, append_assoc}
-use Rattle.raft_types.specs.Keeping.{KeptView}
+use Rattle.raft_types.specs.Messages.{KeptView}
 use Rattle.vst_base.specs.declared.stack.StackId.{StackId}
 use Rattle.wire_fields.specs.Formats.{Format, IsFormat}
 use Rattle.wire_messages.specs.Wires.{read_whole}

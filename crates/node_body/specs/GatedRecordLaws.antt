@@ -1,6 +1,6 @@
 -- What following the gates finds, by the list of the records.
 use Rattle.std.proofs.Common.{◌≡◌, ℕ, zero, suc, ◌-◌, ◌≤◌, nat_le, Bool, true, false, List, [], ◌∷◌, ◌++◌, length, Option, None, Some, if◌then◌else◌, refl, sym, ap, subst, ◌∙◌, arith, append_assoc}
-use Rattle.raft_types.specs.Keeping.{KeptView}
+use Rattle.raft_types.specs.Messages.{KeptView}
 use Rattle.wire_fields.specs.FormatLaws.{both_read, same_answer}
 use Rattle.wire_fields.specs.Formats.{Format, IsFormat, and_then}
 use Rattle.node_body.specs.GatedRecords.{AreGated, HoldsRecords, RecordsAlone, RecordsAreFound, patched_by, spell_gated}

@@ -1,6 +1,6 @@
 -- A journal by the list of its records: each after an open gate, and then a closed gate, which hides what stands after it.
 use Rattle.std.specs.Prelude.{◌≡◌, ℕ, ◌-◌, ◌≤◌, nat_le, true, false, List, [], ◌∷◌, ◌++◌, length, Some}
-use Rattle.raft_types.specs.Keeping.{KeptView}
+use Rattle.raft_types.specs.Messages.{KeptView}
 use Rattle.wire_fields.specs.Formats.{Format}
 use Rattle.node_body.specs.Journals.{from_gate, is_closed, journal_as, patched}
 use Rattle.node_body.specs.declared.journal.Journal.{Journal}

@@ -1,6 +1,6 @@
 -- What stands after a body: gates, and records after those that are open.
 use Rattle.std.specs.Prelude.{ℕ, zero, suc, ◌+◌, ◌%◌, ◌==◌, nat_le, Bool, List, [], ◌∷◌, ◌++◌, length, take, Option, None, Some, if◌then◌else◌}
-use Rattle.raft_types.specs.Keeping.{KeptView}
+use Rattle.raft_types.specs.Messages.{KeptView}
 use Rattle.raft_types.specs.declared.limits.TheConstants.{MAX_INDEX}
 use Rattle.vst_base.specs.Entries.{EntryView}
 use Rattle.wire_fields.specs.Formats.{Format, and_then, mapped, pair, tested}

@@ -1,6 +1,6 @@
 -- The bytes of a slot: a body after its length, and a journal; and what they are for a node that asks.
 use Rattle.std.specs.Prelude.{◌≡◌, ℕ, ◌==◌, nat_le, List, [], ◌∷◌, ◌++◌, length, take, drop, Option, None, Some, Result, Ok, Err, bytes_eq, if◌then◌else◌}
-use Rattle.raft_types.specs.Keeping.{KeptView}
+use Rattle.raft_types.specs.Messages.{KeptView}
 use Rattle.vst_base.specs.declared.stack.StackId.{StackId}
 use Rattle.wire_codec.specs.Headings.{stack_byte}
 use Rattle.wire_fields.specs.Fields.{number}

@@ -3,7 +3,7 @@ ghost use Rattle.node_body.specs.Bodies.{VoteAmong, body, body_of, kept_as};
 ghost use Rattle.node_body.specs.Journals.{change, change_as, spell_change};
 ghost use Rattle.node_body.specs.Slots.{base_of};
 ghost use Rattle.node_body.specs.declared.bases.TheConstants.{MAX_BASE_LEN, MAX_RECORD_LEN};
-ghost use Rattle.raft_types.specs.Ranges.{IsClusterSize, IsIndex, IsTerm};
+ghost use Rattle.raft_types.specs.Messages.{IsClusterSize, IsIndex, IsTerm};
 ghost use Rattle.vst_base.specs.declared.node.TheConstants.{MAX_NODES};
 ghost use Rattle.wire_messages.specs.EntryBytes.{entry};
 

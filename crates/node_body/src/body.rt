@@ -1,7 +1,7 @@
 ghost use Rattle.std.specs.Prelude.{◌≡◌, ◌<◌, ◌∷◌, ◌++◌, IfOk, IfSome, OnErr, OnOk, Some, length};
 ghost use Rattle.node_body.specs.Bodies.{NameFits, VoteAmong, body, body_of, kept_as, label, mark, owner, owner_of, read_body};
 ghost use Rattle.node_body.specs.VoteLaws.{MayKeep};
-ghost use Rattle.raft_types.specs.Ranges.{IsClusterSize, IsIndex, IsTerm};
+ghost use Rattle.raft_types.specs.Messages.{IsClusterSize, IsIndex, IsTerm};
 ghost use Rattle.wire_codec.specs.Headings.{stack_byte};
 ghost use Rattle.wire_fields.specs.Bytes.{number_bytes};
 ghost use Rattle.wire_fields.specs.Fields.{Reads};

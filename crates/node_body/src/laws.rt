@@ -11,7 +11,7 @@ ghost use Rattle.node_body.specs.Slots.{sized, slot_found};
 ghost use Rattle.node_body.specs.WhyLaws.{HasNoBody};
 ghost use Rattle.node_body.specs.declared.version.Version.{Version};
 ghost use Rattle.node_body.specs.declared.who.Who.{Who};
-ghost use Rattle.raft_types.specs.Keeping.{KeptView};
+ghost use Rattle.raft_types.specs.Messages.{KeptView};
 ghost use Rattle.wire_fields.specs.Formats.{IsFormat};
 
 use crate::{Commands, Why};

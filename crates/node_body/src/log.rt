@@ -1,6 +1,6 @@
 ghost use Rattle.std.specs.Prelude.{◌≡◌, ◌++◌, IfOk, IfSome, OnErr, OnOk, length};
 ghost use Rattle.node_body.specs.Bodies.{entry_in, log};
-ghost use Rattle.raft_types.specs.Ranges.{IsIndex};
+ghost use Rattle.raft_types.specs.Messages.{IsIndex};
 ghost use Rattle.wire_fields.specs.Formats.{listed};
 ghost use Rattle.wire_messages.specs.EntryBytes.{entry};
 ghost use Rattle.wire_messages.specs.Wires.{Takes, TakesBy};

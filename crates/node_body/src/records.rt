@@ -1,7 +1,7 @@
 ghost use Rattle.std.specs.Prelude.{◌≡◌, ◌≤◌, ◌+◌, ◌++◌, ℕ, IfOk, IfSome, OnErr, OnOk, length};
 ghost use Rattle.node_body.specs.Bodies.{VoteAmong, entry_in};
 ghost use Rattle.node_body.specs.Journals.{change, change_as, patched, spell_change};
-ghost use Rattle.raft_types.specs.Ranges.{IsIndex, IsTerm};
+ghost use Rattle.raft_types.specs.Messages.{IsIndex, IsTerm};
 ghost use Rattle.vst_base.specs.declared.node.TheConstants.{MAX_NODES};
 ghost use Rattle.wire_messages.specs.EntryBytes.{entry};
 ghost use Rattle.wire_messages.specs.Wires.{Takes};

@@ -7,7 +7,7 @@ use Rattle.std.proofs.lemmas.Bool.{and_parts, and_from, leb-true, le-leb}
 use Rattle.std.proofs.lemmas.Bool.Decides.{nat_tests}
 use Rattle.std.proofs.lemmas.Fmt.{digits_decimal}
 use Rattle.std.proofs.lemmas.Option.{option_and_then_some, same_Some}
-use Rattle.line_reader.specs.Cuts.{cut_at}
+use Rattle.line_reader.specs.Lines.{cut_at}
 use Rattle.line_reader.proofs.Cutting.{cut-here, cut-parts, none-from}
 use Rattle.outside.specs.declared.device.Address.{Address}
 use Rattle.schedule_text.specs.Words.{is_digit, number_up_to}

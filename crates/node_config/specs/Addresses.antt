@@ -2,7 +2,7 @@
 use Rattle.std.specs.Prelude.{◌≡◌, ℕ, zero, suc, ◌≤◌, nat_le, Bool, true, not, ◌&&◌, ◌==◌, List, [], ◌∷◌, ◌++◌, length, Option, Some, None, option_map, option_and_then, bytes_eq}
 use Rattle.std.specs.Fmt.{decimal}
 use Rattle.std.specs.List.{list_all, list_any}
-use Rattle.line_reader.specs.Cuts.{cut_at}
+use Rattle.line_reader.specs.Lines.{cut_at}
 use Rattle.outside.specs.declared.device.Address.{Address}
 use Rattle.schedule_text.specs.Words.{number_up_to}
 

@@ -13,7 +13,7 @@ use Rattle.node_device.specs.Telling.{Told}
 use Rattle.node_growth.specs.Growth.{left_by}
 use Rattle.node_growth.proofs.Growing.{left_is_common, log_continues}
 use Rattle.node_run.specs.declared.event.Event.{Event}
-use Rattle.raft_types.specs.Keeping.{KeptView}
+use Rattle.raft_types.specs.Messages.{KeptView}
 use Rattle.slots.specs.Opening.{OpensAs}
 use Rattle.slots.proofs.Turning.{rests_opens}
 use Rattle.vst_base.specs.declared.stack.StackId.{StackId}

@@ -1,7 +1,7 @@
 -- Node 0 of three, whose areas hold the first state, and what events make of it.
 use Rattle.std.specs.Prelude.{ℕ, List, [], ◌∷◌, None, Some}
 use Rattle.outside.specs.declared.device.Address.{Address}
-use Rattle.raft_types.specs.Keeping.{KeptView}
+use Rattle.raft_types.specs.Messages.{KeptView}
 use Rattle.wire_messages.specs.KvBytes.{kv_command, kv_output}
 use Rattle.node_acts.specs.Examples.{Command, knowing, state}
 use Rattle.node_acts.specs.StateActs.{first_kept}

@@ -12,7 +12,7 @@ use Rattle.node_run.specs.Settings.{later}
 use Rattle.node_run.specs.declared.event.Event.{Event}
 use Rattle.node_state.specs.Calls.{IsNodeOf}
 use Rattle.outside.specs.declared.device.Address.{Address}
-use Rattle.raft_types.specs.Keeping.{KeptView}
+use Rattle.raft_types.specs.Messages.{KeptView}
 use Rattle.raft_types.specs.declared.client.RaftOut.{RaftOut}
 use Rattle.raft_types.specs.declared.msg.RaftMsg.{RaftMsg}
 use Rattle.raft_xform.specs.Nodes.{RaftView, RaftEffect, started_with}

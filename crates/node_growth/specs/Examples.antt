@@ -3,7 +3,7 @@ use Rattle.std.specs.Prelude.{ℕ, List, [], ◌∷◌, None, codes}
 use Rattle.kv_machine.specs.Kv.{kv}
 use Rattle.kv_machine.specs.declared.cmd.KvCmd.{KvCmd}
 use Rattle.kv_machine.specs.declared.cmd.KvCmd.TheVariants as command
-use Rattle.raft_types.specs.Keeping.{KeptView}
+use Rattle.raft_types.specs.Messages.{KeptView}
 use Rattle.raft_types.specs.declared.msg.RaftMsg.TheVariants as msg
 use Rattle.raft_xform.specs.Raft.{raft_recovery}
 use Rattle.vst_base.specs.declared.what.What.TheVariants as what

@@ -2,8 +2,7 @@
 use Rattle.std.specs.Prelude.{◌≡◌, ℕ, ◌<◌, ◌≤◌, List, [], ◌∷◌, ◌++◌, length, ◌==◌, min, if◌then◌else◌, ◌⊎◌}
 use Rattle.vst_base.specs.Entries.{EntryView}
 use Rattle.vst_base.specs.Logs.{accepted}
-use Rattle.raft_types.specs.Keeping.{KeptView}
-use Rattle.raft_types.specs.Ranges.{IsIndex, IsTerm}
+use Rattle.raft_types.specs.Messages.{KeptView, IsIndex, IsTerm}
 use Rattle.raft_types.specs.declared.msg.RaftMsg.TheVariants as msg
 use Rattle.raft_xform.specs.Replicating.{last_new}
 use Rattle.raft_xform.specs.Sound.{IsInRange}

@@ -2,7 +2,7 @@
 use Rattle.std.proofs.Common.{◌≡◌, ℕ, ◌+◌, ◌-◌, Bool, true, false, List, [], ◌∷◌, ◌++◌, length, refl, sym, ap, subst, ◌∙◌, append_assoc, if◌then◌else◌, ◌==◌}
 use Rattle.disk.specs.Acts.{Act}
 use Rattle.disk.specs.Disk.{after}
-use Rattle.raft_types.specs.Keeping.{KeptView}
+use Rattle.raft_types.specs.Messages.{KeptView}
 use Rattle.slots.specs.Opening.{Found}
 use Rattle.slots.specs.Saving.{next}
 use Rattle.slots.proofs.Elsewhere.{after_append}

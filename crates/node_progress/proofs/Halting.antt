@@ -4,7 +4,7 @@ use Rattle.std.proofs.lemmas.List.{append-nil}
 use Rattle.disk.specs.Acts.{Act}
 use Rattle.disk.specs.Disk.{Disk}
 use Rattle.disk.specs.DiskLaws.{IsCutShort}
-use Rattle.raft_types.specs.Keeping.{KeptView}
+use Rattle.raft_types.specs.Messages.{KeptView}
 use Rattle.slots.specs.Opening.{Found}
 use Rattle.slots.specs.Turns.{Says, datagrams}
 use Rattle.vst_base.specs.Machines.{MachineMeaning}

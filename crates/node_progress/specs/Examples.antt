@@ -5,7 +5,7 @@ use Rattle.disk.specs.Disk.{settled}
 use Rattle.kv_machine.specs.Kv.{Store, kv}
 use Rattle.kv_machine.specs.declared.cmd.KvCmd.{KvCmd}
 use Rattle.kv_machine.specs.declared.out.KvOut.{KvOut}
-use Rattle.raft_types.specs.Keeping.{KeptView}
+use Rattle.raft_types.specs.Messages.{KeptView}
 use Rattle.raft_xform.specs.Raft.{raft_recovery}
 use Rattle.vst_base.specs.declared.stack.StackId.TheVariants as stack
 use Rattle.wire_messages.specs.KvBytes.{kv_command, kv_output}

@@ -2,7 +2,7 @@
 use Rattle.std.specs.Prelude.{◌≡◌, ℕ, ◌+◌, ◌≤◌, List, [], ◌∷◌, ◌++◌, length}
 use Rattle.disk.specs.Acts.{Act, Now}
 use Rattle.disk.specs.DiskLaws.{IsCutShort}
-use Rattle.raft_types.specs.Keeping.{KeptView}
+use Rattle.raft_types.specs.Messages.{KeptView}
 use Rattle.raft_xform.specs.Raft.{raft_recovery}
 use Rattle.slots.specs.Turns.{Says, datagrams}
 use Rattle.vst_base.specs.Machines.{MachineMeaning}

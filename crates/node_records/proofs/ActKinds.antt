@@ -3,7 +3,7 @@ use Rattle.std.proofs.Common.{◌≡◌, Bool, true, false, List, [], ◌∷◌,
 use Rattle.disk.specs.Acts.{Act, Now, Took, Quiet, ReceiveFailed, Sent, SendFailed, Wrote, Cut, Synced, StoreFailed}
 use Rattle.disk.specs.Disk.{Disk, effect, after}
 use Rattle.disk.specs.DiskLaws.{Fails, IsReadFault, IsCutShort}
-use Rattle.raft_types.specs.Keeping.{KeptView}
+use Rattle.raft_types.specs.Messages.{KeptView}
 use Rattle.slots.specs.Opening.{named}
 use Rattle.slots.specs.Saving.{save_acts}
 use Rattle.slots.specs.Turns.{Hears, Says, OnAreas, datagrams}

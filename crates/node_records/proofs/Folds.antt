@@ -2,7 +2,7 @@
 use Rattle.std.proofs.Common.{◌≡◌, ◌+◌, List, [], ◌∷◌, ◌++◌, refl, sym, ap, ◌∙◌, append_assoc, arith}
 use Rattle.disk.specs.Acts.{Act}
 use Rattle.disk.specs.Disk.{Disk}
-use Rattle.raft_types.specs.Keeping.{KeptView}
+use Rattle.raft_types.specs.Messages.{KeptView}
 use Rattle.slots.proofs.Elsewhere.{after_append}
 use Rattle.vst_base.specs.Machines.{MachineMeaning}
 use Rattle.vst_base.specs.declared.stack.StackId.{StackId}

@@ -7,7 +7,7 @@ use Rattle.disk.specs.Acts.{Act}
 use Rattle.disk.specs.Disk.{Disk, Image, after, may_hold, may_leave}
 use Rattle.disk.specs.DiskLaws.{IsCutShort}
 use Rattle.disk.proofs.CutShort.{faults_add_nothing, fronts_are_cut_short}
-use Rattle.raft_types.specs.Keeping.{KeptView}
+use Rattle.raft_types.specs.Messages.{KeptView}
 use Rattle.slots.specs.Opening.{Found, OpensAs}
 use Rattle.slots.specs.SavingLaws.{Rests}
 use Rattle.slots.specs.Turns.{Hears, Says, OnAreas, datagrams}

@@ -4,7 +4,7 @@ use Rattle.disk.specs.Acts.{Act, Now, Took, Sent, Wrote, Synced}
 use Rattle.disk.specs.Disk.{Disk, Image, settled}
 use Rattle.kv_machine.specs.Kv.{kv}
 use Rattle.kv_machine.specs.declared.cmd.KvCmd.{KvCmd}
-use Rattle.raft_types.specs.Keeping.{KeptView}
+use Rattle.raft_types.specs.Messages.{KeptView}
 use Rattle.slots.specs.Opening.{Found, Is}
 use Rattle.wire_messages.specs.KvBytes.{kv_command, kv_output}
 use Rattle.node_body.specs.Examples.{vote_record}

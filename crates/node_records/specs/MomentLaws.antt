@@ -3,7 +3,7 @@ use Rattle.std.specs.Prelude.{◌≡◌, ℕ, true, List, [], ◌∷◌, ◌++�
 use Rattle.disk.specs.Acts.{Act}
 use Rattle.disk.specs.Disk.{Disk, Image, after, may_leave}
 use Rattle.disk.specs.DiskLaws.{IsCutShort}
-use Rattle.raft_types.specs.Keeping.{KeptView}
+use Rattle.raft_types.specs.Messages.{KeptView}
 use Rattle.slots.specs.Opening.{Found, OpensAs}
 use Rattle.slots.specs.SavingLaws.{Rests}
 use Rattle.slots.specs.Turns.{Says, datagrams}

@@ -2,7 +2,7 @@
 use Rattle.std.specs.Prelude.{◌≡◌, ℕ, suc, ◌-◌, ◌≤◌, nat_le, true, List, [], ◌∷◌, length, take, ◌⊎◌, if◌then◌else◌}
 use Rattle.disk.specs.Acts.{Act}
 use Rattle.disk.specs.Disk.{Disk, Image, may_leave}
-use Rattle.raft_types.specs.Keeping.{KeptView}
+use Rattle.raft_types.specs.Messages.{KeptView}
 use Rattle.slots.specs.Opening.{Found, OpensAs}
 use Rattle.slots.specs.Turns.{datagrams}
 use Rattle.vst_base.specs.Machines.{MachineMeaning}

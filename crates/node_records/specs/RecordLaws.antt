@@ -4,7 +4,7 @@ use Rattle.outside.specs.declared.device.Address.{Address}
 use Rattle.disk.specs.Acts.{Act, Now, Took, Quiet, ReceiveFailed}
 use Rattle.disk.specs.Disk.{Disk, after}
 use Rattle.disk.specs.DiskLaws.{IsCutShort}
-use Rattle.raft_types.specs.Keeping.{KeptView}
+use Rattle.raft_types.specs.Messages.{KeptView}
 use Rattle.slots.specs.Turns.{Says, datagrams}
 use Rattle.vst_base.specs.Machines.{MachineMeaning}
 use Rattle.wire_fields.specs.Formats.{Format}

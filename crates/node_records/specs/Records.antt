@@ -2,7 +2,7 @@
 use Rattle.std.specs.Prelude.{◌≡◌, ℕ, ◌≤◌, Bool, true, false, ◌||◌, List, [], ◌∷◌, ◌++◌, if◌then◌else◌}
 use Rattle.disk.specs.Acts.{Act, Began, BeginFailed, Now, ReceiveFailed, Wrote, Cut, Synced, StoreFailed}
 use Rattle.disk.specs.DiskLaws.{IsCutShort}
-use Rattle.raft_types.specs.Keeping.{KeptView}
+use Rattle.raft_types.specs.Messages.{KeptView}
 use Rattle.slots.specs.Turns.{Hears, datagrams}
 use Rattle.vst_base.specs.Machines.{MachineMeaning}
 use Rattle.vst_base.specs.declared.stack.StackId.{StackId}

@@ -2,7 +2,7 @@
 use Rattle.std.specs.Prelude.{◌≡◌, ℕ, ◌+◌, List, [], ◌∷◌, ◌++◌, length, Option, Some, None}
 use Rattle.outside.specs.declared.device.Address.{Address}
 use Rattle.disk.specs.Acts.{Act, Now, Took, Quiet, ReceiveFailed}
-use Rattle.raft_types.specs.Keeping.{KeptView}
+use Rattle.raft_types.specs.Messages.{KeptView}
 use Rattle.raft_xform.specs.Nodes.{RaftView, RaftEffect, is_leader}
 use Rattle.raft_xform.specs.Raft.{raft, raft_recovery}
 use Rattle.vst_base.specs.Machines.{MachineMeaning}

@@ -3,7 +3,7 @@ use Rattle.std.proofs.Common.{◌≡◌, ◌≤◌, true, false, List, [], ◌++
 use Rattle.disk.specs.Acts.{Act}
 use Rattle.disk.specs.Disk.{may_leave}
 use Rattle.disk.proofs.CutShort.{fronts_are_cut_short}
-use Rattle.raft_types.specs.Keeping.{KeptView}
+use Rattle.raft_types.specs.Messages.{KeptView}
 use Rattle.slots.proofs.Elsewhere.{take_none}
 use Rattle.slots.proofs.Turning.{rests_opens, shorts}
 use Rattle.vst_base.specs.declared.stack.StackId.{StackId}

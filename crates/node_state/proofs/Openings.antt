@@ -5,7 +5,7 @@ use Rattle.disk.specs.Areas.{area_at}
 use Rattle.disk.specs.Disk.{contents}
 use Rattle.disk.specs.DiskLaws.{IsCutShort}
 use Rattle.disk.proofs.CutShort.{fronts_are_cut_short}
-use Rattle.raft_types.specs.Keeping.{KeptView}
+use Rattle.raft_types.specs.Messages.{KeptView}
 use Rattle.slots.specs.Opening.{Not, Refused, by_selector, named, opening}
 use Rattle.slots.specs.Opening.{opened as slots_opened}
 use Rattle.slots.specs.Opening as area

@@ -1,7 +1,7 @@
 -- After a save the store knows the state.
 use Rattle.std.proofs.Common.{◌≡◌, ℕ, suc, ◌+◌, ◌-◌, ◌%◌, Bool, true, false, nat_eq, List, [], ◌∷◌, length, Result, Ok, Err, OnOk, refl, sym, subst, if◌then◌else◌, eqb-true, arith}
 use Rattle.std.proofs.lemmas.Bool.{and_parts}
-use Rattle.raft_types.specs.Keeping.{KeptView}
+use Rattle.raft_types.specs.Messages.{KeptView}
 use Rattle.vst_base.specs.Entries.{EntryView}
 use Rattle.vst_base.specs.declared.stack.StackId.{StackId}
 use Rattle.wire_fields.specs.Formats.{Format}

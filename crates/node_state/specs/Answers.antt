@@ -4,7 +4,7 @@ use Rattle.outside.specs.Counting.{Rose}
 use Rattle.disk.specs.Acts.{Act}
 use Rattle.disk.specs.Areas.{area_at}
 use Rattle.disk.specs.Disk.{contents}
-use Rattle.raft_types.specs.Keeping.{KeptView}
+use Rattle.raft_types.specs.Messages.{KeptView}
 use Rattle.slots.specs.Opening.{Opening, Fresh, Held, BadSelector, named}
 use Rattle.slots.specs.Opening as area
 use Rattle.vst_base.specs.declared.stack.StackId.{StackId}

@@ -1,7 +1,7 @@
 -- What calls on a node's state need, and what they do to the counts of faults and of wants.
 use Rattle.std.specs.Prelude.{◌≡◌, ℕ, ◌<◌, Result, Ok, Err, ◌⊎◌}
 use Rattle.outside.specs.Counting.{Rose}
-use Rattle.raft_types.specs.Ranges.{IsClusterSize}
+use Rattle.raft_types.specs.Messages.{IsClusterSize}
 use Rattle.vst_base.specs.declared.stack.StackId.{StackId}
 use Rattle.node_body.specs.declared.who.Who.{Who}
 use Rattle.node_device.specs.Faults.{Faults, CountsStore}

@@ -2,7 +2,7 @@
 use Rattle.std.specs.Prelude.{◌≡◌, ℕ, true, List, ◌++◌, take, Option, ◌⊎◌}
 use Rattle.disk.specs.Acts.{Act}
 use Rattle.disk.specs.Disk.{Image, may_leave}
-use Rattle.raft_types.specs.Keeping.{KeptView}
+use Rattle.raft_types.specs.Messages.{KeptView}
 use Rattle.slots.specs.Opening.{OpensAs}
 use Rattle.slots.specs.Saving.{sync_acts}
 use Rattle.vst_base.specs.declared.stack.StackId.{StackId}

@@ -1,7 +1,7 @@
 -- Where the journal of the named slot goes on after what makes a state durable.
 use Rattle.std.specs.Prelude.{◌≡◌, ◌≢◌, ℕ, ◌+◌, ◌-◌, ◌==◌, List, [], ◌∷◌, ◌++◌, length, drop, if◌then◌else◌}
 use Rattle.disk.specs.Acts.{Act}
-use Rattle.raft_types.specs.Keeping.{KeptView}
+use Rattle.raft_types.specs.Messages.{KeptView}
 use Rattle.slots.specs.Opening.{named}
 use Rattle.slots.specs.Saving.{next, save_acts}
 use Rattle.vst_base.specs.declared.stack.StackId.{StackId}

@@ -1,7 +1,7 @@
 -- Node 0 of three on areas that were worked out by hand, and what is said of its openings and saves.
 use Rattle.std.specs.Prelude.{ℕ, List, [], ◌∷◌, ◌++◌}
 use Rattle.disk.specs.Acts.{Act}
-use Rattle.raft_types.specs.Keeping.{KeptView}
+use Rattle.raft_types.specs.Messages.{KeptView}
 use Rattle.vst_base.specs.declared.stack.StackId.TheVariants as stack
 use Rattle.wire_messages.specs.KvBytes.{kv_command}
 use Rattle.wire_messages.specs.TableBytes.{table_command}

@@ -10,7 +10,7 @@ ghost use Rattle.node_device.specs.Telling.{Did, StoppedIn, WhereTold};
 ghost use Rattle.node_state.specs.Calls.{GrowsFirst, IsNodeOf, StateCounts};
 ghost use Rattle.node_state.specs.Crashes.{IsHeldBefore, LeavesEither, Saves, StoppedWith};
 ghost use Rattle.node_state.specs.Ends.{NewFits, new_acts, new_end};
-ghost use Rattle.raft_types.specs.Ranges.{IsIndex, IsTerm};
+ghost use Rattle.raft_types.specs.Messages.{IsIndex, IsTerm};
 ghost use Rattle.slots.specs.Opening.{named};
 ghost use Rattle.slots.specs.Saving.{next, save_acts};
 ghost use Rattle.vst_base.specs.declared.node.TheConstants.{MAX_NODES};

@@ -8,7 +8,7 @@ ghost use Rattle.node_device.specs.Telling.{Did};
 ghost use Rattle.node_state.specs.Calls.{GrowsFirst, IsNodeOf, StateCounts};
 ghost use Rattle.node_state.specs.Crashes.{StoppedWith};
 ghost use Rattle.node_state.specs.Ends.{NewFits, end_of, new_acts, new_end};
-ghost use Rattle.raft_types.specs.Ranges.{IsIndex, IsTerm};
+ghost use Rattle.raft_types.specs.Messages.{IsIndex, IsTerm};
 
 use crate::StateFault;
 use crate::common::{common, terms_of};

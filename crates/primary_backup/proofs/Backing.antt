@@ -16,8 +16,7 @@ use Rattle.net_semantics.specs.Steps.{Event, next, refusal_of, items_of, items_o
 use Rattle.net_semantics.specs.Runs.{IsAllowed, run, run_from, trace, trace_from, first_refused_from}
 use Rattle.net_semantics.specs.RunLaws.{place_and_why-none}
 use Rattle.net_semantics.specs.BelowPb.{IsExplainedBy}
-use Rattle.primary_backup.specs.Backed.{Backed}
-use Rattle.primary_backup.specs.Backup.{BackupEffect, stays, apply_of, asked, acked, applied, redirected, backup_message, primary_backup}
+use Rattle.primary_backup.specs.Backup.{Backed, BackupEffect, stays, apply_of, asked, acked, applied, redirected, backup_message, primary_backup}
 use Rattle.primary_backup.specs.Followed.{AreFollowing}
 use Rattle.primary_backup.proofs.Flying.{in_flight, in_flight-send, IsTaken, taken, none_taken, one_taken}
 use Rattle.primary_backup.proofs.Seen.{MaySee, see_input, see_reply, see_redirect, see_nothing, explained, following}

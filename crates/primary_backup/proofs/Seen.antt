@@ -6,7 +6,7 @@ use Rattle.vst_base.specs.declared.pb_out.PbOut.TheVariants as told
 use Rattle.vst_base.specs.declared.step.Item.{Item}
 use Rattle.vst_base.specs.declared.step.Item.TheVariants as item
 use Rattle.net_semantics.specs.BelowPb.{inputs_at, outputs_at, IsExplainedBy, RedirectsAtOnce, Redirects, OnlyRedirects}
-use Rattle.primary_backup.specs.Backed.{Backed}
+use Rattle.primary_backup.specs.Backup.{Backed}
 use Rattle.primary_backup.specs.Followed.{replies, AreFollowing}
 
 pub no_cut : {X : Type 0} (before after : List X) (x : X) → [] ≡ before ++ x ∷ after → ⊥

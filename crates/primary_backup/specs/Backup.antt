@@ -6,7 +6,12 @@ use Rattle.vst_base.specs.declared.pb_msg.PbMsg.{PbMsg}
 use Rattle.vst_base.specs.declared.pb_msg.PbMsg.TheVariants as msg
 use Rattle.vst_base.specs.declared.pb_out.PbOut.{PbOut}
 use Rattle.vst_base.specs.declared.pb_out.PbOut.TheVariants as told
-use Rattle.primary_backup.specs.Backed.{Backed}
+
+-- the machine's state, the request that is out, if one is, and those that wait after it
+pub record Backed (S C : Type 0) : Type 0 where
+  pub machine : S
+  pub out : Option C
+  pub waiting : List C
 
 abbrev pub BackupEffect : Type 0 → Type 0 → Type 0 → Type 0
 BackupEffect S C O = Effect (Backed S C) (PbOut O) (PbMsg C)

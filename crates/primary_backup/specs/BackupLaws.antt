@@ -5,8 +5,7 @@ use Rattle.handler_trait.specs.Handling.{IsModest, AreSentBelow}
 use Rattle.vst_base.specs.Machines.{MachineMeaning}
 use Rattle.vst_base.specs.declared.pb_msg.PbMsg.{PbMsg}
 use Rattle.vst_base.specs.declared.pb_msg.PbMsg.TheVariants as msg
-use Rattle.primary_backup.specs.Backed.{Backed}
-use Rattle.primary_backup.specs.Backup.{BackupEffect, stays, apply_of, asked, acked, applied, redirected, primary_backup}
+use Rattle.primary_backup.specs.Backup.{Backed, BackupEffect, stays, apply_of, asked, acked, applied, redirected, primary_backup}
 
 few-next : {C : Type 0} (o : Option C) → AreSentBelow 2 (apply_of o)
 few-next None = tt

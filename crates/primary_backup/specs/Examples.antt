@@ -2,7 +2,7 @@
 use Rattle.std.specs.Prelude.{ℕ, ◌==◌, List, [], ◌∷◌, None, if◌then◌else◌}
 use Rattle.vst_base.specs.declared.step.Step.{Step}
 use Rattle.vst_base.specs.declared.step.Step.TheVariants as step
-use Rattle.primary_backup.specs.Backed.{Backed}
+use Rattle.primary_backup.specs.Backup.{Backed}
 
 -- three commands at the primary, of which two are acknowledged and the third is applied by the backup, and one at the backup
 abbrev pub three_commands : List (Step ℕ)

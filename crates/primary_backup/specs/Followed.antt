@@ -4,7 +4,7 @@ use Rattle.vst_base.specs.Machines.{MachineMeaning, state_after}
 use Rattle.vst_base.specs.declared.pb_out.PbOut.{PbOut}
 use Rattle.vst_base.specs.declared.step.Item.{Item}
 use Rattle.net_semantics.specs.BelowPb.{replies_in, inputs_at, outputs_at}
-use Rattle.primary_backup.specs.Backed.{Backed}
+use Rattle.primary_backup.specs.Backup.{Backed}
 
 -- how often the primary replied
 abbrev pub replies : {C O : Type 0} → List (Item C (PbOut O)) → ℕ

@@ -1,4 +1,3 @@
-pub mod Backed
 pub mod Backup
 pub mod BackupLaws
 pub mod Examples

@@ -2,8 +2,7 @@ ghost use Rattle.std.specs.Prelude.{◌≡◌, ℕ, [], ◌∷◌, Some, None};
 ghost use Rattle.net_semantics.specs.BelowPb.{IsExplainedBy, below_pb};
 ghost use Rattle.net_semantics.specs.Echo.{adder};
 ghost use Rattle.net_semantics.specs.Runs.{IsAllowed, no_recovery, trace};
-ghost use Rattle.primary_backup.specs.Backed.{Backed};
-ghost use Rattle.primary_backup.specs.Backup.{primary_backup};
+ghost use Rattle.primary_backup.specs.Backup.{Backed, primary_backup};
 ghost use Rattle.primary_backup.specs.Examples.{nodes_with, three_commands};
 ghost use Rattle.primary_backup.specs.Followed.{AreFollowing};
 

@@ -1,8 +1,7 @@
 ghost use Rattle.std.specs.Prelude.{List};
 ghost use Rattle.net_semantics.specs.BelowPb.{IsExplainedBy};
 ghost use Rattle.net_semantics.specs.Runs.{IsAllowed, no_recovery, run, trace};
-ghost use Rattle.primary_backup.specs.Backed.{Backed};
-ghost use Rattle.primary_backup.specs.Backup.{primary_backup};
+ghost use Rattle.primary_backup.specs.Backup.{Backed, primary_backup};
 ghost use Rattle.primary_backup.specs.Followed.{AreFollowing};
 ghost use Rattle.vst_base.specs.Machines.{MachineMeaning};
 ghost use Rattle.vst_base.specs.declared.step.Step.{Step};

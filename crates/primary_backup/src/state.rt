@@ -10,7 +10,7 @@ pub struct PbState<S, C> {
 }
 
 impl<S, C> Model for PbState<S, C> {
-    ghost use Rattle.primary_backup.specs.Backed.{Backed};
+    ghost use Rattle.primary_backup.specs.Backup.{Backed};
 
     ghost Value = { Backed S C };
 

@@ -11,9 +11,8 @@ use Rattle.vst_base.specs.declared.entry.Entry.{Entry}
 use Rattle.raft_clients.proofs.Executing.{applied_new, applied_old, from_request, kept, next, noted, outcomes, told}
 use Rattle.raft_clients.proofs.Known.{Knows, knows_kept, knows_passed, session_of}
 use Rattle.raft_clients.proofs.Views.{get-written}
-use Rattle.raft_clients.specs.Executed.{executed_after}
+use Rattle.raft_clients.specs.Executed.{executed_after, request_of, requests}
 use Rattle.raft_clients.specs.Executions.{IsAnswered, IsExecution}
-use Rattle.raft_clients.specs.Requests.{request_of, requests}
 use Rattle.raft_clients.specs.Sessions.{Sessions, answer, applied_all, is_new}
 use Rattle.raft_clients.specs.declared.session.Session.{Session}
 use Rattle.raft_types.specs.declared.client.RaftInput.{RaftInput}

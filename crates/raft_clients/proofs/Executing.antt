@@ -7,9 +7,8 @@ use Rattle.vst_base.specs.Machines.{MachineMeaning, outputs_from, state_after}
 use Rattle.vst_base.specs.declared.entry.Entry.{Entry}
 use Rattle.raft_clients.proofs.Known.{Knows, knows_kept, knows_passed, session_of}
 use Rattle.raft_clients.proofs.Views.{get-written}
-use Rattle.raft_clients.specs.Executed.{executed_after}
+use Rattle.raft_clients.specs.Executed.{executed_after, commands, request_of, requests}
 use Rattle.raft_clients.specs.Executions.{last_session}
-use Rattle.raft_clients.specs.Requests.{commands, request_of, requests}
 use Rattle.raft_clients.specs.Sessions.{AppliedAll, Sessions, applied_all, applied_by, applied_request, executes, is_new, kept_output, passes, with_answer}
 use Rattle.raft_clients.specs.declared.session.Session.{Session}
 use Rattle.raft_types.specs.declared.client.RaftInput.{RaftInput}

@@ -7,8 +7,7 @@ use Rattle.std.specs.List.{cons_option, enumerate_from}
 use Rattle.std.specs.Option.{option_to_list}
 use Rattle.vst_base.specs.declared.entry.Entry.{Entry}
 use Rattle.raft_clients.proofs.Known.{Knows, knows_kept, knows_passed, session_of}
-use Rattle.raft_clients.specs.Executed.{executed_after, executed_places, is_executed}
-use Rattle.raft_clients.specs.Requests.{request_of, requests}
+use Rattle.raft_clients.specs.Executed.{executed_after, executed_places, is_executed, request_of, requests}
 use Rattle.raft_clients.specs.Sessions.{Sessions, is_new}
 use Rattle.raft_types.specs.declared.client.RaftInput.{RaftInput}
 

@@ -8,8 +8,7 @@ use Rattle.std.proofs.lemmas.List.Folds.{list_all-append}
 use Rattle.std.specs.List.{All, AllPairs, cons_option, enumerate_from, filter_map, slice_get}
 use Rattle.std.specs.Option.{option_to_list}
 use Rattle.vst_base.specs.declared.entry.Entry.{Entry}
-use Rattle.raft_clients.specs.Executed.{exceeds, executed, executed_after, executed_entries, executed_places, is_executed}
-use Rattle.raft_clients.specs.Requests.{request_of, requests}
+use Rattle.raft_clients.specs.Executed.{exceeds, executed, executed_after, executed_entries, executed_places, is_executed, request_of, requests}
 use Rattle.raft_types.specs.declared.client.RaftInput.{RaftInput}
 use Rattle.lists.specs.Places.{slice_get_seam}
 

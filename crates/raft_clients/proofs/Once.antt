@@ -10,9 +10,8 @@ use Rattle.vst_base.specs.declared.entry.Entry.{Entry}
 use Rattle.raft_clients.proofs.Answering.{answers_all, held_none}
 use Rattle.raft_clients.proofs.Executing.{Executes, executes_all}
 use Rattle.raft_clients.proofs.Known.{knows_none}
-use Rattle.raft_clients.specs.Executed.{executed}
+use Rattle.raft_clients.specs.Executed.{executed, commands, requests}
 use Rattle.raft_clients.specs.Executions.{IsAnswered, executions, last_session}
-use Rattle.raft_clients.specs.Requests.{commands, requests}
 use Rattle.raft_clients.specs.Sessions.{AppliedAll, Sessions, answer, applied, applied_after, applied_all, with_answer}
 
 or_none : {A : Type 0} (o : Option A) → option_or o None ≡ o

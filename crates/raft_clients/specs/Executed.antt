@@ -1,10 +1,28 @@
--- Which requests are executed. It knows nothing of machines and sessions.
+-- What clients ask for by a log, and which requests are executed. It knows nothing of machines and sessions.
 use Rattle.std.specs.Prelude.{ℕ, Bool, false, not, ◌||◌, List, [], ◌∷◌, ◌++◌, Option, Some, None, map, nat_lt, ◌==◌, if◌then◌else◌}
-use Rattle.std.specs.List.{enumerate_from, list_all}
+use Rattle.std.specs.List.{enumerate_from, list_all, filter_map}
 use Rattle.std.specs.Option.{option_to_list}
 use Rattle.vst_base.specs.declared.entry.Entry.{Entry}
-use Rattle.raft_clients.specs.Requests.{request_of}
 use Rattle.raft_types.specs.declared.client.RaftInput.{RaftInput}
+use Rattle.vst_base.specs.declared.what.What.{What}
+use Rattle.vst_base.specs.declared.what.What.TheVariants.{Noop, Request}
+
+-- what a client asks for by what an entry holds
+abbrev pub asked_by : {C : Type 0} → What C → Option (RaftInput C)
+asked_by Noop = None
+asked_by (Request client request origin cmd) = Some (record { client = client; request = request; cmd = cmd })
+
+-- the request of an entry, if it holds one
+abbrev pub request_of : {C : Type 0} → Entry C → Option (RaftInput C)
+request_of e = asked_by e.what
+
+-- the requests of a log, in order
+abbrev pub requests : {C : Type 0} → List (Entry C) → List (RaftInput C)
+requests es = filter_map request_of es
+
+-- what they ask of the machine
+abbrev pub commands : {C : Type 0} → List (RaftInput C) → List C
+commands rs = map (λ r. r.cmd) rs
 
 -- whether a request number of the client exceeds each of its numbers in these requests
 abbrev pub exceeds : {C : Type 0} → List (RaftInput C) → ℕ → ℕ → Bool

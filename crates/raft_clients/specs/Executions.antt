@@ -4,8 +4,7 @@ use Rattle.std.specs.List.{zip}
 use Rattle.std.specs.Option.{option_or}
 use Rattle.vst_base.specs.Machines.{MachineMeaning, fold}
 use Rattle.vst_base.specs.declared.entry.Entry.{Entry}
-use Rattle.raft_clients.specs.Executed.{executed}
-use Rattle.raft_clients.specs.Requests.{commands, request_of}
+use Rattle.raft_clients.specs.Executed.{executed, commands, request_of}
 use Rattle.raft_clients.specs.declared.session.Session.{Session}
 use Rattle.raft_types.specs.declared.client.RaftInput.{RaftInput}
 

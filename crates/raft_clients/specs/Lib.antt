@@ -1,5 +1,4 @@
 pub mod Examples
 pub mod Executed
 pub mod Executions
-pub mod Requests
 pub mod Sessions

@@ -6,7 +6,7 @@ use Rattle.std.specs.FinMap.{FinMap, code, get, insert}
 use Rattle.std.specs.Ordering.{nat_cmp}
 use Rattle.vst_base.specs.Machines.{MachineMeaning}
 use Rattle.vst_base.specs.declared.entry.Entry.{Entry}
-use Rattle.raft_clients.specs.Requests.{request_of}
+use Rattle.raft_clients.specs.Executed.{request_of}
 use Rattle.raft_clients.specs.declared.session.Session.{Session}
 use Rattle.raft_types.specs.declared.client.RaftInput.{RaftInput}
 

@@ -2,9 +2,8 @@ ghost use Rattle.std.specs.Prelude.{◌≡◌, ℕ, [], ◌∷◌, Some, None};
 ghost use Rattle.std.specs.FinMap as finite;
 ghost use Rattle.vst_base.specs.Examples.{counter};
 ghost use Rattle.raft_clients.specs.Examples.{asked, asks, noop, one_client, session, two_clients};
-ghost use Rattle.raft_clients.specs.Executed.{executed, executed_entries, executed_places};
+ghost use Rattle.raft_clients.specs.Executed.{executed, executed_entries, executed_places, requests};
 ghost use Rattle.raft_clients.specs.Executions.{executions, last_session};
-ghost use Rattle.raft_clients.specs.Requests.{requests};
 ghost use Rattle.raft_clients.specs.Sessions.{applied, applied_all, passes};
 
 /// What one entry does with a machine that adds each command and answers with the sum before.

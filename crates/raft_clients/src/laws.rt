@@ -3,9 +3,8 @@ ghost use Rattle.std.specs.FinMap as finite;
 ghost use Rattle.std.specs.List.{All, AllPairs};
 ghost use Rattle.vst_base.specs.Machines.{MachineMeaning, state_after};
 ghost use Rattle.vst_base.specs.declared.entry.Entry.{Entry};
-ghost use Rattle.raft_clients.specs.Executed.{executed, executed_after, executed_entries, executed_places};
+ghost use Rattle.raft_clients.specs.Executed.{executed, executed_after, executed_entries, executed_places, commands, request_of, requests};
 ghost use Rattle.raft_clients.specs.Executions.{IsAnswered, executions, last_session};
-ghost use Rattle.raft_clients.specs.Requests.{commands, request_of, requests};
 ghost use Rattle.raft_clients.specs.Sessions.{Sessions, applied_after, applied_all};
 ghost use Rattle.raft_types.specs.declared.client.RaftInput.{RaftInput};
 

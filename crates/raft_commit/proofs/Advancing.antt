@@ -1,9 +1,8 @@
 -- How far a leader may commit, from the greatest index that most nodes have down.
 use Rattle.std.proofs.Common.{◌≡◌, ℕ, zero, suc, ◌+◌, ◌-◌, ◌<◌, ◌≤◌, max, Bool, true, false, ◌⊎◌, inl, inr, List, length, get_or, arith, cond, nat_lt, refl, sym, ap, ◌∙◌}
 use Rattle.std.proofs.lemmas.Bool.{and_left, and_right, and_from, cases_lt, cond-true, cond-false, eq-eqb, le-ltb, lt-ltb, ne_eqb}
-use Rattle.vst_base.specs.Committing.{advance, holders, may_commit}
-use Rattle.vst_base.specs.Elections.{is_majority}
 use Rattle.vst_base.specs.Logs.{term_at}
+use Rattle.vst_base.specs.Elections.{is_majority, advance, holders, may_commit}
 use Rattle.vst_base.specs.declared.entry.Entry.{Entry}
 use Rattle.vst_base.proofs.LogTerms.{term_found}
 use Rattle.raft_commit.proofs.Holding.{held_below}

@@ -2,8 +2,7 @@
 use Rattle.std.proofs.Common.{◌≡◌, ℕ, zero, suc, ◌+◌, ◌-◌, ◌*◌, ◌<◌, ◌≤◌, max, Bool, true, false, ◌⊎◌, inl, inr, List, length, get_or, ap, arith, cond, eqb, leb, nat_lt, refl, sym, subst, ◌∙◌}
 use Rattle.std.proofs.lemmas.Bool.{both_ways, cases_lt, leb-true, leb-false, lt-ltb, ltb-true, le-leb}
 use Rattle.std.proofs.lemmas.List.{get_or-map}
-use Rattle.vst_base.specs.Committing.{holders}
-use Rattle.vst_base.specs.Elections.{count, is_majority}
+use Rattle.vst_base.specs.Elections.{count, is_majority, holders}
 use Rattle.raft_commit.specs.Peers.{PeerView, matched_of}
 
 -- index 0 is before the first entry

@@ -1,7 +1,13 @@
--- What a leader knows of the other nodes' logs (the Raft paper, Figure 2 and section 5.3).
-use Rattle.std.specs.Prelude.{ℕ, suc, Bool, true, false, ◌&&◌, List, map, slice_index, nat_le, nat_lt, ◌==◌, if◌then◌else◌}
+-- What a leader knows of the other nodes' logs, and what it sends at once (the Raft paper, Figure 2 and section 5.3).
+use Rattle.std.specs.Prelude.{ℕ, suc, Bool, true, false, ◌&&◌, List, map, slice_index, nat_le, nat_lt, ◌==◌, if◌then◌else◌, ◌-◌, take, drop}
 use Rattle.raft_commit.specs.declared.peer.Moved.{Moved}
 use Rattle.raft_commit.specs.declared.peer.Moved.TheVariants.{Raised, Back, Nothing}
+use Rattle.vst_base.specs.declared.entry.Entry.{Entry}
+use Rattle.raft_types.specs.declared.limits.TheConstants.{MAX_BATCH}
+
+-- the entries of a log from the index next on, as many as one message has
+abbrev pub batch : {C : Type 0} → List (Entry C) → ℕ → List (Entry C)
+batch log next = take MAX_BATCH (drop (next - 1) log)
 
 -- the index of the next entry to send to the node, and up to which its log is known to be the leader's
 pub record PeerView : Type 0 where

@@ -1,5 +1,5 @@
 ghost use Rattle.std.specs.Prelude.{◌≡◌, ◌+◌, ◌≤◌, length};
-ghost use Rattle.raft_commit.specs.Batches.{batch};
+ghost use Rattle.raft_commit.specs.Peers.{batch};
 
 use raft_types::MAX_BATCH;
 use vst_base::Entry;

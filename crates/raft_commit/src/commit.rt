@@ -1,5 +1,5 @@
 ghost use Rattle.std.specs.Prelude.{◌≡◌, ℕ, ◌<◌, ◌≤◌, ◌^◌, length, IsTrue, IsFalse};
-ghost use Rattle.vst_base.specs.Committing as committing;
+ghost use Rattle.vst_base.specs.Elections as elections;
 ghost use Rattle.vst_base.specs.Elections.{is_majority};
 ghost use Rattle.raft_commit.specs.Peers.{matched_of};
 
@@ -8,7 +8,7 @@ use vst_base::{Entry, Node};
 
 // Whether most nodes have the leader's log up to an index.
 fn is_held(peers: &[Peer], me: Node, index: u32) -> bool
-    ensures { result ≡ is_majority (length peers.now) (committing.holders me (matched_of peers.now) index) }
+    ensures { result ≡ is_majority (length peers.now) (elections.holders me (matched_of peers.now) index) }
 {
     let mut count = 0;
     for (n, peer) in peers.iter().enumerate() {
@@ -22,10 +22,10 @@ fn is_held(peers: &[Peer], me: Node, index: u32) -> bool
 // The greatest index of a log of this length up to which most nodes have it.
 fn held(peers: &[Peer], me: Node, len: u32) -> u32
     requires { me < length peers.now }
-    ensures most { IsTrue (is_majority (length peers.now) (committing.holders me (matched_of peers.now) result)) }
+    ensures most { IsTrue (is_majority (length peers.now) (elections.holders me (matched_of peers.now) result)) }
     ensures in_the_log { result ≤ len }
     ensures greatest { (k : ℕ) → result < k → k ≤ len → IsFalse
-        (is_majority (length peers.now) (committing.holders me (matched_of peers.now) k)) }
+        (is_majority (length peers.now) (elections.holders me (matched_of peers.now) k)) }
 {
     if is_held(peers, me, len) {
         return len;
@@ -50,13 +50,13 @@ pub fn advance<C>(entries: &[Entry<C>], peers: &[Peer], me: Node, term: u64, com
     requires len { length entries.now < 2 ^ 32 }
     requires me { me < length peers.now }
     requires commit { commit ≤ length entries.now }
-    ensures commit { result ≡ committing.advance (length peers.now) me (matched_of peers.now) entries.now term commit (length entries.now) }
+    ensures commit { result ≡ elections.advance (length peers.now) me (matched_of peers.now) entries.now term commit (length entries.now) }
     ensures not_back { commit ≤ result }
     ensures in_the_log { result ≤ length entries.now }
-    ensures allowed { commit < result → IsTrue (committing.may_commit (length peers.now) me (matched_of peers.now) entries.now term commit
+    ensures allowed { commit < result → IsTrue (elections.may_commit (length peers.now) me (matched_of peers.now) entries.now term commit
         result) }
     ensures greatest { (k : ℕ) → result < k → k ≤ length entries.now
-        → IsFalse (committing.may_commit (length peers.now) me (matched_of peers.now) entries.now term commit k) }
+        → IsFalse (elections.may_commit (length peers.now) me (matched_of peers.now) entries.now term commit k) }
 {
     let mut index = held(peers, me, entries.len() as u32);
     while index > commit && entries[index as usize - 1].term() != term {

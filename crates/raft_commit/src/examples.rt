@@ -1,9 +1,8 @@
 ghost use Rattle.std.specs.Prelude.{◌≡◌, [], ◌∷◌, ◌++◌, true, false, drop, take};
-ghost use Rattle.vst_base.specs.Committing.{advance};
+ghost use Rattle.vst_base.specs.Elections.{advance};
 ghost use Rattle.vst_base.specs.LogExamples.{leader, log, noop};
-ghost use Rattle.raft_commit.specs.Batches.{batch};
+ghost use Rattle.raft_commit.specs.Peers.{batch, matched_of, moved, new_peer, peer_after};
 ghost use Rattle.raft_commit.specs.PeerExamples.{peer, peers};
-ghost use Rattle.raft_commit.specs.Peers.{matched_of, moved, new_peer, peer_after};
 ghost use Rattle.raft_commit.specs.declared.peer.Moved.TheVariants.{Raised, Back, Nothing};
 
 /// What a leader with ten entries makes of answers: of a node that it knows nothing of, and of one that it

@@ -4,7 +4,7 @@ use Rattle.std.specs.Int.{bit_at}
 use Rattle.std.proofs.lemmas.Bool.Decides.{eqb_tells}
 use Rattle.std.proofs.lemmas.Nat.Bits.{bit_at-lt, bit_at-pow_other, bit_at-pow_same, bit_at-zero, bit_at_or}
 use Rattle.vst_base.specs.Elections.{with_node}
-use Rattle.raft_election.specs.Votes.{VotesAreSets, has_vote, with_vote}
+use Rattle.raft_election.specs.Ballots.{VotesAreSets, has_vote, with_vote}
 
 -- the node's own bit is 1
 added : (node votes : ℕ) → bit_at (with_vote node votes) node ≡ 1

@@ -1,8 +1,23 @@
 -- What a node knows of elections, and what each rule makes of it (the Raft paper, section 5.2).
-use Rattle.std.specs.Prelude.{◌≡◌, ℕ, suc, ◌≤◌, Bool, true, ◌&&◌, Option, Some, None, List, [], ◌∷◌, nat_lt, ◌==◌, if◌then◌else◌}
-use Rattle.vst_base.specs.Elections.{is_free_for}
+use Rattle.std.specs.Prelude.{◌≡◌, ℕ, suc, ◌≤◌, Bool, true, ◌&&◌, Option, Some, None, List, [], ◌∷◌, nat_lt, ◌==◌, if◌then◌else◌, ◌^◌, bit_or}
+use Rattle.vst_base.specs.Elections.{is_free_for, nobody, with_node}
 use Rattle.vst_base.specs.declared.entry.TheConstants.{MAX_TERM}
-use Rattle.raft_election.specs.Votes.{no_votes, with_vote}
+use Rattle.std.specs.Int.{bit_at}
+
+-- the set as a test on nodes
+abbrev pub has_vote : ℕ → ℕ → Bool
+has_vote votes node = bit_at votes node == 1
+
+abbrev pub no_votes : ℕ
+no_votes = 0
+
+abbrev pub with_vote : ℕ → ℕ → ℕ
+with_vote node votes = bit_or votes (2 ^ node)
+
+-- in the words of tests: no votes are nobody, and a vote that is added is its node
+pub record VotesAreSets : Type 0 where
+  pub none : has_vote no_votes ≡ nobody
+  pub one_more : (node votes : ℕ) → has_vote (with_vote node votes) ≡ with_node node (has_vote votes)
 
 -- the node's term, for whom it voted in it, and the votes that it counted as a candidate, a set of nodes as a number
 pub record BallotView : Type 0 where

@@ -1,2 +1,1 @@
 pub mod Ballots
-pub mod Votes

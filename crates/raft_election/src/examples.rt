@@ -1,8 +1,7 @@
 ghost use Rattle.std.specs.Prelude.{◌≡◌, [], ◌∷◌, true, false, Some, None};
 ghost use Rattle.vst_base.specs.Elections.{is_majority};
 ghost use Rattle.vst_base.specs.declared.entry.TheConstants.{MAX_TERM};
-ghost use Rattle.raft_election.specs.Ballots.{Ask, Grant, Learn, OneVoteATerm, Start, after, counted, grants, kept, learned, may_start, started, voted_for};
-ghost use Rattle.raft_election.specs.Votes.{VotesAreSets, has_vote, no_votes, with_vote};
+ghost use Rattle.raft_election.specs.Ballots.{Ask, Grant, Learn, OneVoteATerm, Start, after, counted, grants, kept, learned, may_start, started, voted_for, VotesAreSets, has_vote, no_votes, with_vote};
 
 /// An election of three nodes, a second candidate in its term, the greatest term, and halves.
 pub fn worked()

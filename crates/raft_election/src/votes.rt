@@ -1,12 +1,12 @@
 ghost use Rattle.std.specs.Prelude.{◌≡◌, ◌<◌};
 ghost use Rattle.vst_base.specs.Elections as elections;
-ghost use Rattle.raft_election.specs.Votes as set;
+ghost use Rattle.raft_election.specs.Ballots as ballots;
 
 use vst_base::Node;
 
 /// Whether the node of this number is in the set.
 pub(crate) fn has_vote(votes: u16, n: u8) -> bool
-    ensures { result ≡ set.has_vote votes n }
+    ensures { result ≡ ballots.has_vote votes n }
 {
     n < 16 && (votes >> n) & 1 == 1
 }
@@ -14,7 +14,7 @@ pub(crate) fn has_vote(votes: u16, n: u8) -> bool
 /// The set with the node in it.
 pub(crate) fn with_vote(votes: u16, node: Node) -> u16
     requires { node < 16 }
-    ensures { result ≡ set.with_vote node votes }
+    ensures { result ≡ ballots.with_vote node votes }
 {
     votes | (1 << node.index())
 }
@@ -22,7 +22,7 @@ pub(crate) fn with_vote(votes: u16, node: Node) -> u16
 /// Whether the set, node n being its bit of value 2^n, has more than half of so many nodes (the Raft
 /// paper, section 5.2). Half is no majority.
 pub fn is_majority(votes: u16, nodes: u8) -> bool
-    ensures { result ≡ elections.is_majority nodes (set.has_vote votes) }
+    ensures { result ≡ elections.is_majority nodes (ballots.has_vote votes) }
 {
     let mut count: u16 = 0;
     for n in 0..nodes {

@@ -3,8 +3,7 @@
 use Rattle.std.specs.Prelude.{◌≡◌, ◌≢◌, ℕ, suc, ◌+◌, ◌<◌, ◌≤◌, true, false, Some, None, List, [], ◌∷◌, ◌++◌, length, take, drop, ◌==◌, if◌then◌else◌, ◌⊎◌, IsTrue, IsFalse}
 use Rattle.vst_base.specs.declared.entry.Entry.{Entry}
 use Rattle.vst_base.specs.Logs.{accepted, has_conflict, last_term, matches, term_at}
-use Rattle.vst_base.specs.Elections.{is_free_for, is_majority, is_up_to_date, nobody, with_node}
-use Rattle.vst_base.specs.Committing.{learned_commit, may_commit}
+use Rattle.vst_base.specs.Elections.{is_free_for, is_majority, is_up_to_date, nobody, with_node, learned_commit, may_commit}
 use Rattle.raft_free.specs.Nodes.{Append, Appended, Candidate, Follower, FreeWorld, Leader, Message, NodeState, Packet, RequestVote, Vote, nothing}
 
 -- the node i acts

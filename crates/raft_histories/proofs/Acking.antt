@@ -4,9 +4,8 @@ use Rattle.std.proofs.lemmas.Bool.{and_parts, eqb-true, leb-true, ltb-true}
 use Rattle.std.proofs.lemmas.Bool.Decides.{eqb_tells}
 use Rattle.std.proofs.lemmas.List.{length-take}
 use Rattle.vst_base.specs.declared.entry.Entry.{Entry}
-use Rattle.vst_base.specs.Committing.{holders, learned_commit, may_commit}
-use Rattle.vst_base.specs.Elections.{is_majority}
 use Rattle.vst_base.specs.Logs.{accepted, term_at}
+use Rattle.vst_base.specs.Elections.{is_majority, holders, learned_commit, may_commit}
 use Rattle.raft_histories.specs.Histories.{Acked, CommittedBy, Descends, Election, HasOrLost, History, IsCommitted, IsSoundHistory}
 use Rattle.raft_histories.specs.Prefixes.{Agree, Same, Took}
 use Rattle.raft_histories.proofs.Accepting.{took}

@@ -8,13 +8,13 @@ use Rattle.net_semantics.specs.Worlds.{Packet, change_at, copies, copies_of, end
 use Rattle.vst_base.specs.declared.net.Net.TheVariants as net
 use Rattle.vst_base.specs.declared.step.Step.{Step}
 use Rattle.vst_base.specs.declared.step.Step.TheVariants as step
-use Rattle.raft_types.specs.Keeping.{KeptView}
+use Rattle.raft_types.specs.Messages.{KeptView}
+use Rattle.raft_types.specs.Terms.{term_of}
 use Rattle.raft_types.specs.declared.client.RaftInput.{RaftInput}
 use Rattle.raft_types.specs.declared.client.RaftOut.{RaftOut}
 use Rattle.raft_types.specs.declared.msg.RaftMsg.{RaftMsg}
 use Rattle.raft_xform.specs.Nodes.{RaftEffect, RaftView}
 use Rattle.raft_xform.specs.Raft as raft_rules
-use Rattle.raft_types.specs.Terms.{term_of}
 use Rattle.raft_xform.specs.Raft.{raft, raft_recovery}
 use Rattle.raft_xform.specs.Electing.{tick}
 use Rattle.raft_xform.specs.Replicating.{on_input}

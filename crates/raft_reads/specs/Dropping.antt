@@ -1,7 +1,7 @@
 -- When a node knows nothing of reads.
 use Rattle.std.specs.Prelude.{◌≡◌, ℕ, Bool, IsFalse}
 use Rattle.vst_base.specs.Machines.{MachineMeaning}
-use Rattle.raft_types.specs.Keeping.{KeptView}
+use Rattle.raft_types.specs.Messages.{KeptView}
 use Rattle.raft_types.specs.declared.client.RaftInput.{RaftInput}
 use Rattle.raft_reads.specs.ReadRaft.{ReadEffect, on_input, on_message, on_timeout, read_recovery}
 use Rattle.raft_reads.specs.Reads.{ReadMsg, ReadView, no_reads, still_leads}

@@ -3,7 +3,7 @@ use Rattle.std.specs.Prelude.{ℕ, Bool, true, not, ◌&&◌, [], ◌++◌, None
 use Rattle.std.specs.List.{filter}
 use Rattle.handler_trait.specs.Handling.{Effect, Meaning, Recovery}
 use Rattle.vst_base.specs.Machines.{MachineMeaning}
-use Rattle.raft_types.specs.Keeping.{KeptView}
+use Rattle.raft_types.specs.Messages.{KeptView}
 use Rattle.raft_types.specs.Terms.{term_of}
 use Rattle.raft_types.specs.declared.client.RaftInput.{RaftInput}
 use Rattle.raft_types.specs.declared.client.RaftOut.{RaftOut}

@@ -5,7 +5,7 @@ use Rattle.vst_base.specs.Machines.{MachineMeaning}
 use Rattle.vst_base.specs.declared.entry.Entry.{Entry}
 use Rattle.vst_base.specs.declared.what.What.{What}
 use Rattle.vst_base.specs.declared.what.What.TheVariants.{Noop, Request}
-use Rattle.raft_clients.specs.Requests.{asked_by, request_of}
+use Rattle.raft_clients.specs.Executed.{asked_by, request_of}
 use Rattle.raft_clients.specs.Sessions.{AppliedAll, applied_all}
 use Rattle.raft_free.specs.Events.{In}
 use Rattle.raft_free.proofs.Stepping.{in_append}

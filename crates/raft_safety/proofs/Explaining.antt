@@ -6,9 +6,8 @@ use Rattle.vst_base.specs.Machines.{MachineMeaning, state_after}
 use Rattle.vst_base.specs.declared.entry.Entry.{Entry}
 use Rattle.raft_clients.proofs.Executing.{outcomes}
 use Rattle.raft_clients.proofs.Listed.{executed-append}
-use Rattle.raft_clients.specs.Executed.{exceeds, executed, executed_after}
+use Rattle.raft_clients.specs.Executed.{exceeds, executed, executed_after, commands, request_of, requests}
 use Rattle.raft_clients.specs.Executions.{IsExecution, executions}
-use Rattle.raft_clients.specs.Requests.{commands, request_of, requests}
 use Rattle.raft_free.specs.Events.{In}
 use Rattle.raft_types.specs.declared.client.RaftInput.{RaftInput}
 use Rattle.linearizability.specs.Linearizable.{HasInput, Told}

@@ -2,7 +2,7 @@
 use Rattle.std.proofs.Common.{◌≡◌, ℕ, Bool, ap, cond}
 use Rattle.net_semantics.specs.Worlds.{Packet}
 use Rattle.raft_commit.specs.Peers.{matched_of}
-use Rattle.raft_election.specs.Votes.{has_vote}
+use Rattle.raft_election.specs.Ballots.{has_vote}
 use Rattle.raft_free.specs.Events.{In}
 use Rattle.raft_free.specs.Nodes as free
 use Rattle.raft_types.specs.declared.msg.RaftMsg.{RaftMsg}

@@ -8,8 +8,7 @@ use Rattle.vst_base.specs.declared.entry.Entry.{Entry}
 use Rattle.vst_base.specs.declared.step.Step.{Step}
 use Rattle.raft_clients.proofs.Listed.{executed-append, executed_entries-append}
 use Rattle.raft_clients.proofs.Once.{applied-state}
-use Rattle.raft_clients.specs.Executed.{executed, executed_after, executed_entries}
-use Rattle.raft_clients.specs.Requests.{request_of, requests}
+use Rattle.raft_clients.specs.Executed.{executed, executed_after, executed_entries, request_of, requests}
 use Rattle.raft_types.specs.declared.client.RaftInput.{RaftInput}
 use Rattle.raft_xform.specs.Raft.{raft, raft_recovery}
 use Rattle.raft_safety.specs.Applied.{applied_by, applied_list, applied_lists, longest, longest_from}

@@ -13,15 +13,15 @@ use Rattle.vst_base.specs.declared.net.Net.TheVariants as net
 use Rattle.vst_base.specs.declared.step.Item.{Item}
 use Rattle.vst_base.specs.declared.step.Item.TheVariants as item
 use Rattle.vst_base.specs.declared.step.Step.{Step}
-use Rattle.vst_base.specs.StepViews.{AtNode, Fate, OfPacket, Starts, StepView, Stops, view_of}
+use Rattle.vst_base.specs.Nets.{AtNode, Fate, OfPacket, Starts, StepView, Stops, view_of}
 use Rattle.raft_election.proofs.Sets.{votes_are_sets}
 use Rattle.raft_free.specs.Events as events
 use Rattle.raft_free.specs.Events.{In, becomes, effect}
 use Rattle.raft_free.specs.Nodes as free
 use Rattle.raft_free.specs.Runs.{Run}
 use Rattle.raft_free.proofs.Stepping.{in_append}
-use Rattle.raft_clients.specs.Requests.{request_of}
-use Rattle.raft_types.specs.Ranges.{IsClusterSize}
+use Rattle.raft_clients.specs.Executed.{request_of}
+use Rattle.raft_types.specs.Messages.{IsClusterSize}
 use Rattle.raft_types.specs.declared.client.RaftInput.{RaftInput}
 use Rattle.raft_types.specs.declared.client.RaftOut.{RaftOut}
 use Rattle.raft_types.specs.declared.msg.RaftMsg.{RaftMsg}

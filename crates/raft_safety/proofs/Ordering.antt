@@ -5,8 +5,7 @@ use Rattle.std.proofs.lemmas.List.Elements.{All-head, All-tail}
 use Rattle.vst_base.specs.Machines.{MachineMeaning, fold}
 use Rattle.vst_base.specs.declared.entry.Entry.{Entry}
 use Rattle.raft_clients.proofs.Listed.{Rises, executed-rises}
-use Rattle.raft_clients.specs.Executed.{executed}
-use Rattle.raft_clients.specs.Requests.{commands, requests}
+use Rattle.raft_clients.specs.Executed.{executed, commands, requests}
 use Rattle.raft_free.specs.Events.{In}
 use Rattle.raft_types.specs.declared.client.RaftInput.{RaftInput}
 use Rattle.raft_safety.specs.Applied.{applied_by}

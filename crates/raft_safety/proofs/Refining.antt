@@ -4,17 +4,15 @@ use Rattle.std.proofs.lemmas.Bool.{and_parts, eqb-true, false≢true, leb-true, 
 use Rattle.std.proofs.lemmas.List.{get_or-map}
 use Rattle.std.proofs.lemmas.List.Elements.{All-get_or}
 use Rattle.vst_base.specs.declared.entry.Entry.{Entry}
-use Rattle.vst_base.specs.Committing.{advance, may_commit}
-use Rattle.vst_base.specs.Elections.{is_free_for, with_node}
 use Rattle.vst_base.specs.Logs.{has_conflict, matches}
+use Rattle.vst_base.specs.Elections.{is_free_for, with_node, advance, may_commit}
 use Rattle.vst_base.specs.Machines.{MachineMeaning}
 use Rattle.vst_base.specs.declared.what.What.{What}
 use Rattle.vst_base.specs.declared.what.What.TheVariants.{Noop, Request}
 use Rattle.raft_commit.specs.Peers.{PeerView, is_news, is_refusal, matched_of, new_peer, peer_after}
 use Rattle.raft_commit.specs.declared.peer.Moved.{Moved}
 use Rattle.raft_commit.specs.declared.peer.Moved.TheVariants as moves
-use Rattle.raft_election.specs.Ballots.{grants, may_start}
-use Rattle.raft_election.specs.Votes.{no_votes}
+use Rattle.raft_election.specs.Ballots.{grants, may_start, no_votes}
 use Rattle.raft_election.proofs.Sets.{votes_are_sets}
 use Rattle.raft_free.specs.Events.{Accept, Apply, Ask, Comes, Commit, Count, Grant, In, Lead, Learn, Match, Propose, Refuse, Replicate, StepDown, Timeout}
 use Rattle.raft_free.specs.Nodes as free
@@ -29,8 +27,7 @@ use Rattle.raft_types.specs.declared.msg.RaftMsg.TheVariants as msg
 use Rattle.raft_xform.specs.declared.role.Role.{Role}
 use Rattle.raft_xform.specs.declared.role.Role.TheVariants as role
 use Rattle.raft_xform.specs.Applying.{committed, settled}
-use Rattle.raft_xform.specs.Electing.{campaign, candidate, has_won, heard, on_request, on_vote, sees_up_to_date, tick, vote, voted}
-use Rattle.raft_xform.specs.Leading.{lead, led, broadcasts, with_entry}
+use Rattle.raft_xform.specs.Electing.{campaign, candidate, has_won, heard, on_request, on_vote, sees_up_to_date, tick, vote, voted, lead, led, broadcasts, with_entry}
 use Rattle.raft_xform.specs.Nodes.{RaftEffect, RaftView, is_candidate, is_leader, peer_at, sending, stays}
 use Rattle.raft_xform.specs.Raft.{by_message, on_message}
 use Rattle.raft_xform.specs.Replicating.{answer, follower, known, last_new, may_take, moved_by, on_append, on_appended, on_input, on_moved, proposed, proposes, taken, takes, telling}

@@ -9,11 +9,10 @@ use Rattle.vst_base.specs.declared.entry.Entry.{Entry}
 use Rattle.vst_base.specs.declared.step.Item.{Item}
 use Rattle.vst_base.specs.declared.step.Item.TheVariants as item
 use Rattle.vst_base.specs.declared.step.Step.{Step}
-use Rattle.vst_base.specs.StepViews.{AtNode, OfPacket, Starts, StepView, Stops, view_of}
+use Rattle.vst_base.specs.Nets.{AtNode, OfPacket, Starts, StepView, Stops, view_of}
 use Rattle.raft_clients.proofs.Once.{applied-answers}
-use Rattle.raft_clients.specs.Executed.{executed}
+use Rattle.raft_clients.specs.Executed.{executed, request_of, requests}
 use Rattle.raft_clients.specs.Executions.{IsAnswered, IsExecution, executions}
-use Rattle.raft_clients.specs.Requests.{request_of, requests}
 use Rattle.raft_free.specs.Events as events
 use Rattle.raft_free.specs.Events.{In}
 use Rattle.raft_free.specs.Nodes as free
@@ -21,8 +20,7 @@ use Rattle.raft_free.specs.Runs.{Run}
 use Rattle.raft_free.proofs.Applied.{state_machine_safety}
 use Rattle.raft_free.proofs.Origins.{nothing_invented}
 use Rattle.raft_free.proofs.Stepping.{in_append}
-use Rattle.raft_types.specs.Keeping.{KeptView}
-use Rattle.raft_types.specs.Ranges.{IsClusterSize}
+use Rattle.raft_types.specs.Messages.{KeptView, IsClusterSize}
 use Rattle.raft_types.specs.declared.client.RaftInput.{RaftInput}
 use Rattle.raft_types.specs.declared.client.RaftOut.{RaftOut}
 use Rattle.raft_types.specs.declared.client.RaftOut.TheVariants as told

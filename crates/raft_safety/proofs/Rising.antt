@@ -4,14 +4,13 @@ use Rattle.std.proofs.lemmas.Bool.{and_parts, eqb-true}
 use Rattle.net_semantics.specs.RunLaws.{run_from-append}
 use Rattle.net_semantics.specs.Steps.{Event, after_event, copied, event_in, next_in, rebooted, with_packets}
 use Rattle.net_semantics.specs.Worlds.{Packet, change_at, first_world}
-use Rattle.vst_base.specs.Committing.{holders, may_commit}
-use Rattle.vst_base.specs.Elections.{is_majority}
 use Rattle.vst_base.specs.Logs.{term_at}
+use Rattle.vst_base.specs.Elections.{is_majority, holders, may_commit}
 use Rattle.vst_base.specs.Machines.{MachineMeaning}
-use Rattle.vst_base.specs.StepViews.{AtNode, OfPacket, Starts, StepView, Stops, view_of}
+use Rattle.vst_base.specs.Nets.{AtNode, OfPacket, Starts, StepView, Stops, view_of}
 use Rattle.raft_commit.specs.Peers.{matched_of}
 use Rattle.raft_free.specs.Nodes as free
-use Rattle.raft_types.specs.Keeping.{KeptView}
+use Rattle.raft_types.specs.Messages.{KeptView}
 use Rattle.raft_types.specs.declared.client.RaftInput.{RaftInput}
 use Rattle.raft_types.specs.declared.client.RaftOut.{RaftOut}
 use Rattle.raft_types.specs.declared.msg.RaftMsg.{RaftMsg}

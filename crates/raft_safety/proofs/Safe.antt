@@ -7,7 +7,7 @@ use Rattle.net_semantics.specs.Runs.{run_from, trace_from}
 use Rattle.net_semantics.specs.Steps.{next}
 use Rattle.net_semantics.specs.Worlds.{first_world}
 use Rattle.vst_base.specs.Machines.{MachineMeaning}
-use Rattle.vst_base.specs.StepViews.{view_of}
+use Rattle.vst_base.specs.Nets.{view_of}
 use Rattle.vst_base.specs.declared.step.Step.{Step}
 use Rattle.raft_histories.proofs.Logs.{same_less, same_take}
 use Rattle.raft_free.specs.Nodes as free

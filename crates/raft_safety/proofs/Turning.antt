@@ -4,8 +4,7 @@ use Rattle.std.proofs.lemmas.Bool.{false≢true, ltb-true, not-false}
 use Rattle.net_semantics.specs.StepLaws.{delivered_there, ends_delivered}
 use Rattle.net_semantics.specs.Steps.{Event, acts_at, delivered, delivery, event_in, fails, input_is_taken, input_item, node_named, node_started, packet_named, refusal_in}
 use Rattle.net_semantics.specs.Worlds.{Packet, copies}
-use Rattle.vst_base.specs.Nets.{has_kind, kind_in}
-use Rattle.vst_base.specs.StepViews.{AtNode, Fate, OfPacket, Starts, StepView, Stops, view_of}
+use Rattle.vst_base.specs.Nets.{has_kind, kind_in, AtNode, Fate, OfPacket, Starts, StepView, Stops, view_of}
 use Rattle.vst_base.specs.declared.step.StepRefusal.TheVariants as refusal
 use Rattle.vst_base.specs.Firsts.{first_of}
 use Rattle.vst_base.specs.Machines.{MachineMeaning}
@@ -15,7 +14,7 @@ use Rattle.vst_base.specs.declared.step.Item.TheVariants as item
 use Rattle.vst_base.specs.declared.step.Step.{Step}
 use Rattle.raft_free.specs.Events.{In}
 use Rattle.raft_free.specs.Nodes as free
-use Rattle.raft_clients.specs.Requests.{request_of}
+use Rattle.raft_clients.specs.Executed.{request_of}
 use Rattle.raft_types.specs.declared.client.RaftInput.{RaftInput}
 use Rattle.raft_types.specs.declared.client.RaftOut.{RaftOut}
 use Rattle.raft_types.specs.declared.msg.RaftMsg.{RaftMsg}

@@ -5,8 +5,7 @@ use Rattle.net_semantics.specs.Worlds.{first_world}
 use Rattle.vst_base.specs.Machines.{MachineMeaning}
 use Rattle.vst_base.specs.declared.entry.Entry.{Entry}
 use Rattle.vst_base.specs.declared.step.Step.{Step}
-use Rattle.raft_clients.specs.Executed.{executed}
-use Rattle.raft_clients.specs.Requests.{requests}
+use Rattle.raft_clients.specs.Executed.{executed, requests}
 use Rattle.raft_types.specs.declared.client.RaftInput.{RaftInput}
 use Rattle.raft_xform.specs.Nodes.{RaftView}
 use Rattle.raft_xform.specs.Raft.{raft, raft_recovery}

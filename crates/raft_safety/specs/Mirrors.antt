@@ -3,7 +3,7 @@ use Rattle.std.specs.Prelude.{◌≡◌, ℕ, Bool, List, if◌then◌else◌}
 use Rattle.net_semantics.specs.Worlds.{Packet}
 use Rattle.vst_base.specs.declared.entry.Entry.{Entry}
 use Rattle.raft_commit.specs.Peers.{matched_of}
-use Rattle.raft_election.specs.Votes.{has_vote}
+use Rattle.raft_election.specs.Ballots.{has_vote}
 use Rattle.raft_free.specs.Events.{In}
 use Rattle.raft_free.specs.Nodes as free
 use Rattle.raft_types.specs.Terms.{term_of}

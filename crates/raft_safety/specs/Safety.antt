@@ -4,10 +4,8 @@ use Rattle.net_semantics.specs.Worlds.{Packet}
 use Rattle.vst_base.specs.Machines.{MachineMeaning, state_after}
 use Rattle.vst_base.specs.Logs.{has_conflict, term_at}
 use Rattle.vst_base.specs.declared.step.Step.{Step}
-use Rattle.vst_base.specs.Committing.{holders}
-use Rattle.vst_base.specs.Elections.{is_majority}
-use Rattle.raft_clients.specs.Executed.{executed, executed_entries}
-use Rattle.raft_clients.specs.Requests.{commands, requests}
+use Rattle.vst_base.specs.Elections.{is_majority, holders}
+use Rattle.raft_clients.specs.Executed.{executed, executed_entries, commands, requests}
 use Rattle.raft_commit.specs.Peers.{matched_of}
 use Rattle.raft_free.specs.Events.{Event, In}
 use Rattle.raft_free.specs.Nodes.{FreeWorld, first_world}

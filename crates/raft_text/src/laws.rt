@@ -1,5 +1,5 @@
 ghost use Rattle.std.specs.Prelude.{◌≡◌, ℕ};
-ghost use Rattle.raft_types.specs.Ranges.{IsClusterSize};
+ghost use Rattle.raft_types.specs.Messages.{IsClusterSize};
 ghost use Rattle.schedule_text.specs.Headers.{IsHeader};
 ghost use Rattle.schedule_text.specs.declared.header.Header.{Header};
 ghost use Rattle.vst_base.specs.Stacks.{row_of};

@@ -1,4 +1,2 @@
-pub mod Keeping
 pub mod Messages
-pub mod Ranges
 pub mod Terms

@@ -1,6 +1,6 @@
 ghost use Rattle.std.specs.Prelude.{◌≡◌, ◌≤◌, ◌+◌, length};
 ghost use Rattle.vst_base.specs.Entries.{IsElectionTerm};
-ghost use Rattle.raft_types.specs.Ranges.{IsIndex, IsTerm};
+ghost use Rattle.raft_types.specs.Messages.{IsIndex, IsTerm};
 
 use crate::{Entries, MAX_BATCH};
 use std::marker::Model;
@@ -22,7 +22,7 @@ impl<C> Model for Append<C> {
     ghost use Rattle.std.specs.Prelude.{◌≤◌, ◌+◌, length};
     ghost use Rattle.vst_base.specs.Entries.{IsElectionTerm};
     ghost use Rattle.raft_types.specs.Messages.{AppendView};
-    ghost use Rattle.raft_types.specs.Ranges.{IsIndex, IsTerm};
+    ghost use Rattle.raft_types.specs.Messages.{IsIndex, IsTerm};
     ghost use Rattle.raft_types.specs.declared.limits.TheConstants.{MAX_BATCH};
 
     ghost Value = { AppendView C };

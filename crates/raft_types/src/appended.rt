@@ -1,6 +1,6 @@
 ghost use Rattle.std.specs.Prelude.{◌≡◌};
 ghost use Rattle.vst_base.specs.Entries.{IsElectionTerm};
-ghost use Rattle.raft_types.specs.Ranges.{IsIndex};
+ghost use Rattle.raft_types.specs.Messages.{IsIndex};
 
 use std::marker::Model;
 
@@ -16,7 +16,7 @@ pub struct Appended {
 impl Model for Appended {
     ghost use Rattle.vst_base.specs.Entries.{IsElectionTerm};
     ghost use Rattle.raft_types.specs.Messages.{AppendedView};
-    ghost use Rattle.raft_types.specs.Ranges.{IsIndex};
+    ghost use Rattle.raft_types.specs.Messages.{IsIndex};
 
     ghost Value = { AppendedView };
 

@@ -1,5 +1,5 @@
 ghost use Rattle.std.specs.Prelude.{◌≡◌, length};
-ghost use Rattle.raft_types.specs.Ranges.{IsIndex};
+ghost use Rattle.raft_types.specs.Messages.{IsIndex};
 
 use std::marker::Model;
 use vst_base::Entry;
@@ -13,7 +13,7 @@ pub struct Entries<C> {
 impl<C> Model for Entries<C> {
     ghost use Rattle.std.specs.Prelude.{List, length};
     ghost use Rattle.vst_base.specs.declared.entry.Entry.{Entry};
-    ghost use Rattle.raft_types.specs.Ranges.{IsIndex};
+    ghost use Rattle.raft_types.specs.Messages.{IsIndex};
 
     ghost Value = { List (Entry C) };
 

@@ -1,5 +1,5 @@
 ghost use Rattle.std.specs.Prelude.{◌≡◌, ℕ, [], true};
-ghost use Rattle.raft_types.specs.Ranges.{IsClusterSize, IsIndex, IsTerm};
+ghost use Rattle.raft_types.specs.Messages.{IsClusterSize, IsIndex, IsTerm};
 ghost use Rattle.raft_types.specs.Terms.{term_of};
 ghost use Rattle.raft_types.specs.declared.msg.RaftMsg.TheVariants as msg;
 

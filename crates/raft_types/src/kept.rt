@@ -1,5 +1,5 @@
 ghost use Rattle.std.specs.Prelude.{◌≡◌, length};
-ghost use Rattle.raft_types.specs.Ranges.{IsIndex, IsTerm};
+ghost use Rattle.raft_types.specs.Messages.{IsIndex, IsTerm};
 
 use crate::Entries;
 use std::marker::Model;
@@ -15,8 +15,8 @@ pub struct Kept<C> {
 }
 
 impl<C> Model for Kept<C> {
-    ghost use Rattle.raft_types.specs.Keeping.{KeptView};
-    ghost use Rattle.raft_types.specs.Ranges.{IsTerm};
+    ghost use Rattle.raft_types.specs.Messages.{KeptView};
+    ghost use Rattle.raft_types.specs.Messages.{IsTerm};
 
     ghost Value = { KeptView C };
 

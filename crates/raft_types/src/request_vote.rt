@@ -1,6 +1,6 @@
 ghost use Rattle.std.specs.Prelude.{◌≡◌};
 ghost use Rattle.vst_base.specs.Entries.{IsElectionTerm};
-ghost use Rattle.raft_types.specs.Ranges.{IsIndex, IsTerm};
+ghost use Rattle.raft_types.specs.Messages.{IsIndex, IsTerm};
 
 use std::marker::Model;
 
@@ -16,7 +16,7 @@ pub struct RequestVote {
 impl Model for RequestVote {
     ghost use Rattle.vst_base.specs.Entries.{IsElectionTerm};
     ghost use Rattle.raft_types.specs.Messages.{RequestVoteView};
-    ghost use Rattle.raft_types.specs.Ranges.{IsIndex, IsTerm};
+    ghost use Rattle.raft_types.specs.Messages.{IsIndex, IsTerm};
 
     ghost Value = { RequestVoteView };
 

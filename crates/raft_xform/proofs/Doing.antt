@@ -4,7 +4,7 @@ use Rattle.std.proofs.lemmas.Bool.{and_parts, false≢true, leb-true}
 use Rattle.std.proofs.lemmas.List.{append_assoc}
 use Rattle.std.proofs.lemmas.List.Elements.{All-get_or}
 use Rattle.std.specs.List.{All}
-use Rattle.vst_base.specs.Committing.{advance}
+use Rattle.vst_base.specs.Elections.{advance}
 use Rattle.vst_base.specs.Logs.{accepted, has_conflict, matches}
 use Rattle.vst_base.specs.Machines.{MachineMeaning}
 use Rattle.vst_base.specs.declared.entry.Entry.{Entry}
@@ -15,8 +15,7 @@ use Rattle.raft_log.specs.declared.accept.Accept.TheVariants.{Taken, Below}
 use Rattle.raft_xform.specs.declared.role.Role.{Role}
 use Rattle.raft_xform.specs.declared.role.Role.TheVariants as role
 use Rattle.raft_xform.specs.Applying.{caught_up, settled}
-use Rattle.handler_trait.specs.Gathering.{Gathered}
-use Rattle.handler_trait.specs.Handling.{Does}
+use Rattle.handler_trait.specs.Handling.{Gathered, Does}
 use Rattle.raft_types.specs.Messages.{AppendView, AppendedView}
 use Rattle.raft_types.specs.declared.client.RaftOut.{RaftOut}
 use Rattle.raft_types.specs.declared.msg.RaftMsg.{RaftMsg}

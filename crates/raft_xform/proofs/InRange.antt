@@ -14,8 +14,7 @@ use Rattle.raft_types.specs.declared.client.RaftInput.{RaftInput}
 use Rattle.raft_types.specs.declared.limits.TheConstants.{MAX_INDEX}
 use Rattle.raft_types.specs.declared.msg.RaftMsg.{RaftMsg}
 use Rattle.raft_types.specs.declared.msg.RaftMsg.TheVariants as msg
-use Rattle.raft_xform.specs.Electing.{candidate, has_won, on_vote, sees_up_to_date, tick, voted}
-use Rattle.raft_xform.specs.Leading.{lead, led, broadcasts}
+use Rattle.raft_xform.specs.Electing.{candidate, has_won, on_vote, sees_up_to_date, tick, voted, lead, led, broadcasts}
 use Rattle.raft_xform.specs.Nodes.{RaftEffect, RaftView, is_candidate, is_leader, peer_at}
 use Rattle.raft_xform.specs.Raft.{by_message, on_message}
 use Rattle.raft_xform.specs.Replicating.{may_take, moved_by, on_append, on_input, on_moved}

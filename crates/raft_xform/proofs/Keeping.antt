@@ -2,24 +2,22 @@
 use Rattle.std.proofs.Common.{◌≡◌, ℕ, ◌<◌, ◌≤◌, Bool, true, false, not, ◌&&◌, length, cond, eqb, ltb, Result, Ok, Err, OnOk, refl, arith}
 use Rattle.std.proofs.lemmas.Bool.{and_parts, eqb-false, false≢true}
 use Rattle.vst_base.specs.declared.entry.TheConstants.{MAX_TERM}
-use Rattle.handler_trait.specs.Gathering.{Gathered}
-use Rattle.handler_trait.specs.Handling.{Does}
+use Rattle.handler_trait.specs.Handling.{Gathered, Does}
 use Rattle.vst_base.specs.Machines.{MachineMeaning}
 use Rattle.vst_base.specs.declared.what.What.TheVariants.{Request}
 use Rattle.raft_commit.specs.declared.peer.Moved.{Moved}
 use Rattle.raft_commit.specs.declared.peer.Moved.TheVariants as moves
 use Rattle.raft_election.specs.Ballots.{grants, may_start}
 use Rattle.raft_types.specs.Messages.{AppendView, AppendedView, RequestVoteView, VoteView}
+use Rattle.raft_types.specs.Terms.{term_of}
 use Rattle.raft_types.specs.declared.client.RaftInput.{RaftInput}
 use Rattle.raft_types.specs.declared.client.RaftOut.{RaftOut}
 use Rattle.raft_types.specs.declared.limits.TheConstants.{MAX_INDEX}
 use Rattle.raft_types.specs.declared.msg.RaftMsg.{RaftMsg}
 use Rattle.raft_types.specs.declared.msg.RaftMsg.TheVariants as msg
-use Rattle.raft_types.specs.Terms.{term_of}
 use Rattle.raft_xform.specs.declared.role.Role.{Role}
 use Rattle.raft_xform.specs.declared.role.Role.TheVariants as role
-use Rattle.raft_xform.specs.Electing.{campaign, has_won, on_request, on_vote, sees_up_to_date, tick, voted}
-use Rattle.raft_xform.specs.Leading.{lead}
+use Rattle.raft_xform.specs.Electing.{campaign, has_won, on_request, on_vote, sees_up_to_date, tick, voted, lead}
 use Rattle.raft_xform.specs.Nodes.{RaftEffect, RaftView, is_candidate, is_leader}
 use Rattle.raft_xform.specs.Raft.{by_message, on_message}
 use Rattle.raft_xform.specs.Replicating.{last_new, may_take, moved_by, on_append, on_appended, on_input, on_moved}

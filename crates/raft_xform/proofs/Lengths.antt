@@ -3,7 +3,7 @@ use Rattle.std.proofs.Common.{◌≡◌, ℕ, zero, suc, ◌+◌, ◌≤◌, max
 use Rattle.std.proofs.lemmas.List.{length-take-le}
 use Rattle.std.proofs.lemmas.Bool.{and_parts, ltb-true, false≢true, le-leb}
 use Rattle.vst_base.specs.declared.entry.Entry.{Entry}
-use Rattle.vst_base.specs.Committing.{advance, may_commit}
+use Rattle.vst_base.specs.Elections.{advance, may_commit}
 use Rattle.vst_base.specs.Logs.{accepted, has_conflict, merged, term_at}
 use Rattle.vst_base.proofs.LogTerms.{rest_behind, term_behind}
 

@@ -12,13 +12,11 @@ use Rattle.vst_base.specs.Machines.{MachineMeaning}
 use Rattle.raft_commit.specs.Peers.{PeerView, is_news, is_refusal, matched_of, moved, new_peer, peer_after}
 use Rattle.raft_commit.specs.declared.peer.Moved.TheVariants as moves
 use Rattle.raft_election.specs.Ballots.{may_start}
-use Rattle.raft_types.specs.Messages.{AppendView, AppendedView}
-use Rattle.raft_types.specs.Ranges.{IsClusterSize}
+use Rattle.raft_types.specs.Messages.{AppendView, AppendedView, IsClusterSize}
 use Rattle.raft_types.specs.declared.limits.TheConstants.{MAX_INDEX}
 use Rattle.raft_xform.specs.declared.role.Role.TheVariants as role
 use Rattle.raft_xform.specs.Applying.{caught_up, committed}
-use Rattle.raft_xform.specs.Electing.{candidate, heard, voted}
-use Rattle.raft_xform.specs.Leading.{led, broadcasts, with_entry, with_noop}
+use Rattle.raft_xform.specs.Electing.{candidate, heard, voted, led, broadcasts, with_entry, with_noop}
 use Rattle.raft_xform.specs.Nodes.{RaftView, is_leader, peer_at, started_with}
 use Rattle.raft_xform.specs.Replicating.{follower, known, last_new, may_take, moved_by, taken}
 use Rattle.raft_xform.specs.Sound.{ArePeers, IsPeer, IsSoundNode}

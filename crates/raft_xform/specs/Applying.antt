@@ -1,6 +1,6 @@
 -- What is committed, and what comes of it (the Raft paper, sections 5.3 and 5.4.2).
 use Rattle.std.specs.Prelude.{ℕ, ◌-◌, List, [], ◌∷◌, ◌++◌, length, take, drop, ◌==◌, if◌then◌else◌}
-use Rattle.vst_base.specs.Committing.{advance}
+use Rattle.vst_base.specs.Elections.{advance}
 use Rattle.vst_base.specs.Machines.{MachineMeaning}
 use Rattle.vst_base.specs.declared.entry.Entry.{Entry}
 use Rattle.vst_base.specs.declared.what.What.{What}

@@ -3,7 +3,6 @@ pub mod Clusters
 pub mod Codes
 pub mod Electing
 pub mod Examples
-pub mod Leading
 pub mod Nodes
 pub mod Raft
 pub mod RaftLaws

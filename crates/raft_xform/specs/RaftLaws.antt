@@ -22,9 +22,8 @@ use Rattle.raft_types.specs.declared.client.RaftOut.TheVariants as told
 use Rattle.raft_types.specs.declared.limits.TheConstants.{MAX_INDEX}
 use Rattle.raft_types.specs.declared.msg.RaftMsg.{RaftMsg}
 use Rattle.raft_types.specs.declared.msg.RaftMsg.TheVariants as msg
-use Rattle.raft_xform.specs.Electing.{campaign, candidate, has_won, heard, on_vote, sees_up_to_date, tick, voted}
+use Rattle.raft_xform.specs.Electing.{campaign, candidate, has_won, heard, on_vote, sees_up_to_date, tick, voted, broadcasts, lead, led, with_noop}
 use Rattle.raft_xform.specs.Applying.{caught_up, committed, due, replies, reply}
-use Rattle.raft_xform.specs.Leading.{broadcasts, lead, led, with_noop}
 use Rattle.raft_xform.specs.Nodes.{RaftEffect, RaftView, is_candidate, is_leader, stays}
 use Rattle.raft_xform.specs.Raft.{by_message, raft}
 use Rattle.raft_xform.specs.Replicating.{known, may_take, moved_by, on_append, on_moved, proposed, taken}

@@ -1,6 +1,6 @@
 -- How the leader's log comes to the other nodes (the Raft paper, section 5.3 and Figure 2).
 use Rattle.std.specs.Prelude.{ℕ, ◌+◌, Bool, true, false, not, ◌&&◌, List, [], ◌∷◌, length, nat_lt, ◌==◌, if◌then◌else◌}
-use Rattle.vst_base.specs.Committing.{learned_commit}
+use Rattle.vst_base.specs.Elections.{learned_commit}
 use Rattle.vst_base.specs.Logs.{accepted, has_conflict, matches}
 use Rattle.vst_base.specs.Machines.{MachineMeaning}
 use Rattle.vst_base.specs.declared.what.What.TheVariants.{Request}
@@ -16,7 +16,7 @@ use Rattle.raft_types.specs.declared.msg.RaftMsg.{RaftMsg}
 use Rattle.raft_types.specs.declared.msg.RaftMsg.TheVariants as msg
 use Rattle.raft_xform.specs.declared.role.Role.TheVariants as role
 use Rattle.raft_xform.specs.Applying.{caught_up, settled}
-use Rattle.raft_xform.specs.Leading.{and_sending, broadcasts, with_entry}
+use Rattle.raft_xform.specs.Electing.{and_sending, broadcasts, with_entry}
 use Rattle.raft_xform.specs.Nodes.{RaftEffect, RaftView, is_leader, peer_at, sending, stays, with_peer}
 use Rattle.raft_xform.specs.Sending.{append, append_rest}
 

@@ -1,7 +1,7 @@
 -- What a node sends of its own accord, and to whom (the Raft paper, Figure 2, Rules for Servers).
 use Rattle.std.specs.Prelude.{ℕ, zero, suc, ◌-◌, List, [], ◌∷◌, ◌++◌, length, nat_le, ◌==◌, if◌then◌else◌}
 use Rattle.vst_base.specs.Logs.{last_term, term_at}
-use Rattle.raft_commit.specs.Batches.{batch}
+use Rattle.raft_commit.specs.Peers.{batch}
 use Rattle.raft_types.specs.Messages.{AppendView}
 use Rattle.raft_types.specs.declared.msg.RaftMsg.{RaftMsg}
 use Rattle.raft_types.specs.declared.msg.RaftMsg.TheVariants as msg

@@ -4,7 +4,7 @@ use Rattle.std.specs.List.{All}
 use Rattle.vst_base.specs.Entries.{IsElectionTerm}
 use Rattle.vst_base.specs.declared.entry.TheConstants.{MAX_TERM}
 use Rattle.raft_commit.specs.Peers.{PeerView}
-use Rattle.raft_types.specs.Ranges.{IsClusterSize}
+use Rattle.raft_types.specs.Messages.{IsClusterSize}
 use Rattle.raft_types.specs.declared.limits.TheConstants.{MAX_INDEX}
 use Rattle.raft_types.specs.declared.msg.RaftMsg.{RaftMsg}
 use Rattle.raft_types.specs.declared.msg.RaftMsg.TheVariants as msg

@@ -1,6 +1,6 @@
 ghost use Rattle.std.specs.Prelude.{◌≡◌, ◌+◌, ◌≤◌, ◌<◌, OnOk};
 ghost use Rattle.handler_trait.specs.Handling.{Does};
-ghost use Rattle.raft_types.specs.Ranges.{IsTerm};
+ghost use Rattle.raft_types.specs.Messages.{IsTerm};
 ghost use Rattle.raft_xform.specs.Electing as rules;
 ghost use Rattle.raft_xform.specs.Sound.{IsSoundNode};
 ghost use Rattle.vst_base.specs.Entries.{IsElectionTerm};

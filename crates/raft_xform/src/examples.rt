@@ -3,7 +3,7 @@ ghost use Rattle.vst_base.specs.Examples.{counter};
 ghost use Rattle.net_semantics.specs.Runs.{first_refused, run, trace};
 ghost use Rattle.raft_types.specs.declared.client.RaftOut.TheVariants as told;
 ghost use Rattle.raft_xform.specs.Examples.{a_vote_outlives, append, appended, applied, ask, asked, candidate, committed_by_a_noop, entry, first, follower, leader, noop, old_entries, peer, to_each, unseated, vote, with_five_added, with_six_added};
-ghost use Rattle.raft_xform.specs.Leading.{and_sending};
+ghost use Rattle.raft_xform.specs.Electing.{and_sending};
 ghost use Rattle.raft_xform.specs.Nodes.{sending, stays};
 ghost use Rattle.raft_xform.specs.Raft.{raft, raft_recovery};
 ghost use Rattle.raft_xform.specs.Replicating.{follower as following, telling};

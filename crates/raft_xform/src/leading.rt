@@ -1,7 +1,7 @@
 ghost use Rattle.std.specs.Prelude.{◌≡◌, ◌+◌, ◌≤◌, ◌<◌, length, replicate, IfOk, IsTrue, OnOk};
 ghost use Rattle.handler_trait.specs.Handling.{Does};
 ghost use Rattle.raft_commit.specs.Peers.{new_peer};
-ghost use Rattle.raft_xform.specs.Leading as rules;
+ghost use Rattle.raft_xform.specs.Electing as rules;
 ghost use Rattle.raft_xform.specs.Nodes.{is_leader};
 ghost use Rattle.raft_xform.specs.Sound.{IsSoundNode};
 ghost use Rattle.vst_base.specs.Entries.{HasOrigin, IsElectionTerm};

@@ -1,5 +1,5 @@
 ghost use Rattle.std.specs.Prelude.{◌≡◌, ◌≤◌, ◌<◌, ◌-◌, length, refl, IfOk, IfSome, Some, slice_get};
-ghost use Rattle.raft_types.specs.Ranges.{IsClusterSize, IsTerm};
+ghost use Rattle.raft_types.specs.Messages.{IsClusterSize, IsTerm};
 ghost use Rattle.raft_xform.specs.Nodes as node;
 ghost use Rattle.raft_xform.specs.Raft.{raft, raft_recovery};
 ghost use Rattle.raft_xform.specs.RaftLaws as laws;
@@ -27,7 +27,7 @@ pub struct Raft<M: Machine> {
 }
 
 impl<M: Machine> Model for Raft<M> {
-    ghost use Rattle.raft_types.specs.Ranges.{IsClusterSize};
+    ghost use Rattle.raft_types.specs.Messages.{IsClusterSize};
     ghost use Rattle.raft_xform.specs.Clusters.{Cluster};
 
     ghost Value = { Cluster M };

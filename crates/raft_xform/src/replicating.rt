@@ -1,6 +1,6 @@
 ghost use Rattle.std.specs.Prelude.{◌≡◌, ◌≤◌, ◌<◌, ◌+◌, ◌++◌, [], ◌∷◌, length, IsFalse, IsTrue, OnOk};
 ghost use Rattle.handler_trait.specs.Handling.{Does};
-ghost use Rattle.raft_types.specs.Ranges.{IsIndex};
+ghost use Rattle.raft_types.specs.Messages.{IsIndex};
 ghost use Rattle.raft_xform.specs.Nodes.{is_leader};
 ghost use Rattle.raft_xform.specs.Replicating as rules;
 ghost use Rattle.raft_xform.specs.Sending.{append_rest};

@@ -1,6 +1,5 @@
 ghost use Rattle.std.specs.Prelude.{ℕ, ◌<◌, ◌≤◌, length, IfSome};
-ghost use Rattle.raft_types.specs.Keeping.{KeptView};
-ghost use Rattle.raft_types.specs.Ranges.{IsClusterSize};
+ghost use Rattle.raft_types.specs.Messages.{KeptView, IsClusterSize};
 ghost use Rattle.raft_types.specs.declared.client.RaftInput.{RaftInput};
 ghost use Rattle.raft_types.specs.declared.limits.TheConstants.{MAX_INDEX};
 ghost use Rattle.raft_types.specs.declared.msg.RaftMsg.{RaftMsg};

@@ -2,7 +2,7 @@
 use Rattle.std.proofs.Common.{◌≡◌, ℕ, ◌<◌, ◌≤◌, ◌⊎◌, inl, inr, Bool, true, false, leb, List, [], ◌∷◌, ◌++◌, cond, refl, sym, ap, ◌∙◌, arith}
 use Rattle.std.proofs.lemmas.Bool.{false≢true}
 use Rattle.vst_base.specs.Machines.{MachineMeaning, state_after}
-use Rattle.raft_clients.specs.Requests.{commands}
+use Rattle.raft_clients.specs.Executed.{commands}
 use Rattle.raft_free.specs.Events.{In}
 use Rattle.raft_types.specs.declared.client.RaftInput.{RaftInput}
 use Rattle.lists.specs.Each.{Each}

@@ -4,8 +4,7 @@ use Rattle.std.specs.List.{enumerate_from, filter_map}
 use Rattle.std.specs.Option.{option_to_list}
 use Rattle.vst_base.specs.declared.entry.Entry.{Entry}
 use Rattle.vst_base.specs.declared.step.Step.{Step}
-use Rattle.raft_clients.specs.Executed.{exceeds, executed_after, is_executed}
-use Rattle.raft_clients.specs.Requests.{request_of}
+use Rattle.raft_clients.specs.Executed.{exceeds, executed_after, is_executed, request_of}
 use Rattle.raft_types.specs.declared.client.RaftInput.{RaftInput}
 use Rattle.raft_safety.specs.Applied.{applied_by}
 use Rattle.raft_reads.specs.Clusters.{ReadCluster}

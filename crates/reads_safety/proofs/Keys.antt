@@ -4,8 +4,7 @@ use Rattle.std.proofs.lemmas.Bool.{le-leb, leb-true}
 use Rattle.std.specs.List.{cons_option}
 use Rattle.std.specs.Option.{option_to_list}
 use Rattle.vst_base.specs.declared.entry.Entry.{Entry}
-use Rattle.raft_clients.specs.Executed.{exceeds, executed_after}
-use Rattle.raft_clients.specs.Requests.{request_of, requests}
+use Rattle.raft_clients.specs.Executed.{exceeds, executed_after, request_of, requests}
 use Rattle.raft_types.specs.declared.client.RaftInput.{RaftInput}
 use Rattle.lists.specs.Each.{Each, each_weaker}
 use Rattle.reads_safety.proofs.Keyed.{executed_from, executed_if}

@@ -4,7 +4,7 @@ use Rattle.net_semantics.specs.Steps.{after_event, delivery, rebooted, with_pack
 use Rattle.net_semantics.specs.Worlds.{Packet, change_at, one_less}
 use Rattle.vst_base.specs.declared.step.Step.{Step}
 use Rattle.vst_base.specs.declared.step.Step.TheVariants as step
-use Rattle.raft_types.specs.Keeping.{KeptView}
+use Rattle.raft_types.specs.Messages.{KeptView}
 use Rattle.raft_types.specs.Terms.{term_of}
 use Rattle.raft_types.specs.declared.client.RaftInput.{RaftInput}
 use Rattle.raft_xform.specs.Electing.{tick}

@@ -9,7 +9,7 @@ use Rattle.vst_base.specs.declared.step.Step.TheVariants as step
 use Rattle.raft_commit.specs.declared.peer.Moved.{Moved}
 use Rattle.raft_commit.specs.declared.peer.Moved.TheVariants as moves
 use Rattle.raft_election.specs.Ballots.{grants, learned, may_start}
-use Rattle.raft_types.specs.Keeping.{KeptView}
+use Rattle.raft_types.specs.Messages.{KeptView}
 use Rattle.raft_types.specs.Terms.{term_of}
 use Rattle.raft_types.specs.declared.client.RaftInput.{RaftInput}
 use Rattle.raft_types.specs.declared.limits.TheConstants.{MAX_INDEX}

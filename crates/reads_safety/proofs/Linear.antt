@@ -7,13 +7,12 @@ use Rattle.net_semantics.specs.RunLaws.{trace_from-append}
 use Rattle.net_semantics.specs.Steps.{Event, event_of, input_item, items_of, items_of_event}
 use Rattle.net_semantics.specs.Worlds.{first_world}
 use Rattle.vst_base.specs.Machines.{state_after}
-use Rattle.vst_base.specs.StepViews.{view_of}
+use Rattle.vst_base.specs.Nets.{view_of}
 use Rattle.vst_base.specs.declared.entry.Entry.{Entry}
 use Rattle.vst_base.specs.declared.step.Item.TheVariants as item
 use Rattle.vst_base.specs.declared.step.Step.{Step}
 use Rattle.vst_base.specs.declared.step.Step.TheVariants as step
-use Rattle.raft_clients.specs.Executed.{executed}
-use Rattle.raft_clients.specs.Requests.{commands, requests}
+use Rattle.raft_clients.specs.Executed.{executed, commands, requests}
 use Rattle.raft_free.specs.Events.{In}
 use Rattle.raft_free.proofs.Stepping.{in_append}
 use Rattle.raft_types.specs.declared.client.RaftInput.{RaftInput}

@@ -3,7 +3,7 @@ use Rattle.std.proofs.Common.{◌≡◌, ℕ, ◌<◌, ◌≤◌, inl, inr, Bool
 use Rattle.std.proofs.lemmas.Bool.{eq-eqb, false≢true, leb-true, leb-false}
 use Rattle.std.specs.List.{filter}
 use Rattle.vst_base.specs.Machines.{MachineMeaning, outputs_from, state_after}
-use Rattle.raft_clients.specs.Requests.{commands}
+use Rattle.raft_clients.specs.Executed.{commands}
 use Rattle.raft_free.specs.Events.{In}
 use Rattle.raft_types.specs.declared.client.RaftInput.{RaftInput}
 use Rattle.lists.specs.Each.{Each, each_weaker}

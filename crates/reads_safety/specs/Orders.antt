@@ -4,8 +4,7 @@ use Rattle.std.specs.List.{enumerate_from, filter_map}
 use Rattle.net_semantics.specs.Steps.{Event, event_of}
 use Rattle.vst_base.specs.declared.entry.Entry.{Entry}
 use Rattle.vst_base.specs.declared.step.Step.{Step}
-use Rattle.raft_clients.specs.Executed.{executed_after}
-use Rattle.raft_clients.specs.Requests.{request_of}
+use Rattle.raft_clients.specs.Executed.{executed_after, request_of}
 use Rattle.raft_types.specs.declared.client.RaftInput.{RaftInput}
 use Rattle.raft_types.specs.declared.client.RaftOut.{RaftOut}
 use Rattle.raft_reads.specs.Clusters.{ReadCluster, ReadWorld, first, handlers, next_world}

@@ -2,7 +2,7 @@
 use Rattle.std.specs.Prelude.{◌≡◌, ◌&&◌, ◌||◌, List, [], ◌∷◌, None, IfSome, IsFalse, IsTrue}
 use Rattle.vst_base.specs.declared.step.Step.{Step}
 use Rattle.lists.specs.Each.{Each}
-use Rattle.raft_types.specs.Ranges.{IsClusterSize}
+use Rattle.raft_types.specs.Messages.{IsClusterSize}
 use Rattle.raft_types.specs.declared.client.RaftInput.{RaftInput}
 use Rattle.linearizability.specs.Linearizable.{is_named}
 use Rattle.raft_reads.specs.Clusters.{ReadCluster, first, input_of, refused_from}

@@ -3,7 +3,7 @@ use Rattle.std.specs.Prelude.{◌≡◌, ◌⊎◌, ℕ, suc, Bool, true, false,
 use Rattle.handler_trait.specs.Handling.{Meaning}
 use Rattle.vst_base.specs.declared.step.Step.{Step}
 use Rattle.vst_base.specs.declared.step.Step.TheVariants as step
-use Rattle.vst_base.specs.StepViews.{StepView, AtNode, OfPacket, Stops, Starts, view_of}
+use Rattle.vst_base.specs.Nets.{StepView, AtNode, OfPacket, Stops, Starts, view_of}
 use Rattle.net_semantics.specs.Worlds.{World, Packet, first_world}
 use Rattle.net_semantics.specs.Steps.{delivered, next}
 use Rattle.net_semantics.specs.Runs.{no_recovery}

@@ -1,3 +1,4 @@
 pub mod Moving
-pub mod InBytes
-pub mod OnBytes
+pub mod Told
+pub mod WorldInBytes
+pub mod WorldOnBytes

@@ -1,17 +1,20 @@
 -- One more step in bytes: it is refused alike, clients see the same of it, and it makes the world that is to be.
-use Rattle.std.specs.Prelude.{◌≡◌, ◌<◌, List, [], ◌∷◌, ◌++◌, length, refl}
+use Rattle.std.specs.Prelude.{◌≡◌, ℕ, zero, suc, ◌+◌, ◌<◌, List, [], ◌∷◌, ◌++◌, length, Option, None, option_map, refl}
 use Rattle.std.proofs.Common.{ap, ◌∙◌, sym, arith, length-append}
 use Rattle.std.proofs.lemmas.List.{append-nil, append_cancel_left}
 use Rattle.handler_trait.specs.Handling.{Meaning, Recovery}
-use Rattle.net_semantics.specs.RunLaws.{run_from-append, trace_from-append}
-use Rattle.net_semantics.specs.Runs.{IsAllowed, run, trace}
+use Rattle.net_semantics.specs.RunLaws.{first_refused_from-append, later, run_from-append, trace_from-append}
+use Rattle.net_semantics.specs.Runs.{IsAllowed, place_and_why, run, trace}
 use Rattle.net_semantics.specs.Steps.{items_of, next, refusal_of}
 use Rattle.net_semantics.specs.Worlds.{World, first_world}
 use Rattle.vst_base.specs.declared.net.Net.{Net}
 use Rattle.vst_base.specs.declared.step.Step.{Step}
+use Rattle.vst_base.specs.declared.step.StepRefusal.{StepRefusal}
 use Rattle.vst_base.specs.declared.step.TheConstants.{MAX_STEPS}
 use Rattle.wired.specs.Same.{RunsAlike}
 use Rattle.wired.specs.StackRuns.{AreInputSteps, IsInputStep, MayCome}
+use Rattle.xform_stack.specs.Running.{HasTaken, Progress}
+use Rattle.xform_stack.specs.Systems.{System}
 use Rattle.runs_in_bytes.specs.Running.{RanInBytes}
 
 inputs_more : {I : Type 0} (IsInput : I → Type 0) (ss : List (Step I)) (s : Step I) → AreInputSteps IsInput ss → IsInputStep IsInput s → AreInputSteps IsInput (ss ++ s ∷ [])
@@ -55,3 +58,24 @@ pub ran_none : {S K M S2 K2 M2 I O : Type 0} (IsInput : I → Type 0) (net : Net
     (stands_for : World S K M → World S2 K2 M2) → ((ts : List (Step I)) → MayCome IsInput ts → RunsAlike net m2 r2 m r stands_for ts)
     → RanInBytes IsInput net m2 r2 m r stands_for []
 ran_none IsInput net m2 r2 m r stands_for alike = record { inputs = tt; same = (alike [] (record { few = omega arith; inputs = tt })).allowed refl }
+
+later_none : (n : ℕ) → later n None ≡ None
+later_none zero = refl
+later_none (suc n) = ap (λ o. option_map (λ (p : ℕ × StepRefusal). (suc p.0, p.1)) o) (later_none n)
+
+none_first : (f : Option StepRefusal) → f ≡ None → place_and_why f None ≡ None
+none_first f e = rw e refl
+
+-- a step that is not refused goes on a schedule that is allowed
+pub allowed_more : {S K I O M : Type 0} (net : Net) (m : Meaning S I O M) (r : Recovery S K) (ss : List (Step I)) (s : Step I) → IsAllowed net m r ss
+    → refusal_of net m (run m r ss) s ≡ None → IsAllowed net m r (ss ++ s ∷ [])
+allowed_more net m r ss s allowed not_refused =
+    first_refused_from-append m r net (first_world m) ss (s ∷ []) allowed
+    ∙ (ap (later (length ss)) (none_first (refusal_of net m (run m r ss) s) not_refused) ∙ later_none (length ss))
+
+-- and so a network has taken it
+pub taken_more : {W S K I O M : Type 0} (sys : System S K I O M) (follows : W → List (Step I) → Type 0) (progress : W → Progress I O) (ss : List (Step I)) (s : Step I) (w v : W)
+    → HasTaken sys follows progress ss w → IsAllowed sys.net sys.meaning sys.recovery (ss ++ s ∷ []) → (progress v).taken ≡ (progress w).taken + 1 → follows v (ss ++ s ∷ [])
+    → HasTaken sys follows progress (ss ++ s ∷ []) v
+taken_more sys follows progress ss s w v had allowed counted followed =
+    record { followed = followed; allowed = allowed; counted = omega (arith, counted, had.counted, length-append ss (s ∷ [])) }

@@ -1,7 +1,8 @@
 pub mod Running
 pub mod ToldLaws
 pub mod Within
-pub mod Alone
+pub mod Carrying
+pub mod CarryingLaws
 pub mod Clusters
 pub mod ClusterLaws
 pub mod Examples

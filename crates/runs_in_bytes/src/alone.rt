@@ -1,151 +1,58 @@
-ghost use Rattle.std.specs.Prelude.{◌≡◌, [], IfOk};
-ghost use Rattle.wired.specs.StackRuns.{IsInputStep};
-ghost use Rattle.runs_in_bytes.specs.Alone.{HasFollowedOnBytes, IsSoundOnBytes, system_within};
+ghost use Rattle.std.specs.Prelude.{◌≡◌, ℕ, List};
+ghost use Rattle.handler_trait.specs.Handling.{Recovery};
+ghost use Rattle.net_semantics.specs.Worlds.{World};
+ghost use Rattle.vst_base.specs.declared.step.Step.{Step};
+ghost use Rattle.wired.specs.Same.{RunsAlike};
+ghost use Rattle.wired.specs.StackRuns.{MayCome};
+ghost use Rattle.runs_in_bytes.specs.Within.{TellsTheSame};
 
-use crate::OnBytesAlone;
-use handler_trait::Handlers;
-use net_semantics::{FailWorld, Trace};
-use std::alloc::{AllocError, Global};
-use std::marker::Model;
-use vst_base::{Net, Node, Step};
-use xform_stack::{Explores, Ran, RunFault, Runs, fault_at};
+use handler_trait::{Handlers, Rebootable};
+use vst_base::Net;
 
-/// A schedule of handlers that are carried on bytes alone, on a network that fails, that is run one step at a time: the world so far, and
-/// what becomes the image.
-#[derive(Drop)]
-pub struct RunningOnBytes<H: OnBytesAlone> {
-    alloc: Global,
-    world: FailWorld<H>,
-    order: H::Order,
-}
+/// Handlers whose nodes stop and start again, carried on bytes alone: their packets are bytes, and so is what a node keeps while it is
+/// stopped. They run as the handlers within do.
+pub trait OnBytesAlone: Rebootable {
+    /// The handlers within.
+    type Inner: Handlers<Input = Self::Input, Output = Self::Output>;
 
-impl<H: OnBytesAlone> Model for RunningOnBytes<H> {
-    ghost use Rattle.runs_in_bytes.specs.Alone.{AloneView};
+    /// What a node of those keeps.
+    type InnerKept: Drop;
 
-    ghost Value = { AloneView H H.State H.Kept H.Input H.Output H.Msg H.Order };
+    /// The handlers within.
+    ghost within: { Self → Self.Inner };
 
-    ghost view = { λ r. record { world = r.world; order = r.order } };
-}
+    /// How a node of them stops and starts again.
+    ghost within_recovery: { Self → Recovery Self.Inner.State Self.InnerKept };
 
-// A step's input has bytes.
-fn has_bytes<H: OnBytesAlone>(step: &Step<H::Input>)
-    ensures { IsInputStep H.has_bytes step.now }
-{
-    match step {
-        Step::In(_, input) => H::has_bytes(input),
-        Step::Deliver(_)
-        | Step::Tick(_)
-        | Step::Dup(_)
-        | Step::Lose(_)
-        | Step::Crash(_)
-        | Step::Reboot(_) => {}
-    }
-}
+    /// The world in bytes that stands for one of theirs.
+    ghost byte_world: { Self → World Self.Inner.State Self.InnerKept Self.Inner.Msg → World Self.State Self.Kept Self.Msg };
 
-impl<H: OnBytesAlone> RunningOnBytes<H> {
-    /// No step yet of these handlers, whose bytes are to be the stack's own.
-    pub fn start(alloc: Global, handlers: H) -> Result<Self, AllocError>
-        ensures handlers { IfOk result (λ running. running.world.handlers ≡ handlers) }
-        ensures started { H.is_own handlers → IfOk result (λ running.
-            HasFollowedOnBytes H.OnBytesAlone.own H.Rebootable running.world.handlers running []) }
-        ensures trace { IfOk result (λ running. running.world.trace ≡ []) }
-        ensures taken { IfOk result (λ running. running.world.taken ≡ 0) }
-        ensures sound { H.is_own handlers → IfOk result (λ running. IsSoundOnBytes H.OnBytesAlone.own H.Rebootable running.world) }
-    {
-        H::run_on_bytes_alone();
-        Ok(RunningOnBytes {
-            alloc,
-            world: FailWorld::new(alloc, handlers)?,
-            order: H::start(alloc),
-        })
-    }
-}
+    /// Which inputs have bytes.
+    ghost has_bytes: { Self.Input → Type 0 };
 
-impl<H: OnBytesAlone> Runs for RunningOnBytes<H> {
-    type State = H::InnerState;
+    /// Whether their packets and what their nodes keep are bytes of their own stack.
+    ghost is_own: { Self → Type 0 };
 
-    type Kept = H::InnerKept;
+    /// An input has bytes.
+    fn has_bytes(input: &Self::Input)
+        ensures { has_bytes input.now };
 
-    type Input = H::Input;
+    /// They refuse what the handlers within refuse, and clients see the same.
+    fn run_on_bytes_alone()
+        ensures { (h : Self) (ss : List (Step Self.Input)) → is_own h → MayCome has_bytes ss
+            → RunsAlike Net.Fail (Self.meaning h) (Self.recovery h) (Self.Inner.meaning (within h)) (within_recovery h)
+            (byte_world h) ss };
 
-    type Output = H::Output;
+    /// The handlers within.
+    fn inner(&self) -> &Self::Inner
+        ensures { result.now ≡ within self.now };
 
-    type Msg = H::InnerMsg;
+    /// The state of the handlers within in a state of a node.
+    fn inner_state(state: &Self::State) -> &<Self::Inner as Handlers>::State
+        ensures state { (h : Self) (w : World Self.Inner.State Self.InnerKept Self.Inner.Msg) (n : ℕ)
+            → state.now ≡ (byte_world h w).state n → result.now ≡ w.state n }
+        ensures sound { (h : Self) (n : ℕ) → Self.sound h n state.now → Self.Inner.sound (within h) n result.now };
 
-    type Line = H::Line;
-
-    ghost system = { λ r. system_within H.OnBytesAlone.own r.world.handlers };
-
-    ghost progress = { λ r. record { trace = r.world.trace; taken = r.world.taken } };
-
-    ghost follows = { λ r ss. HasFollowedOnBytes H.OnBytesAlone.own H.Rebootable r.world.handlers r ss };
-
-    ghost sound = { λ r. IsSoundOnBytes H.OnBytesAlone.own H.Rebootable r.world };
-
-    fn step(&mut self, step: &Step<H::Input>) -> Result<(), RunFault> {
-        H::run_on_bytes_alone();
-        has_bytes::<H>(step);
-        let place = self.world.taken();
-        match self.world.step(step) {
-            Ok(()) => {}
-            Err(why) => return Err(fault_at(why, place)),
-        }
-        let Ok(()) = H::follow(&mut self.order, self.alloc, &self.world) else {
-            return Err(RunFault::Memory);
-        };
-        Ok(())
-    }
-
-    fn trace(&self) -> &Trace<H::Input, H::Output> {
-        self.world.trace()
-    }
-
-    fn forget_trace(&mut self) {
-        self.world.forget_trace();
-    }
-
-    fn taken(&self) -> u32 {
-        self.world.taken()
-    }
-
-    fn image(&self) -> &[H::Line] {
-        H::lines(&self.order)
-    }
-
-    fn finish(self) -> Ran<H::Input, H::Output, H::Line> {
-        Ran {
-            trace: self.world.into_trace(),
-            image: H::into_image(self.order),
-        }
-    }
-}
-
-impl<H: OnBytesAlone> Explores for RunningOnBytes<H> {
-    fn net(&self) -> Net {
-        Net::Fail
-    }
-
-    fn nodes(&self) -> u8 {
-        self.world.handlers().nodes()
-    }
-
-    fn takes_input(&self, n: Node) -> bool {
-        self.world.handlers().takes_input(n)
-    }
-
-    fn is_up(&self, n: Node) -> bool {
-        self.world.is_up(n)
-    }
-
-    fn sent(&self) -> u32 {
-        self.world.sent()
-    }
-
-    fn copies(&self, k: u32) -> u32 {
-        self.world.copies(k)
-    }
-
-    fn ends(&self, k: u32) -> Option<(Node, Node)> {
-        self.world.ends(k)
-    }
+    /// Of nodes and packets they tell what the handlers within tell.
+    ghost tells: { (h : Self) → TellsTheSame (Self.meaning h) (Self.Inner.meaning (within h)) (byte_world h) };
 }

@@ -1,56 +1,44 @@
-ghost use Rattle.std.specs.Prelude.{◌≡◌, [], IfOk};
-ghost use Rattle.applied_order.specs.Orders.{HasFollowed};
-ghost use Rattle.raft_safety.specs.Applied.{applied_by, executed_by};
-ghost use Rattle.raft_types.specs.Ranges.{IsClusterSize};
-ghost use Rattle.raft_xform.specs.Raft.{raft, raft_recovery};
+ghost use Rattle.std.specs.Prelude.{◌≡◌, [], IfOk, refl};
+ghost use Rattle.raft_types.specs.Messages.{IsClusterSize};
+ghost use Rattle.raft_xform.specs.Raft.{raft_recovery};
+ghost use Rattle.wire_codec.specs.Headings.{HasByte};
+ghost use Rattle.wire_messages.specs.RaftBytes.{raft_message};
 ghost use Rattle.wired.specs.RaftSaving.{IsAsked};
+ghost use Rattle.wired.specs.WiredRuns.{IsFormatOf};
+ghost use Rattle.xform_stack.specs.Running.{HasTaken};
+ghost use Rattle.xform_stack.specs.Systems.{cluster_of};
 ghost use Rattle.runs_in_bytes.specs.ClusterLaws.{cluster_tells};
 ghost use Rattle.runs_in_bytes.specs.Clusters.{IsOwnCluster, byte_world};
 
 use crate::name::no_name;
-use crate::{AlwaysFits, ClusteredCommands, OnBytesAlone, RunningOnBytes};
-use applied_order::AppliedOrder;
-use handler_trait::Handlers;
-use net_semantics::FailWorld;
+use crate::{OnBytes, OnBytesAlone};
+use net_semantics::{StepFault, Trace};
 use node_body::Commands;
-use raft_types::{Kept, RaftInput, RaftMsg};
+use raft_types::{Kept, RaftInput, RaftOut};
 use raft_xform::{Raft, RaftState};
 use std::alloc::{AllocError, Global};
-use trace_maps::Image;
-use vst_base::{Machine, Node};
-use wired::{Cluster, Saved, Wired};
-use xform_stack::Runs;
-
-/// A schedule of a machine on a cluster that is run on bytes alone: the image is the requests in the order in which they are executed.
-pub type ClusterInBytes<M> = RunningOnBytes<Wired<Saved<Raft<M>>>>;
+use std::marker::Model;
+use vst_base::{Machine, Net, Node, Step};
+use wired::{AlwaysFits, Cluster, Saved, SeatState, Wired, clusters_run_the_same_on_bytes_alone};
+use xform_stack::Network;
 
 impl<M: Machine> OnBytesAlone for Wired<Saved<Raft<M>>>
 where
-    M::Cmd: ClusteredCommands,
+    M::Cmd: Commands + AlwaysFits,
 {
-    type InnerState = RaftState<M::State, M::Cmd, M::Out>;
+    type Inner = Raft<M>;
 
     type InnerKept = Kept<M::Cmd>;
 
-    type InnerMsg = RaftMsg<M::Cmd>;
-
-    type Order = AppliedOrder<M::Cmd>;
-
-    type Line = RaftInput<M::Cmd>;
-
-    ghost within = { λ w. raft w.inner.inner.nodes (M.meaning w.inner.inner.machine) };
+    ghost within = { λ w. w.inner.inner };
 
     ghost within_recovery = { λ w. raft_recovery (M.meaning w.inner.inner.machine) };
-
-    ghost image_of = { λ w. executed_by (M.meaning w.inner.inner.machine) w.inner.inner.nodes };
 
     ghost byte_world = { λ w. byte_world M.Cmd.format M.Cmd.stack w };
 
     ghost has_bytes = { IsAsked M.Cmd.format };
 
-    ghost is_own = { IsOwnCluster M.Cmd.stack };
-
-    ghost has_followed = { λ o w ss. HasFollowed o (applied_by (M.meaning w.inner.inner.machine) w.inner.inner.nodes ss) };
+    ghost is_own = { IsOwnCluster M.Cmd.format M.Cmd.stack };
 
     fn has_bytes(input: &RaftInput<M::Cmd>) {
         input.client.number();
@@ -59,33 +47,17 @@ where
     }
 
     fn run_on_bytes_alone() {
-        M::Cmd::cluster_runs_on_bytes_alone::<M::State, M::Out>();
+        clusters_run_the_same_on_bytes_alone::<M::State, M::Out, M::Cmd>();
     }
 
-    fn start(alloc: Global) -> AppliedOrder<M::Cmd> {
-        AppliedOrder::new(alloc)
+    fn inner(&self) -> &Raft<M> {
+        self.inner().inner()
     }
 
-    fn follow(
-        order: &mut AppliedOrder<M::Cmd>,
-        alloc: Global,
-        world: &FailWorld<Wired<Saved<Raft<M>>>>,
-    ) -> Result<(), AllocError> {
-        let cluster = world.handlers().inner().inner();
-        let nodes = cluster.nodes();
-        for n in 0..nodes {
-            let node = Node::new(n, nodes).unwrap();
-            order.catch_up(alloc, cluster, world.state(node).inner())?;
-        }
-        Ok(())
-    }
-
-    fn lines(order: &AppliedOrder<M::Cmd>) -> &[RaftInput<M::Cmd>] {
-        order.requests()
-    }
-
-    fn into_image(order: AppliedOrder<M::Cmd>) -> Image<RaftInput<M::Cmd>> {
-        Image::from_lines(order.into_requests())
+    fn inner_state(
+        state: &SeatState<RaftState<M::State, M::Cmd, M::Out>>,
+    ) -> &RaftState<M::State, M::Cmd, M::Out> {
+        state.inner()
     }
 
     ghost tells = { λ w. cluster_tells M.Cmd.format M.Cmd.stack (M.meaning w.inner.inner.machine) w };
@@ -94,10 +66,12 @@ where
 // A cluster of this machine on so many nodes, carried on bytes alone.
 fn on_bytes<M: Machine>(machine: M, nodes: u8) -> Wired<Saved<Raft<M>>>
 where
-    M::Cmd: ClusteredCommands,
-    requires { IsClusterSize nodes }
+    M::Cmd: Commands + AlwaysFits,
+    requires size { IsClusterSize nodes }
+    requires packets { HasByte M.Cmd.stack }
+    requires format { IsFormatOf M.Cmd.stack (raft_message M.Cmd.format) }
     ensures within { result.inner.inner ≡ record { machine = machine; nodes = nodes } }
-    ensures own { IsOwnCluster M.Cmd.stack result }
+    ensures own { IsOwnCluster M.Cmd.format M.Cmd.stack result }
 {
     let name = no_name();
     let cluster = Cluster {
@@ -108,19 +82,116 @@ where
     Wired::new(nodes, cluster)
 }
 
-impl<M: Machine> RunningOnBytes<Wired<Saved<Raft<M>>>>
+/// A cluster of a machine, carried on bytes alone.
+#[derive(Drop)]
+pub struct ClusterInBytes<M: Machine>
 where
-    M::Cmd: ClusteredCommands,
+    M::Cmd: Commands + AlwaysFits,
 {
-    /// No step yet of this machine on a cluster of so many nodes, 1 to `MAX_NODES`.
+    network: OnBytes<Wired<Saved<Raft<M>>>>,
+}
+
+impl<M: Machine> Model for ClusterInBytes<M>
+where
+    M::Cmd: Commands + AlwaysFits,
+{
+    ghost use Rattle.std.specs.Coded.{codes};
+    ghost use Rattle.raft_xform.specs.Codes.{raft_code};
+    ghost use Rattle.wired.specs.Saving.{seated_code};
+    ghost use Rattle.runs_in_bytes.specs.Clusters.{ClusterView};
+
+    ghost Value = { ClusterView M M.State M.Cmd M.Out };
+
+    ghost coded = { Prim.hlevel (codes, seated_code (raft_code M.State.code M.Cmd.code M.Out.code)) };
+
+    ghost view = { λ r. r.network };
+}
+
+impl<M: Machine> ClusterInBytes<M>
+where
+    M::Cmd: Commands + AlwaysFits,
+{
+    /// No step yet of this machine on a cluster of so many nodes, 1 to `MAX_NODES`, whose messages are those of the stack of its
+    /// commands.
     pub fn new(alloc: Global, machine: M, nodes: u8) -> Result<Self, AllocError>
-        requires { IsClusterSize nodes }
-        ensures handlers { IfOk result (λ running. running.world.handlers.inner.inner ≡ record { machine = machine; nodes = nodes }) }
-        ensures started { IfOk result (λ running. ⟦<ClusterInBytes<M> as Runs>⟧.follows running []) }
-        ensures trace { IfOk result (λ running. running.world.trace ≡ []) }
-        ensures taken { IfOk result (λ running. running.world.taken ≡ 0) }
-        ensures sound { IfOk result ⟦<ClusterInBytes<M> as Runs>⟧.sound }
+        requires size { IsClusterSize nodes }
+        requires packets { HasByte M.Cmd.stack }
+        requires format { IsFormatOf M.Cmd.stack (raft_message M.Cmd.format) }
+        ensures handlers { IfOk result (λ network. network.handlers.inner.inner ≡ record { machine = machine; nodes = nodes }) }
+        ensures started { IfOk result (λ network. HasTaken (⟦<ClusterInBytes<M> as Network<Raft<M>>>⟧.system network)
+            ⟦<ClusterInBytes<M> as Network<Raft<M>>>⟧.follows ⟦<ClusterInBytes<M> as Network<Raft<M>>>⟧.progress [] network) }
+        ensures trace { IfOk result (λ network. network.trace ≡ []) }
+        ensures sound { IfOk result ⟦<ClusterInBytes<M> as Network<Raft<M>>>⟧.sound }
     {
-        RunningOnBytes::start(alloc, on_bytes(machine, nodes))
+        Ok(ClusterInBytes {
+            network: OnBytes::start(alloc, on_bytes(machine, nodes))?,
+        })
     }
+}
+
+impl<M: Machine> Network<Raft<M>> for ClusterInBytes<M>
+where
+    M::Cmd: Commands + AlwaysFits,
+{
+    type Kept = Kept<M::Cmd>;
+
+    ghost within = { λ w. w.handlers.inner.inner };
+
+    ghost system = { λ w. cluster_of (M.meaning w.handlers.inner.inner.machine) w.handlers.inner.inner.nodes };
+
+    ghost progress = { λ w. record { trace = w.trace; taken = w.taken } };
+
+    ghost follows = { ⟦<OnBytes<Wired<Saved<Raft<M>>>> as Network<Raft<M>>>⟧.follows };
+
+    ghost sound = { ⟦<OnBytes<Wired<Saved<Raft<M>>>> as Network<Raft<M>>>⟧.sound };
+
+    fn step(&mut self, step: &Step<RaftInput<M::Cmd>>) -> Result<(), StepFault> {
+        self.network.step(step)
+    }
+
+    fn handlers(&self) -> &Raft<M> {
+        self.network.handlers()
+    }
+
+    fn net(&self) -> Net {
+        self.network.net()
+    }
+
+    fn trace(&self) -> &Trace<RaftInput<M::Cmd>, RaftOut<M::Out>> {
+        self.network.trace()
+    }
+
+    fn forget_trace(&mut self) {
+        self.network.forget_trace();
+    }
+
+    fn into_trace(self) -> Trace<RaftInput<M::Cmd>, RaftOut<M::Out>> {
+        self.network.into_trace()
+    }
+
+    fn taken(&self) -> u32 {
+        self.network.taken()
+    }
+
+    fn state(&self, n: Node) -> &RaftState<M::State, M::Cmd, M::Out> {
+        self.network.state(n)
+    }
+
+    fn is_up(&self, n: Node) -> bool {
+        self.network.is_up(n)
+    }
+
+    fn sent(&self) -> u32 {
+        self.network.sent()
+    }
+
+    fn copies(&self, k: u32) -> u32 {
+        self.network.copies(k)
+    }
+
+    fn ends(&self, k: u32) -> Option<(Node, Node)> {
+        self.network.ends(k)
+    }
+
+    ghost same_meaning = { λ _. refl };
 }

@@ -1,23 +1,19 @@
-//! Schedules that are run in bytes: each packet is spelled when it is sent and read when it comes, and what a node of a cluster keeps
-//! while it is stopped is bytes alone. What clients see, what is refused and the image are those of the handlers that the stack is of.
-//! It knows nothing of texts.
+//! Networks that carry bytes: each packet is spelled when it is sent and read when it comes (`InBytes`), and what a node of a cluster
+//! keeps while it is stopped is bytes alone (`OnBytes`). What clients see and what is refused are those of the handlers within, and so
+//! are the worlds that their bytes stand for. They know nothing of images and of texts.
 #![tactic(auto)]
 
 mod alone;
-mod always_fits;
+mod carries_bytes;
 mod cluster;
-mod commands;
 mod examples;
+mod in_bytes;
 mod name;
 mod on_bytes;
-mod on_wire;
-mod running;
 
-pub use alone::RunningOnBytes;
-pub use always_fits::AlwaysFits;
+pub use alone::OnBytesAlone;
+pub use carries_bytes::{CarriesBytes, KeepsBytes};
 pub use cluster::ClusterInBytes;
-pub use commands::{BackedCommands, BackedNumberedCommands, ClusteredCommands};
-pub use examples::{worked_clusters, worked_worlds};
-pub use on_bytes::OnBytesAlone;
-pub use on_wire::{OnWire, OnWireNumbered};
-pub use running::RunningInBytes;
+pub use examples::{worked_clusters, worked_packets, worked_worlds};
+pub use in_bytes::InBytes;
+pub use on_bytes::OnBytes;

@@ -1,89 +1,130 @@
-ghost use Rattle.std.specs.Prelude.{◌≡◌, List, [], OnOk};
-ghost use Rattle.handler_trait.specs.Handling.{Meaning, Recovery};
-ghost use Rattle.net_semantics.specs.ShownFail.{IsSoundFailBy, ShowsFailBy};
-ghost use Rattle.net_semantics.specs.Worlds.{World};
-ghost use Rattle.vst_base.specs.declared.step.Step.{Step};
-ghost use Rattle.wired.specs.Same.{RunsAlike};
-ghost use Rattle.wired.specs.StackRuns.{MayCome};
-ghost use Rattle.runs_in_bytes.specs.Within.{FollowsMore, TellsTheSame};
+ghost use Rattle.std.specs.Prelude.{◌≡◌, [], IfOk, refl};
+ghost use Rattle.vst_base.specs.declared.net.Net.TheVariants as net_id;
+ghost use Rattle.wired.specs.StackRuns.{IsInputStep};
+ghost use Rattle.xform_stack.specs.Running.{HasTaken};
+ghost use Rattle.runs_in_bytes.specs.Running.{HasFollowedOnBytes, IsSoundOnBytes};
 
-use handler_trait::Rebootable;
-use net_semantics::FailWorld;
+use crate::OnBytesAlone;
+use handler_trait::Handlers;
+use net_semantics::{FailWorld, StepFault, Trace};
 use std::alloc::{AllocError, Global};
-use trace_maps::Image;
-use vst_base::Net;
+use std::marker::Model;
+use vst_base::{Net, Node, Step};
+use xform_stack::Network;
 
-/// Handlers whose nodes stop and start again, carried on bytes alone: their packets are bytes, and so is what a node keeps while it is
-/// stopped. They run as the handlers within do, and the image of such a run grows with it.
-pub trait OnBytesAlone: Rebootable {
-    /// A state of a node of the handlers within.
-    type InnerState: Drop;
+/// A network on which packets are copied and lost, and nodes stop and start again, of handlers that are carried on bytes alone.
+#[derive(Drop)]
+pub struct OnBytes<H: OnBytesAlone> {
+    world: FailWorld<H>,
+}
 
-    /// What such a node keeps.
-    type InnerKept: Drop;
+impl<H: OnBytesAlone> Model for OnBytes<H> {
+    ghost use Rattle.net_semantics.specs.ShownFail.{FailView};
 
-    /// What it sends.
-    type InnerMsg: Drop;
+    ghost Value = { FailView H H.State H.Kept H.Input H.Output H.Msg };
 
-    /// What becomes the image.
-    type Order: Drop;
+    ghost view = { λ r. r.world };
+}
 
-    /// A line of the image.
-    type Line: Drop;
+// A step's input has bytes.
+fn has_bytes<H: OnBytesAlone>(step: &Step<H::Input>)
+    ensures { IsInputStep H.has_bytes step.now }
+{
+    match step {
+        Step::In(_, input) => H::has_bytes(input),
+        Step::Deliver(_)
+        | Step::Tick(_)
+        | Step::Dup(_)
+        | Step::Lose(_)
+        | Step::Crash(_)
+        | Step::Reboot(_) => {}
+    }
+}
 
-    /// The handlers within.
-    ghost within: { Self → Meaning Self.InnerState Self.Input Self.Output Self.InnerMsg };
+impl<H: OnBytesAlone> OnBytes<H> {
+    /// No step yet of these handlers, whose bytes are to be the stack's own.
+    pub fn start(alloc: Global, handlers: H) -> Result<Self, AllocError>
+        requires { H.is_own handlers }
+        ensures handlers { IfOk result (λ network. network.handlers ≡ handlers) }
+        ensures started { IfOk result (λ network. HasTaken (⟦<OnBytes<H> as Network<H::Inner>>⟧.system network)
+            ⟦<OnBytes<H> as Network<H::Inner>>⟧.follows ⟦<OnBytes<H> as Network<H::Inner>>⟧.progress [] network) }
+        ensures trace { IfOk result (λ network. network.trace ≡ []) }
+        ensures sound { IfOk result ⟦<OnBytes<H> as Network<H::Inner>>⟧.sound }
+    {
+        H::run_on_bytes_alone();
+        Ok(OnBytes {
+            world: FailWorld::new(alloc, handlers)?,
+        })
+    }
+}
 
-    /// How a node of them stops and starts again.
-    ghost within_recovery: { Self → Recovery Self.InnerState Self.InnerKept };
+impl<H: OnBytesAlone> Network<H::Inner> for OnBytes<H> {
+    type Kept = H::InnerKept;
 
-    /// The image of a schedule of theirs.
-    ghost image_of: { Self → List (Step Self.Input) → List Self.Line };
+    ghost within = { λ w. H.within w.handlers };
 
-    /// The world in bytes that stands for one of theirs.
-    ghost byte_world: { Self → World Self.InnerState Self.InnerKept Self.InnerMsg → World Self.State Self.Kept Self.Msg };
+    ghost system = { λ w. record {
+      net = net_id.Fail;
+      meaning = H.Inner.meaning (H.within w.handlers);
+      recovery = H.within_recovery w.handlers;
+    } };
 
-    /// Which inputs have bytes.
-    ghost has_bytes: { Self.Input → Type 0 };
+    ghost progress = { λ w. record { trace = w.trace; taken = w.taken } };
 
-    /// Whether their packets and what their nodes keep are bytes of their own stack.
-    ghost is_own: { Self → Type 0 };
+    ghost follows = { λ w ss. HasFollowedOnBytes H.has_bytes (H.meaning w.handlers) (H.recovery w.handlers)
+        (H.Inner.meaning (H.within w.handlers)) (H.within_recovery w.handlers) (H.byte_world w.handlers) w ss };
 
-    /// Whether the order is that of a run of these steps.
-    ghost has_followed: { Self.Order → Self → List (Step Self.Input) → Type 0 };
+    ghost sound = { λ w. IsSoundOnBytes H.is_own H.Rebootable w };
 
-    /// An input has bytes.
-    fn has_bytes(input: &Self::Input)
-        ensures { has_bytes input.now };
+    fn step(&mut self, step: &Step<H::Input>) -> Result<(), StepFault> {
+        H::run_on_bytes_alone();
+        has_bytes::<H>(step);
+        self.world.step(step)
+    }
 
-    /// They refuse what the handlers within refuse, and clients see the same.
-    fn run_on_bytes_alone()
-        ensures { (h : Self) (ss : List (Step Self.Input)) → is_own h → MayCome has_bytes ss
-            → RunsAlike Net.Fail (Self.meaning h) (Self.recovery h) (within h) (within_recovery h) (byte_world h) ss };
+    fn handlers(&self) -> &H::Inner {
+        self.world.handlers().inner()
+    }
 
-    /// The order of no step. It takes no memory.
-    fn start(alloc: Global) -> Self::Order
-        ensures { (h : Self) → has_followed result h [] };
+    fn net(&self) -> Net {
+        Net::Fail
+    }
 
-    /// Follows a step that the world took. After an `Err` the order is given up.
-    fn follow(
-        order: &mut Self::Order,
-        alloc: Global,
-        world: &FailWorld<Self>,
-    ) -> Result<(), AllocError>
-        requires own { is_own world.now.handlers }
-        requires sound { IsSoundFailBy Self.Rebootable world.now }
-        ensures { OnOk result (let h = world.now.handlers in FollowsMore (within h) (within_recovery h)
-            (λ w. ShowsFailBy Self.Rebootable world.now (byte_world h w)) (λ o. has_followed o h) order.old order.new) };
+    fn trace(&self) -> &Trace<H::Input, H::Output> {
+        self.world.trace()
+    }
 
-    /// The image so far.
-    fn lines(order: &Self::Order) -> &[Self::Line]
-        ensures { (h : Self) (ss : List (Step Self.Input)) → has_followed order.now h ss → result.now ≡ image_of h ss };
+    fn forget_trace(&mut self) {
+        self.world.forget_trace();
+    }
 
-    /// Gives up the order for the image.
-    fn into_image(order: Self::Order) -> Image<Self::Line>
-        ensures { (h : Self) (ss : List (Step Self.Input)) → has_followed order h ss → result ≡ image_of h ss };
+    fn into_trace(self) -> Trace<H::Input, H::Output> {
+        self.world.into_trace()
+    }
 
-    /// Of nodes and packets they tell what the handlers within tell.
-    ghost tells: { (h : Self) → TellsTheSame (Self.meaning h) (within h) (byte_world h) };
+    fn taken(&self) -> u32 {
+        self.world.taken()
+    }
+
+    fn state(&self, n: Node) -> &<H::Inner as Handlers>::State {
+        H::inner_state(self.world.state(n))
+    }
+
+    fn is_up(&self, n: Node) -> bool {
+        self.world.is_up(n)
+    }
+
+    fn sent(&self) -> u32 {
+        self.world.sent()
+    }
+
+    fn copies(&self, k: u32) -> u32 {
+        self.world.copies(k)
+    }
+
+    fn ends(&self, k: u32) -> Option<(Node, Node)> {
+        self.world.ends(k)
+    }
+
+    ghost same_meaning = { λ _. refl };
 }

@@ -8,11 +8,11 @@ use Rattle.net_semantics.specs.RunLaws.{run_from-append}
 use Rattle.net_semantics.specs.Steps.{after_network, next, refusal_of}
 use Rattle.net_semantics.specs.Worlds.{first_world}
 use Rattle.vst_base.specs.declared.step.Step.{Step}
-use Rattle.xform_stack.specs.Running.{Progress, System, world_of}
+use Rattle.xform_stack.specs.Systems.{System, world_of}
 use Rattle.schedule_make.specs.Flying.{AreInFlightFrom, KnowsFlights, flights_of, seen}
 use Rattle.schedule_make.proofs.Following.{Fresh, fly-after, flights-append, length-flights, sees, step-fresh}
 
-module _ {R S K I O M G : Type 0} (sys : System S K I O M G) (follows : R → List (Step I) → Type 0) (progress : R → Progress I O) where
+module _ {S K I O M : Type 0} (sys : System S K I O M) where
   -- the world after one step more
   pub world-more : (ss : List (Step I)) (s : Step I) → world_of sys (ss ++ s ∷ []) ≡ next sys.meaning sys.recovery (world_of sys ss) s
   world-more ss s = run_from-append sys.meaning sys.recovery (first_world sys.meaning) ss (s ∷ [])

@@ -11,7 +11,8 @@ use Rattle.vst_base.specs.declared.step.StepKind.TheVariants as kind
 
 -- four of sixteen words take an input, seven deliver, and one each does what else there is
 abbrev pub drawn_kind : ℕ → StepKind
-drawn_kind word = get_or (kind.In ∷ kind.In ∷ kind.In ∷ kind.In ∷ kind.Tick ∷ kind.Dup ∷ kind.Lose ∷ kind.Crash ∷ kind.Reboot ∷ []) (word % 16) kind.Deliver
+drawn_kind word =
+    get_or (kind.In ∷ kind.In ∷ kind.In ∷ kind.In ∷ kind.Tick ∷ kind.Dup ∷ kind.Lose ∷ kind.Crash ∷ kind.Reboot ∷ []) (word % 16) kind.Deliver
 
 -- the nodes that pass, ascending
 abbrev pub nodes_that : {S I O M : Type 0} → Meaning S I O M → (ℕ → Bool) → List ℕ

@@ -1,15 +1,16 @@
 ghost use Rattle.std.specs.Prelude.{◌≡◌, List, IfOk, is_some};
 ghost use Rattle.flight_index.specs.Flights.{goes_up, numbers_of};
 ghost use Rattle.vst_base.specs.declared.step.Step.{Step as SpecStep};
-ghost use Rattle.xform_stack.specs.Running.{world_of};
+ghost use Rattle.xform_stack.specs.Systems.{world_of};
 ghost use Rattle.schedule_make.specs.Candidates.{candidates, chosen, drawn_kind, made_kind, may_act, nodes_that};
 ghost use Rattle.schedule_make.specs.Flying.{KnowsFlights};
 ghost use Rattle.schedule_make.specs.Offers.{offered, picked};
 
 use flight_index::FlightIndex;
+use handler_trait::Handlers;
 use std::alloc::{AllocError, Global};
 use vst_base::{Node, StepKind};
-use xform_stack::Explores;
+use xform_stack::Network;
 
 // Four of sixteen words take an input, seven deliver, and one each does what else there is.
 pub(crate) fn drawn_kind(word: u32) -> StepKind
@@ -26,34 +27,48 @@ pub(crate) fn drawn_kind(word: u32) -> StepKind
     }
 }
 
+// How many nodes there are.
+pub(crate) fn nodes<H: Handlers, W: Network<H>>(network: &W) -> u8
+    ensures { result ≡ (W.system network.now).meaning.nodes }
+{
+    network.handlers().nodes()
+}
+
+// Whether node `n` takes input.
+fn takes_input<H: Handlers, W: Network<H>>(network: &W, n: Node) -> bool
+    ensures { result ≡ (W.system network.now).meaning.takes_input n }
+{
+    network.handlers().takes_input(n)
+}
+
 // Whether a step of this kind may be taken at node `n`.
-fn may_act<R: Explores>(running: &R, kind: StepKind, n: Node) -> bool
-    ensures { (ss : List (SpecStep R.Input)) → R.follows running.now ss
-        → result ≡ may_act (R.system running.now).meaning (world_of (R.system running.now) ss) kind n }
+fn may_act<H: Handlers, W: Network<H>>(network: &W, kind: StepKind, n: Node) -> bool
+    ensures { (ss : List (SpecStep H.Input)) → W.follows network.now ss
+        → result ≡ may_act (W.system network.now).meaning (world_of (W.system network.now) ss) kind n }
 {
     match kind {
-        StepKind::In => running.takes_input(n) && running.is_up(n),
-        StepKind::Tick | StepKind::Crash => running.is_up(n),
-        StepKind::Reboot => !running.is_up(n),
+        StepKind::In => takes_input(network, n) && network.is_up(n),
+        StepKind::Tick | StepKind::Crash => network.is_up(n),
+        StepKind::Reboot => !network.is_up(n),
         StepKind::Deliver | StepKind::Dup | StepKind::Lose => false,
     }
 }
 
 // The nodes at which a step of this kind may be taken, ascending.
-fn nodes_that<R: Explores>(
+fn nodes_that<H: Handlers, W: Network<H>>(
     alloc: Global,
-    running: &R,
+    network: &W,
     kind: StepKind,
 ) -> Result<Vec<u32>, AllocError>
-    ensures { IfOk result (λ found. (ss : List (SpecStep R.Input)) → R.follows running.now ss
-        → found.items ≡ nodes_that (R.system running.now).meaning
-        (may_act (R.system running.now).meaning (world_of (R.system running.now) ss) kind)) }
+    ensures { IfOk result (λ found. (ss : List (SpecStep H.Input)) → W.follows network.now ss
+        → found.items ≡ nodes_that (W.system network.now).meaning
+        (may_act (W.system network.now).meaning (world_of (W.system network.now) ss) kind)) }
 {
-    let nodes = running.nodes();
+    let nodes = nodes(network);
     let mut found = Vec::new(alloc);
     for n in 0..nodes {
         if let Some(node) = Node::new(n, nodes) {
-            if may_act(running, kind, node) {
+            if may_act(network, kind, node) {
                 found.push(u32::from(n))?;
             }
         }
@@ -92,67 +107,67 @@ fn deliverable(flights: &FlightIndex, number: u32) -> Option<u32>
 }
 
 // The candidate of a kind that a number names, counted round, if there is one.
-fn candidate<R: Explores>(
+fn candidate<H: Handlers, W: Network<H>>(
     alloc: Global,
-    running: &R,
+    network: &W,
     flights: &FlightIndex,
     kind: StepKind,
     number: u32,
 ) -> Result<Option<u32>, AllocError>
-    ensures { IfOk result (λ found. (ss : List (SpecStep R.Input)) → R.follows running.now ss
-        → KnowsFlights flights.now (world_of (R.system running.now) ss)
-        → found ≡ picked (candidates (R.system running.now).meaning (world_of (R.system running.now) ss) kind) number) }
+    ensures { IfOk result (λ found. (ss : List (SpecStep H.Input)) → W.follows network.now ss
+        → KnowsFlights flights.now (world_of (W.system network.now) ss)
+        → found ≡ picked (candidates (W.system network.now).meaning (world_of (W.system network.now) ss) kind) number) }
 {
     match kind {
         StepKind::Dup | StepKind::Lose => Ok(in_flight(flights, number)),
         StepKind::Deliver => Ok(deliverable(flights, number)),
         StepKind::In | StepKind::Tick | StepKind::Crash | StepKind::Reboot => {
-            let nodes = nodes_that(alloc, running, kind)?;
+            let nodes = nodes_that(alloc, network, kind)?;
             Ok(picked(&nodes, number))
         }
     }
 }
 
 // The same of a kind of step that the network has.
-fn offered<R: Explores>(
+fn offered<H: Handlers, W: Network<H>>(
     alloc: Global,
-    running: &R,
+    network: &W,
     flights: &FlightIndex,
     kind: StepKind,
     number: u32,
 ) -> Result<Option<u32>, AllocError>
-    ensures { IfOk result (λ found. (ss : List (SpecStep R.Input)) → R.follows running.now ss
-        → KnowsFlights flights.now (world_of (R.system running.now) ss)
-        → found ≡ offered (R.system running.now).net (R.system running.now).meaning (world_of (R.system running.now) ss) kind number) }
+    ensures { IfOk result (λ found. (ss : List (SpecStep H.Input)) → W.follows network.now ss
+        → KnowsFlights flights.now (world_of (W.system network.now) ss)
+        → found ≡ offered (W.system network.now).net (W.system network.now).meaning (world_of (W.system network.now) ss) kind number) }
 {
-    if !running.net().has(kind) {
+    if !network.net().has(kind) {
         return Ok(None);
     }
-    candidate(alloc, running, flights, kind, number)
+    candidate(alloc, network, flights, kind, number)
 }
 
 // Of which kind a step is, where this kind was drawn, and the node or packet that it names.
 #[tactic(auto, using(crate::proofs::Offers::offered_some, crate::proofs::Offers::offered_none, crate::proofs::Offers::made_drawn, crate::proofs::Offers::made_tick, crate::proofs::Offers::made_rest, crate::proofs::Offers::picked_or))]
-pub(crate) fn settled<R: Explores>(
+pub(crate) fn settled<H: Handlers, W: Network<H>>(
     alloc: Global,
-    running: &R,
+    network: &W,
     flights: &FlightIndex,
     drawn: StepKind,
     number: u32,
 ) -> Result<(StepKind, u32), AllocError>
-    ensures kind { IfOk result (λ step. (ss : List (SpecStep R.Input)) → R.follows running.now ss
-        → KnowsFlights flights.now (world_of (R.system running.now) ss)
-        → step.0 ≡ made_kind (R.system running.now).net (R.system running.now).meaning (world_of (R.system running.now) ss) drawn) }
-    ensures chosen { IfOk result (λ step. (ss : List (SpecStep R.Input)) → R.follows running.now ss
-        → KnowsFlights flights.now (world_of (R.system running.now) ss)
-        → step.1 ≡ chosen (candidates (R.system running.now).meaning (world_of (R.system running.now) ss) step.0) number) }
+    ensures kind { IfOk result (λ step. (ss : List (SpecStep H.Input)) → W.follows network.now ss
+        → KnowsFlights flights.now (world_of (W.system network.now) ss)
+        → step.0 ≡ made_kind (W.system network.now).net (W.system network.now).meaning (world_of (W.system network.now) ss) drawn) }
+    ensures chosen { IfOk result (λ step. (ss : List (SpecStep H.Input)) → W.follows network.now ss
+        → KnowsFlights flights.now (world_of (W.system network.now) ss)
+        → step.1 ≡ chosen (candidates (W.system network.now).meaning (world_of (W.system network.now) ss) step.0) number) }
 {
-    if let Some(at) = offered(alloc, running, flights, drawn, number)? {
+    if let Some(at) = offered(alloc, network, flights, drawn, number)? {
         return Ok((drawn, at));
     }
-    if let Some(at) = offered(alloc, running, flights, StepKind::Tick, number)? {
+    if let Some(at) = offered(alloc, network, flights, StepKind::Tick, number)? {
         return Ok((StepKind::Tick, at));
     }
-    let at = candidate(alloc, running, flights, StepKind::Reboot, number)?;
+    let at = candidate(alloc, network, flights, StepKind::Reboot, number)?;
     Ok((StepKind::Reboot, at.unwrap_or(0)))
 }

@@ -4,37 +4,41 @@ ghost use Rattle.flight_index.specs.Flights.{is_within};
 ghost use Rattle.vst_base.specs.declared.node.TheConstants.{MAX_NODES};
 ghost use Rattle.vst_base.specs.declared.step.TheConstants.{MAX_STEPS};
 ghost use Rattle.vst_base.specs.declared.step.Step.{Step as SpecStep};
-ghost use Rattle.xform_stack.specs.Running.{HasRun, world_of};
+ghost use Rattle.xform_stack.specs.Running.{HasTaken};
+ghost use Rattle.xform_stack.specs.Systems.{world_of};
 ghost use Rattle.schedule_make.specs.Flying.{AreInFlightFrom, IsWithin, flights_of, seen};
 ghost use Rattle.schedule_make.specs.Made.{after_words, generator, step_of};
 ghost use Rattle.schedule_make.specs.Making.{CanStep, HasFollowed, HasMade, step_after};
 
-use crate::drawing::{drawn_kind, settled};
+use crate::drawing::{drawn_kind, nodes, settled};
 use crate::inputs::MakesInputs;
 use crate::words::next_words;
 use flight_index::FlightIndex;
+use handler_trait::Handlers;
+use net_semantics::StepFault;
 use rand_pcg::Lcg64Xsh32;
 use std::alloc::{AllocError, Global};
-use std::marker::Model;
+use std::marker::{Model, PhantomData};
 use vst_base::{Node, Step, StepKind};
-use xform_stack::{Explores, RunFault};
+use xform_stack::Network;
 
-/// A schedule in the making: the running schedule of the steps so far, the packets that are in flight in it, and the random words to
+/// A schedule in the making: the network that took the steps so far, the packets that are in flight in it, and the random words to
 /// come.
 #[derive(Drop)]
-pub struct Making<R: Explores> {
+pub struct Making<H: Handlers, W: Network<H>> {
     alloc: Global,
-    running: R,
+    network: W,
     flights: FlightIndex,
     random: Lcg64Xsh32,
+    handlers: PhantomData<H>,
 }
 
-impl<R: Explores> Model for Making<R> {
+impl<H: Handlers, W: Network<H>> Model for Making<H, W> {
     ghost use Rattle.schedule_make.specs.Making.{MakingView};
 
-    ghost Value = { MakingView R };
+    ghost Value = { MakingView W };
 
-    ghost view = { λ m. record { running = m.running; flights = m.flights; random = m.random } };
+    ghost view = { λ m. record { network = m.network; flights = m.flights; random = m.random } };
 }
 
 // The step of this kind at this node or of this packet.
@@ -52,84 +56,85 @@ fn step_of<I: Drop>(input: I, kind: StepKind, at: u32) -> Step<I>
     }
 }
 
-impl<R: Explores> Making<R> {
+impl<H: Handlers, W: Network<H>> Making<H, W> {
     /// The schedule of this number, with no step yet.
-    pub fn new(alloc: Global, running: R, seed: u32) -> Self
-        requires { HasRun (R.system running) R.follows R.progress [] [] running }
-        ensures made { HasMade (R.system running) R.follows R.progress [] result }
+    pub fn new(alloc: Global, network: W, seed: u32) -> Self
+        requires { HasTaken (W.system network) W.follows W.progress [] network }
+        ensures made { HasMade (W.system network) W.follows W.progress [] result }
         ensures random { result.random ≡ generator seed }
-        ensures running { result.running ≡ running }
+        ensures network { result.network ≡ network }
     {
         Making {
             alloc,
-            running,
+            network,
             flights: FlightIndex::new(alloc),
             random: Lcg64Xsh32::new(u64::from(seed), 1),
+            handlers: PhantomData,
         }
     }
 
     /// Makes the next step, and takes it. The network has to allow it. After an `Err`, which is want of memory, the schedule in the
     /// making is given up.
-    pub fn step<T: MakesInputs<Input = R::Input>>(&mut self) -> Result<Step<R::Input>, AllocError>
-        requires sound { R.sound self.old.running }
-        requires few { (R.progress self.old.running).taken < MAX_STEPS }
-        requires nodes { (R.system self.old.running).meaning.nodes ≤ MAX_NODES }
-        requires allowed { CanStep (R.system self.old.running) R.follows R.progress T.inputs self.old }
-        ensures made { IfOk result (λ step. (ss : List (SpecStep R.Input))
-            → HasMade (R.system self.old.running) R.follows R.progress ss self.old
-            → step ≡ step_after (R.system self.old.running) T.inputs ss self.old.random) }
-        ensures next { IfOk result (λ step. (ss : List (SpecStep R.Input))
-            → HasMade (R.system self.old.running) R.follows R.progress ss self.old
-            → HasMade (R.system self.old.running) R.follows R.progress (ss ++ step ∷ []) self.new) }
+    pub fn step<T: MakesInputs<Input = H::Input>>(&mut self) -> Result<Step<H::Input>, AllocError>
+        requires sound { W.sound self.old.network }
+        requires few { (W.progress self.old.network).taken < MAX_STEPS }
+        requires nodes { (W.system self.old.network).meaning.nodes ≤ MAX_NODES }
+        requires allowed { CanStep (W.system self.old.network) W.follows W.progress T.inputs self.old }
+        ensures made { IfOk result (λ step. (ss : List (SpecStep H.Input))
+            → HasMade (W.system self.old.network) W.follows W.progress ss self.old
+            → step ≡ step_after (W.system self.old.network) T.inputs ss self.old.random) }
+        ensures next { IfOk result (λ step. (ss : List (SpecStep H.Input))
+            → HasMade (W.system self.old.network) W.follows W.progress ss self.old
+            → HasMade (W.system self.old.network) W.follows W.progress (ss ++ step ∷ []) self.new) }
         ensures random { OnOk result (self.new.random ≡ after_words self.old.random) }
-        ensures system { OnOk result (R.system self.new.running ≡ R.system self.old.running) }
-        ensures sound { OnOk result (R.sound self.new.running) }
+        ensures system { OnOk result (W.system self.new.network ≡ W.system self.old.network) }
+        ensures sound { OnOk result (W.sound self.new.network) }
     {
-        let before = self.running.sent();
+        let before = self.network.sent();
         let step = self.next_step::<T>()?;
-        match self.running.step(&step) {
+        match self.network.step(&step) {
             Ok(()) => {}
-            Err(RunFault::Memory) => return Err(AllocError),
-            Err(RunFault::Step(..)) => unreachable!(),
+            Err(StepFault::Memory) => return Err(AllocError),
+            Err(StepFault::Refused(_)) => unreachable!(),
         }
-        self.running.forget_trace();
+        self.network.forget_trace();
         self.see(&step);
         self.see_sent(before)?;
         Ok(step)
     }
 
     // The next step.
-    fn next_step<T: MakesInputs<Input = R::Input>>(&mut self) -> Result<Step<R::Input>, AllocError>
-        ensures made { IfOk result (λ step. (ss : List (SpecStep R.Input))
-            → HasMade (R.system self.old.running) R.follows R.progress ss self.old
-            → step ≡ step_after (R.system self.old.running) T.inputs ss self.old.random) }
+    fn next_step<T: MakesInputs<Input = H::Input>>(&mut self) -> Result<Step<H::Input>, AllocError>
+        ensures made { IfOk result (λ step. (ss : List (SpecStep H.Input))
+            → HasMade (W.system self.old.network) W.follows W.progress ss self.old
+            → step ≡ step_after (W.system self.old.network) T.inputs ss self.old.random) }
         ensures rest { self.new ≡ record self.old { random = after_words self.old.random } }
     {
         let words = next_words(&mut self.random);
         let drawn = drawn_kind(words.kind);
         let (kind, at) = settled(
             self.alloc,
-            &self.running,
+            &self.network,
             &self.flights,
             drawn,
             words.number,
         )?;
-        let input = T::make(self.alloc, words.input, self.running.taken())?;
+        let input = T::make(self.alloc, words.input, self.network.taken())?;
         Ok(step_of(input, kind, at))
     }
 
     // Sees what a step that was taken did to the packets that were sent before it, and to the nodes.
-    fn see(&mut self, step: &Step<R::Input>)
-        requires nodes { (R.system self.old.running).meaning.nodes ≤ MAX_NODES }
-        requires within { IsWithin (R.system self.old.running).meaning.nodes self.old.flights step.now }
-        ensures seen { (ss : List (SpecStep R.Input)) → R.follows self.old.running ss
-            → self.new.flights ≡ seen (world_of (R.system self.old.running) ss) step.now self.old.flights }
-        ensures running { self.new.running ≡ self.old.running }
+    fn see(&mut self, step: &Step<H::Input>)
+        requires nodes { (W.system self.old.network).meaning.nodes ≤ MAX_NODES }
+        requires within { IsWithin (W.system self.old.network).meaning.nodes self.old.flights step.now }
+        ensures seen { (ss : List (SpecStep H.Input)) → W.follows self.old.network ss
+            → self.new.flights ≡ seen (world_of (W.system self.old.network) ss) step.now self.old.flights }
+        ensures network { self.new.network ≡ self.old.network }
         ensures random { self.new.random ≡ self.old.random }
     {
         match step {
             Step::Deliver(k) | Step::Lose(k) => {
-                if self.running.copies(*k) == 0 {
+                if self.network.copies(*k) == 0 {
                     self.flights.gone(*k);
                 }
             }
@@ -141,11 +146,11 @@ impl<R: Explores> Making<R> {
 
     // Whether this node is up from now on.
     fn set_up(&mut self, n: u32, is_up: bool)
-        requires nodes { (R.system self.old.running).meaning.nodes ≤ MAX_NODES }
-        requires within { n < (R.system self.old.running).meaning.nodes }
+        requires nodes { (W.system self.old.network).meaning.nodes ≤ MAX_NODES }
+        requires within { n < (W.system self.old.network).meaning.nodes }
         ensures { self.new ≡ record self.old { flights = record self.old.flights { up = slice_set self.old.flights.up n is_up } } }
     {
-        match Node::new(n as u8, self.running.nodes()) {
+        match Node::new(n as u8, nodes(&self.network)) {
             Some(node) => self.flights.set_up(node, is_up),
             None => unreachable!(),
         }
@@ -153,22 +158,22 @@ impl<R: Explores> Making<R> {
 
     // Sees the packets that were sent since so many.
     fn see_sent(&mut self, before: u32) -> Result<(), AllocError>
-        requires sound { R.sound self.old.running }
-        requires nodes { (R.system self.old.running).meaning.nodes ≤ MAX_NODES }
-        requires followed { HasFollowed R.follows self.old.running }
+        requires sound { W.sound self.old.network }
+        requires nodes { (W.system self.old.network).meaning.nodes ≤ MAX_NODES }
+        requires followed { HasFollowed W.follows self.old.network }
         requires before { length self.old.flights.packets ≡ before }
-        ensures packets { OnOk result ((ss : List (SpecStep R.Input)) → R.follows self.old.running ss
-            → AreInFlightFrom before (world_of (R.system self.old.running) ss).packets
-            → self.old.flights.packets ≡ take before (flights_of (world_of (R.system self.old.running) ss).packets)
-            → self.new.flights.packets ≡ flights_of (world_of (R.system self.old.running) ss).packets) }
+        ensures packets { OnOk result ((ss : List (SpecStep H.Input)) → W.follows self.old.network ss
+            → AreInFlightFrom before (world_of (W.system self.old.network) ss).packets
+            → self.old.flights.packets ≡ take before (flights_of (world_of (W.system self.old.network) ss).packets)
+            → self.new.flights.packets ≡ flights_of (world_of (W.system self.old.network) ss).packets) }
         ensures within { OnOk result (list_all is_within self.old.flights.packets ≡ true
             → list_all is_within self.new.flights.packets ≡ true) }
         ensures up { self.new.flights.up ≡ self.old.flights.up }
-        ensures running { self.new.running ≡ self.old.running }
+        ensures network { self.new.network ≡ self.old.network }
         ensures random { self.new.random ≡ self.old.random }
     {
-        for k in before..self.running.sent() {
-            if let Some(ends) = self.running.ends(k) {
+        for k in before..self.network.sent() {
+            if let Some(ends) = self.network.ends(k) {
                 self.flights.sent(ends.1)?;
             }
         }

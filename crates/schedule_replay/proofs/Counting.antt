@@ -7,9 +7,9 @@ use Rattle.vst_base.specs.declared.step.Item.{Item}
 use Rattle.vst_base.specs.declared.step.Step.{Step}
 use Rattle.vst_base.specs.declared.step.TheConstants.{MAX_STEPS}
 use Rattle.line_reader.specs.Readers.{ReaderView}
-use Rattle.schedule_text.specs.Lines.{tells_next}
+use Rattle.schedule_text.specs.Reading.{tells_next}
 use Rattle.xform_stack.specs.Running.{Progress}
-use Rattle.stacks.specs.Stack.{Texts}
+use Rattle.stacks.specs.Plays.{Texts}
 use Rattle.schedule_replay.specs.declared.tally.Tally.{Tally}
 use Rattle.schedule_replay.specs.Playing.{Waits, Writes}
 use Rattle.schedule_replay.specs.Replaying.{is_input, is_output, is_reply_by}

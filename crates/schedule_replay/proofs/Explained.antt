@@ -7,19 +7,19 @@ use Rattle.vst_base.specs.Firsts.{first_of}
 use Rattle.vst_base.specs.declared.step.StepRefusal.{StepRefusal}
 use Rattle.line_reader.specs.declared.why.Why.{Why}
 use Rattle.line_reader.specs.declared.why.Why.TheVariants as why
-use Rattle.line_reader.specs.Limits.{line_refusals}
+use Rattle.line_reader.specs.Whys.{line_refusals}
 use Rattle.schedule_text.specs.declared.header.Header.{Header}
 use Rattle.schedule_text.specs.HeaderLaws.{header_of-row}
 use Rattle.schedule_text.specs.Headers.{IsHeader, header_of}
-use Rattle.schedule_text.specs.Lines.{is_skipped}
+use Rattle.schedule_text.specs.Reading.{is_skipped}
 use Rattle.schedule_text.specs.Schedules.{Opening, Opened, RefusedAt, EndedAt, Script, opened, opening, opening_unless, script}
-use Rattle.schedule_replay.specs.Explained.{IsReplayOn}
-use Rattle.schedule_replay.specs.Replaying.{Replayed, ended, refused_at, replayed_script, steps_of, stop_at, taken_at}
-use Rattle.schedule_replay.specs.Replays.{most_lines, replayed_by}
+use Rattle.schedule_replay.specs.Explained.{IsReplayOn, most_lines, steps_of}
+use Rattle.schedule_replay.specs.Replaying.{Replayed, ended, refused_at, replayed_script, stop_at, taken_at}
+use Rattle.schedule_replay.specs.Replays.{replayed_by}
 use Rattle.schedule_replay.proofs.Wholly.{taken-whole}
 use Rattle.stacks.specs.ClaimTexts.{claim_by, claim_text}
 use Rattle.stacks.specs.Explained.{ExplainsAll}
-use Rattle.stacks.specs.Stack.{Entry, Found, Here, IfFound, Nowhere, Play, found_or}
+use Rattle.stacks.specs.Plays.{Found, Here, IfFound, Nowhere, found_or, AnyPlay, Play}
 
 -- the steps of a script at which a replay does not stop: it has no fault, and the network allows them
 module _ {I O G : Type 0} (p : Play I O G) (sc : Script I) where
@@ -35,14 +35,14 @@ module _ {I O G : Type 0} (p : Play I O G) (sc : Script I) where
   accepted e = by-first (p.refused (steps_of sc)) refl e
 
 -- what is found for a header replays lines that are not refused, and nothing else is a replay of them
-module _ (nodes number : ℕ) (ls : List (List ℕ)) where
-  abbrev made : Found Entry → Replayed
-  made found = found_or (refused_at (number - 1) why.Header) (λ e. replayed_by (e.of nodes).stack.play true most_lines number 0 ls) found
+module _ (number : ℕ) (ls : List (List ℕ)) where
+  abbrev made : Found AnyPlay → Replayed
+  made found = found_or (refused_at (number - 1) why.Header) (λ a. replayed_by a.play true most_lines number 0 ls) found
 
-  pub found-replays : (found : Found Entry) → IfFound found (λ e. ExplainsAll (e.of nodes)) → (made found).refused ≡ None → IfFound found (λ e. IsReplayOn (e.of nodes) number ls (made found).out)
+  pub found-replays : (found : Found AnyPlay) → IfFound found ExplainsAll → (made found).refused ≡ None → IfFound found (λ a. IsReplayOn a number ls (made found).out)
   found-replays Nowhere explains e = absurd explains
-  found-replays (Here entry) explains e =
-      let p = (entry.of nodes).stack.play in
+  found-replays (Here a) explains e =
+      let p = a.play in
       let sc = script most_lines p.texts.input_of number 0 ls in
       let both = accepted p sc e in
       record {
@@ -54,10 +54,10 @@ module _ (nodes number : ℕ) (ls : List (List ℕ)) where
         explained = explains (steps_of sc) both.1;
       }
 
-  pub found-written : (found : Found Entry) (text : List ℕ) → IfFound found (λ e. IsReplayOn (e.of nodes) number ls text) → ((made found).refused ≡ None) × (text ≡ (made found).out)
+  pub found-written : (found : Found AnyPlay) (text : List ℕ) → IfFound found (λ a. IsReplayOn a number ls text) → ((made found).refused ≡ None) × (text ≡ (made found).out)
   found-written Nowhere text none = absurd none
-  found-written (Here entry) text by =
-      let p = (entry.of nodes).stack.play in
+  found-written (Here a) text by =
+      let p = a.play in
       let sc = script most_lines p.texts.input_of number 0 ls in
       let whole = taken-whole p sc by.faultless (ap p.refused by.says ∙ by.allowed) in
       (ap (λ (r : Replayed). r.refused) whole, by.written ∙ (ap (λ ss. claim_text p (claim_by p ss)) (sym by.says) ∙ sym (ap (λ (r : Replayed). r.out) whole)))

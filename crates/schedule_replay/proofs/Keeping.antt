@@ -4,7 +4,6 @@ use Rattle.std.proofs.Common.{inl, inr, ap, ◌∙◌, sym, subst, append_assoc}
 use Rattle.std.proofs.lemmas.List.{append-nil}
 use Rattle.vst_base.specs.declared.step.Item.{Item}
 use Rattle.vst_base.specs.declared.step.Step.{Step}
-use Rattle.net_semantics.specs.Worlds.{first_world}
 use Rattle.outside.specs.Wholes.{Gained, GainedPrefix}
 use Rattle.outside.proofs.Wholes.{gained-both, gained-nothing}
 use Rattle.line_reader.specs.Lines.{whole_lines}
@@ -12,16 +11,17 @@ use Rattle.line_reader.specs.Readers.{ReaderView, HasRest}
 use Rattle.line_reader.specs.Outcomes.{ReadsPast}
 use Rattle.schedule_text.specs.Streams.{StepIsNear}
 use Rattle.schedule_text.proofs.Skipping.{past-after}
-use Rattle.xform_stack.specs.Running.{Progress, System}
-use Rattle.stacks.specs.Stack.{ImageTexts, Texts, play_of}
+use Rattle.xform_stack.specs.Running.{Progress}
+use Rattle.xform_stack.specs.Systems.{Played}
+use Rattle.stacks.specs.Plays.{ImageTexts, Texts, play_of}
 use Rattle.schedule_replay.specs.declared.tally.Tally.{Tally}
 use Rattle.schedule_replay.specs.Outcomes.{KeptUp}
 use Rattle.schedule_replay.specs.Playing.{Waits, Writes}
-use Rattle.schedule_replay.specs.Replaying.{Replayed, ended, trace_lines}
-use Rattle.schedule_replay.specs.Replays.{stack_so_far}
+use Rattle.schedule_replay.specs.Replaying.{Replayed, ended, stop_at, taken_at, trace_lines}
+use Rattle.schedule_replay.specs.Rests.{stack_so_far}
 use Rattle.schedule_replay.proofs.Endings.{ended-at}
-use Rattle.schedule_replay.proofs.Plays.{Played, Standing, nothing-left, part-stops, script_from, text_of, unnumbered}
-use Rattle.schedule_replay.proofs.Scripts.{all-taken}
+use Rattle.schedule_replay.proofs.Plays.{HasPlayed, Standing, nothing-left, part-stops, script_from, text_of}
+use Rattle.schedule_replay.proofs.Scripts.{all-taken, unnumbered}
 
 -- of a front so many bytes were gained
 front-bytes : (mid new : Option (List ℕ)) (text : List ℕ) → GainedPrefix mid new text → (n : ℕ) × Gained mid new (take n text)
@@ -50,14 +50,19 @@ module _ {so_far : List ℕ → Replayed} {rest : List ℕ} {left' out mid : Opt
   kept-before-reading {progress = progress} {t = t} {v = v} {new = new} (inr w) = kept-more new (text_of t (progress v).trace) w.written
 
 -- before a step of the rest was taken
-pub kept-start : {S K I O M G : Type 0} (sys : System S K I O M G) (t : Texts I O) (i : ImageTexts G) (r : ReaderView) (left out : Option (List ℕ))
-    (rest : List ℕ) → HasRest r left rest → length r.ahead ≤ 4096 → KeptUp (stack_so_far (play_of sys t i) r) rest left out out
-kept-start sys t i r left out rest has few = record {
-  early = [];
-  past = record { late = r.ahead; others = has.unread; left_is = has.left_is; whole = has.rest_is; few = few };
-  more = [];
-  written = gained-nothing out;
-}
+pub kept-start : {I O G : Type 0} (run : Played I O G) (none : run.refused [] ≡ None) (nothing : run.trace [] ≡ []) (t : Texts I O)
+    (i : ImageTexts G) (r : ReaderView) (left out : Option (List ℕ)) (rest : List ℕ) → HasRest r left rest → length r.ahead ≤ 4096 → KeptUp (stack_so_far (play_of run t i) r) rest left out out
+kept-start run none nothing t i r left out rest has few =
+    let st = play_of run t i in
+    let sc = script_from t.input_of r [] in
+    let same = ended-at st false sc [] None (ap (taken_at sc) none) (ap (stop_at sc) none) in
+    let empty : (stack_so_far st r []).out ≡ [] = ap (λ (x : Replayed). x.out) same ∙ ap (text_of t) nothing in
+    record {
+      early = [];
+      past = record { late = r.ahead; others = has.unread; left_is = has.left_is; whole = has.rest_is; few = few };
+      more = [];
+      written = subst (λ (bs : List ℕ). Gained out out (bs ++ [])) (sym empty) (gained-nothing out);
+    }
 
 -- where the end was met nothing more is read
 no-others : (xs ys zs : List ℕ) → xs ++ (ys ++ zs) ≡ [] → zs ≡ []
@@ -69,19 +74,19 @@ pub past-end : (left' : Option (List ℕ)) (rest early : List ℕ) → ReadsPast
 past-end left' rest early past none =
     past.left_is ∙ ap Some (no-others early past.late past.others (sym past.whole ∙ none))
 
-module _ {R S K I O M G : Type 0} {sys : System S K I O M G} {follows : R → List (Step I) → Type 0} {progress : R → Progress I O}
-    {t : Texts I O} {a b : Standing R} (p : Played sys follows progress t a b) (i : ImageTexts G) (rest : List ℕ) (has : HasRest a.reader a.left rest)
+module _ {R I O G : Type 0} {run : Played I O G} {follows : R → List (Step I) → Type 0} {progress : R → Progress I O}
+    {t : Texts I O} {a b : Standing R} (p : HasPlayed run follows progress t a b) (i : ImageTexts G) (rest : List ℕ) (has : HasRest a.reader a.left rest)
     (after : Option (List ℕ)) (near : (later : List ℕ) → HasRest b.reader b.left later → StepIsNear t.input_of b.reader after later) where
   -- the whole trace was written, and then a step was read, or none
-  kept-past : (progress b.running).trace ≡ [] → b.reader.ended ≡ false → KeptUp (stack_so_far (play_of sys t i) a.reader) rest after a.written b.written
+  kept-past : (progress b.running).trace ≡ [] → b.reader.ended ≡ false → KeptUp (stack_so_far (play_of run t i) a.reader) rest after a.written b.written
   kept-past none going =
-      let st = play_of sys t i in
+      let st = play_of run t i in
       let r = p.reads rest has in
       let n = near r.uses.rest' r.uses.left in
       let early = r.used ++ n.0 in
       let sc = script_from t.input_of a.reader (whole_lines early) in
       let ss = unnumbered p.steps in
-      let both = all-taken sys.net sys.meaning sys.recovery (first_world sys.meaning) p.steps p.ran.allowed None sc (part-stops r n.0 going n.2) in
+      let both = all-taken run p.steps p.ran.allowed None sc (part-stops r n.0 going n.2) in
       let same = ended-at st false sc ss None both.1 both.0 in
       let all : p.gone ≡ st.trace ss = sym (ap (λ (items : List (Item I O)). p.gone ++ items) none ∙ append-nil p.gone) ∙ p.ran.traced in
       let text : text_of t p.gone ≡ (ended st false ss None).out ++ [] = ap (text_of t) all ∙ sym (append-nil (trace_lines st ss)) in
@@ -94,13 +99,13 @@ module _ {R S K I O M G : Type 0} {sys : System S K I O M G} {follows : R → Li
       }
 
   -- the same where nothing more was given
-  kept-still : after ≡ b.left → KeptUp (stack_so_far (play_of sys t i) a.reader) rest b.left a.written b.written
-      → KeptUp (stack_so_far (play_of sys t i) a.reader) rest after a.written b.written
-  kept-still same kept = subst (λ (left : Option (List ℕ)). KeptUp (stack_so_far (play_of sys t i) a.reader) rest left a.written b.written) (sym same) kept
+  kept-still : after ≡ b.left → KeptUp (stack_so_far (play_of run t i) a.reader) rest b.left a.written b.written
+      → KeptUp (stack_so_far (play_of run t i) a.reader) rest after a.written b.written
+  kept-still same kept = subst (λ (left : Option (List ℕ)). KeptUp (stack_so_far (play_of run t i) a.reader) rest left a.written b.written) (sym same) kept
 
   -- whether the end was met before
-  kept-by : (over : Bool) → b.reader.ended ≡ over → (progress b.running).trace ≡ [] → KeptUp (stack_so_far (play_of sys t i) a.reader) rest b.left a.written b.written
-      → KeptUp (stack_so_far (play_of sys t i) a.reader) rest after a.written b.written
+  kept-by : (over : Bool) → b.reader.ended ≡ over → (progress b.running).trace ≡ [] → KeptUp (stack_so_far (play_of run t i) a.reader) rest b.left a.written b.written
+      → KeptUp (stack_so_far (play_of run t i) a.reader) rest after a.written b.written
   kept-by false going none kept = kept-past none going
   kept-by true over none kept =
       let r = p.reads rest has in
@@ -110,7 +115,7 @@ module _ {R S K I O M G : Type 0} {sys : System S K I O M G} {follows : R → Li
       kept-still (past-end after r.uses.rest' n.0 n.1 empty ∙ sym left) kept
 
   -- whatever was read of a step, where the trace was written before or nothing was read
-  pub kept-step : (after ≡ b.left) ⊎ ((progress b.running).trace ≡ []) → KeptUp (stack_so_far (play_of sys t i) a.reader) rest b.left a.written b.written
-      → KeptUp (stack_so_far (play_of sys t i) a.reader) rest after a.written b.written
+  pub kept-step : (after ≡ b.left) ⊎ ((progress b.running).trace ≡ []) → KeptUp (stack_so_far (play_of run t i) a.reader) rest b.left a.written b.written
+      → KeptUp (stack_so_far (play_of run t i) a.reader) rest after a.written b.written
   kept-step (inl same) kept = kept-still same kept
   kept-step (inr none) kept = kept-by b.reader.ended refl none kept

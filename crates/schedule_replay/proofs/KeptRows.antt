@@ -3,15 +3,15 @@ use Rattle.std.specs.Prelude.{◌≡◌, ℕ, zero, suc, false, ◌≤◌, List,
 use Rattle.std.specs.Fmt.{digits}
 use Rattle.std.proofs.Common.{ap, ◌∙◌, sym, arith, length-append}
 use Rattle.std.proofs.lemmas.List.{append-nil, length-replicate}
-use Rattle.line_reader.specs.Cuts.{cut_at}
-use Rattle.line_reader.specs.Lines.{lines_of, whole_lines}
+use Rattle.line_reader.specs.Lines.{cut_at, lines_of, whole_lines}
 use Rattle.line_reader.specs.Outcomes.{ReadsPast}
 use Rattle.line_reader.proofs.Cutting.{none-from}
 use Rattle.line_reader.proofs.Lining.{whole-append, whole-plain}
 use Rattle.schedule_text.specs.Schedules.{opening}
 use Rattle.schedule_replay.specs.Examples.{one_input}
 use Rattle.schedule_replay.specs.Outcomes.{KeptUp}
-use Rattle.schedule_replay.specs.Replays.{most_lines, replayed_opening, replayed_so_far}
+use Rattle.schedule_replay.specs.Replays.{replayed_opening, replayed_so_far}
+use Rattle.schedule_replay.specs.Explained.{most_lines}
 
 abbrev pub hashes : ℕ → List ℕ
 hashes n = replicate n 35

@@ -1,31 +1,36 @@
 -- What a replay comes to, by how its text opens.
-use Rattle.std.specs.Prelude.{◌≡◌, ◌≢◌, ◌⊎◌, ℕ, Bool, true, false, ◌+◌, ◌-◌, ◌≤◌, List, [], ◌++◌, length, Option, Some, None, IfSome, IfErr, Result, Ok, Err, refl}
+use Rattle.std.specs.Prelude.{◌≡◌, ◌≢◌, ◌⊎◌, ℕ, Bool, true, false, ◌+◌, ◌-◌, ◌≤◌, List, [], ◌++◌, length, Option, Some, IfErr, Result, Ok, Err, refl}
 use Rattle.std.proofs.Common.{inl, inr, ap, ◌∙◌, sym, subst, append_assoc, arith, length-append}
 use Rattle.outside.specs.Wholes.{Gained, GainedPrefix}
 use Rattle.outside.proofs.Wholes.{gained-nothing}
 use Rattle.line_reader.specs.declared.why.Why.{Why}
-use Rattle.line_reader.specs.declared.read_fault.ReadFault.{ReadFault}
-use Rattle.line_reader.specs.declared.read_fault.ReadFault.TheVariants as line
 use Rattle.line_reader.specs.Lines.{lines_of, whole_lines, decided}
 use Rattle.line_reader.specs.Readers.{ReaderView, HasRest, fresh}
-use Rattle.line_reader.specs.Outcomes.{Uses, HasReadCause, ReadsPast}
+use Rattle.line_reader.specs.Outcomes.{Uses, ReadsPast}
 use Rattle.line_reader.proofs.Lining.{whole-append, last-append}
 use Rattle.line_reader.proofs.Using.{decided-after}
 use Rattle.schedule_text.specs.declared.header.Header.{Header}
 use Rattle.schedule_text.specs.Schedules.{Opening, Opened, RefusedAt, EndedAt, opening, opening_refusal}
 use Rattle.schedule_text.specs.Streams.{HeaderIsNear, ReadsHeader}
+use Rattle.schedule_text.specs.declared.text_faults.TextFault.{TextFault}
+use Rattle.schedule_text.specs.declared.text_faults.TextFault.TheVariants as text
 use Rattle.schedule_text.proofs.ScheduleLaws.{opening_with, opening-append}
 use Rattle.schedule_text.proofs.Skipping.{past-after}
 use Rattle.schedule_replay.specs.declared.done.Done.{Done}
 use Rattle.schedule_replay.specs.declared.fault.ReplayFault.{ReplayFault}
 use Rattle.schedule_replay.specs.declared.fault.ReplayFault.TheVariants as fault
-use Rattle.schedule_replay.specs.Faults.{IsHeaderFault}
+use Rattle.schedule_replay.specs.Faults.{replay_fault}
 use Rattle.schedule_replay.specs.Replaying.{Replayed, refused_at}
-use Rattle.schedule_replay.specs.Replays.{most_lines, replayed_by, replayed_header, replayed_opening, replayed, replayed_so_far, rest_whole, rest_so_far}
-use Rattle.stacks.specs.Stack.{Entry, Found, Here, IfFound, ImageTexts, Nowhere, Play, Texts, found_or, play_of}
-use Rattle.xform_stack.specs.Running.{System}
+use Rattle.schedule_replay.specs.Replays.{replayed_by, replayed_header, replayed_opening, replayed, replayed_so_far}
+use Rattle.schedule_replay.specs.Rests.{rest_whole, rest_so_far}
+use Rattle.schedule_replay.specs.Explained.{most_lines}
+use Rattle.stacks.proofs.Found.{plays-from-stack}
+use Rattle.stacks.specs.Plays.{Found, Here, IfFound, Nowhere, found_or, AnyPlay, ImageTexts, Play, Texts, play_of}
+use Rattle.stacks.specs.Stack.{stack_at}
+use Rattle.stacks.specs.Table.{plays_at}
+use Rattle.xform_stack.specs.Systems.{Played}
 use Rattle.line_reader.specs.declared.why.Why.TheVariants as why
-use Rattle.schedule_replay.specs.Outcomes.{HasGiven, ComesTo, HasFault, HasCause, KeepsSink, KeptUp, ReplaysRest}
+use Rattle.schedule_replay.specs.Outcomes.{HasGiven, ComesTo, HasCause, KeepsSink, KeptUp, ReplaysRest}
 use Rattle.schedule_replay.proofs.Endings.{given-of}
 use Rattle.schedule_replay.proofs.Finishing.{front-none}
 use Rattle.schedule_replay.proofs.Keeping.{past-end}
@@ -41,9 +46,9 @@ gained-none : (out : Option (List ℕ)) (text : List ℕ) → text ≡ [] → Ga
 gained-none out text none = rw none (gained-nothing out)
 
 -- no header was read
-pub header-comes : (new : ReaderView) (left' out : Option (List ℕ)) (bytes : List ℕ) (found : ReadFault) (answer : ReplayFault) → IsHeaderFault found answer → ReadsHeader (fresh most_lines) new left' bytes (Err found)
+pub header-comes : (new : ReaderView) (left' out : Option (List ℕ)) (bytes : List ℕ) (found : TextFault) (answer : ReplayFault) → answer ≡ replay_fault found → ReadsHeader (fresh most_lines) new left' bytes (Err found)
     → ComesTo replayed replayed_so_far 0 bytes left' out out (Err answer)
-header-comes new left' out bytes line.Read answer is (part, breaks, n, none) = rw is (record {
+header-comes new left' out bytes text.Read answer is (part, breaks, n, none) = rw is (record {
   given = part;
   gave = record { others = breaks.rest'; whole = breaks.whole; left_is = breaks.left_is };
   short = breaks.short;
@@ -51,7 +56,7 @@ header-comes new left' out bytes line.Read answer is (part, breaks, n, none) = r
   written = gained-none out (replayed_so_far part).out (ap (λ (o : Opening). (replayed_opening false o).out) none);
   front = front-none out (replayed bytes).out;
 })
-header-comes new left' out bytes (line.Refused n w) answer is (stands, refused) =
+header-comes new left' out bytes (text.Refused n w) answer is (stands, refused) =
     let both = refused-opening (opening most_lines 1 (lines_of bytes)) (n, w) refused in
     let gave = given-of (fresh most_lines) new left' bytes n stands in
     rw is (record {
@@ -62,14 +67,7 @@ header-comes new left' out bytes (line.Refused n w) answer is (stands, refused) 
       later = stands.later;
       ahead = gave.2;
     })
-header-comes new left' out bytes line.Memory answer is reads = rw is (front-none out (replayed bytes).out)
-header-comes new left' out bytes line.End answer is reads = absurd reads
-
-pub header-fault : (old : ReaderView) (f f' w w' : ℕ) (found : ReadFault) (answer : ReplayFault) → IsHeaderFault found answer → HasReadCause old f f' found → HasFault f f' w w' answer
-header-fault old f f' w w' line.Read answer is cause = rw is cause.0
-header-fault old f f' w w' line.End answer is cause = absurd is
-header-fault old f f' w w' line.Memory answer is cause = rw is tt
-header-fault old f f' w w' (line.Refused n x) answer is cause = rw is tt
+header-comes new left' out bytes text.Memory answer is reads = rw is (front-none out (replayed bytes).out)
 
 -- nothing was written of a text that was read up to its header
 pub kept-header : (left out : Option (List ℕ)) (bytes : List ℕ) → HeaderIsNear (fresh most_lines) left bytes → KeptUp replayed_so_far bytes left out out
@@ -200,14 +198,21 @@ pub record FoundRest (makes : Bool → List (List ℕ) → Replayed) (r : Reader
   pub reads : read ≤ read'
   pub writes : write ≤ write'
 
--- what stands after a header comes to what the stack that is found for it makes of it
-pub found-comes : (found : Found Entry) (nodes : ℕ) (r : ReaderView) (left left' out out' : Option (List ℕ)) (read read' write write' wants wants' : ℕ) (result : Result Done ReplayFault)
-    → IfFound found (λ e. ReplaysRest (e.of nodes).stack.play r left left' read read' out out' write write' wants wants' result)
-    → FoundRest (λ whole ls. found_or (refused_at ((r.number + 1) - 1) why.Header) (λ e. replayed_by (e.of nodes).stack.play whole r.most (r.number + 1) r.events ls) found)
+found-rest : (found : Found AnyPlay) (r : ReaderView) (left left' out out' : Option (List ℕ)) (read read' write write' wants wants' : ℕ) (result : Result Done ReplayFault)
+    → IfFound found (λ a. ReplaysRest a.play r left left' read read' out out' write write' wants wants' result)
+    → FoundRest (λ whole ls. found_or (refused_at ((r.number + 1) - 1) why.Header) (λ a. replayed_by a.play whole r.most (r.number + 1) r.events ls) found)
     r left left' read read' out out' write write' wants wants' result
-found-comes Nowhere nodes r left left' out out' read read' write write' wants wants' result none = absurd none
-found-comes (Here e) nodes r left left' out out' read read' write write' wants wants' result a = record { told = a.told; kept_up = a.kept_up; reads_quiet = a.reads_quiet; fault = a.fault; quiet = a.quiet; reads = a.reads; writes = a.writes }
+found-rest Nowhere r left left' out out' read read' write write' wants wants' result none = absurd none
+found-rest (Here a) r left left' out out' read read' write write' wants wants' result by = record { told = by.told; kept_up = by.kept_up; reads_quiet = by.reads_quiet; fault = by.fault; quiet = by.quiet; reads = by.reads; writes = by.writes }
+
+-- what stands after a header comes to what the stack of the header makes of it
+pub found-comes : (h : Header) (r : ReaderView) (left left' out out' : Option (List ℕ)) (read read' write write' wants wants' : ℕ) (result : Result Done ReplayFault)
+    → IfFound (stack_at h) (λ a. ReplaysRest a.plays.play r left left' read read' out out' write write' wants wants' result)
+    → FoundRest (λ whole ls. replayed_header whole h r.most (r.number + 1) r.events ls) r left left' read read' out out' write write' wants wants' result
+found-comes h r left left' out out' read read' write write' wants wants' result there =
+    found-rest (plays_at h) r left left' out out' read read' write write' wants wants' result
+    (plays-from-stack h (λ a. ReplaysRest a.play r left left' read read' out out' write write' wants wants' result) there)
 
 -- how schedules of a stack play is known from what is run, the texts and the image
-pub same-play : {S K I O M G : Type 0} (p : Play I O G) (sys : System S K I O M G) (t : Texts I O) (i : ImageTexts G) → p ≡ play_of sys p.texts p.below → p.texts ≡ t → p.below ≡ i → play_of sys t i ≡ p
-same-play p sys t i runs texts below = sym (runs ∙ (ap (λ x. play_of sys x p.below) texts ∙ ap (λ x. play_of sys t x) below))
+pub same-play : {I O G : Type 0} (p : Play I O G) (run : Played I O G) (t : Texts I O) (i : ImageTexts G) → p ≡ play_of run p.texts p.below → p.texts ≡ t → p.below ≡ i → play_of run t i ≡ p
+same-play p run t i runs texts below = sym (runs ∙ (ap (λ x. play_of run x p.below) texts ∙ ap (λ x. play_of run t x) below))

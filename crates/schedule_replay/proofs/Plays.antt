@@ -1,5 +1,5 @@
 -- Playing the steps of a schedule one by one.
-use Rattle.std.specs.Prelude.{◌≡◌, ◌⊎◌, ℕ, Bool, true, false, ◌+◌, List, [], ◌∷◌, ◌++◌, map, length, count_by, cond}
+use Rattle.std.specs.Prelude.{◌≡◌, ◌⊎◌, ℕ, Bool, true, false, ◌+◌, List, [], ◌∷◌, ◌++◌, length, count_by, cond}
 use Rattle.std.specs.Prelude.{Option, Some, None, Ok, refl}
 use Rattle.std.specs.List.{flat_map}
 use Rattle.std.proofs.Common.{inl, inr, ap, ◌∙◌, sym, subst, append_assoc, arith, length-append}
@@ -8,9 +8,6 @@ use Rattle.std.proofs.lemmas.List.Sums.{sum_by-append}
 use Rattle.std.proofs.lemmas.Grind.{flat_map-append}
 use Rattle.vst_base.specs.declared.step.Step.{Step}
 use Rattle.vst_base.specs.declared.step.Item.{Item}
-use Rattle.net_semantics.specs.Worlds.{first_world}
-use Rattle.net_semantics.specs.Runs.{run, trace, trace_from}
-use Rattle.net_semantics.specs.RunLaws.{trace_from-append}
 use Rattle.outside.specs.Wholes.{Gained, GainedPrefix}
 use Rattle.outside.proofs.Wholes.{gained-both, gained-front, gained-some, gained-nothing}
 use Rattle.line_reader.specs.declared.why.Why.{Why}
@@ -23,17 +20,19 @@ use Rattle.schedule_text.specs.Printing.{as_line, item_text, trace_text}
 use Rattle.schedule_text.specs.Schedules.{Script, script, no_steps, with_step}
 use Rattle.schedule_text.specs.Streams.{ReadsStep}
 use Rattle.schedule_text.proofs.ScheduleLaws.{prefixed, script-after}
-use Rattle.xform_stack.specs.Running.{HasRun, Progress, System}
+use Rattle.xform_stack.specs.Running.{HasRun, Progress}
 use Rattle.xform_stack.specs.RunningLaws.{has_run-forget}
+use Rattle.xform_stack.specs.SystemLaws.{IsCausal}
+use Rattle.xform_stack.specs.Systems.{Played}
 use Rattle.schedule_replay.specs.declared.halt.Halt.{Halt}
 use Rattle.schedule_replay.specs.declared.halt.Halt.TheVariants as halt
 use Rattle.schedule_replay.specs.declared.tally.Tally.{Tally}
-use Rattle.stacks.specs.Stack.{ImageTexts, Play, Texts, play_of}
+use Rattle.stacks.specs.Plays.{ImageTexts, Play, Texts, play_of}
 use Rattle.schedule_replay.specs.Tallying.{tallied}
 use Rattle.schedule_replay.specs.Replaying.{is_input, is_output, is_reply_by, why_of, stop, taken}
 use Rattle.schedule_replay.specs.Replaying.{trace_lines, image_lines, ended, replayed_script}
 use Rattle.schedule_replay.specs.Playing.{TraceWritten, TookStep, HaltsBy, Halted, Waits, Writes}
-use Rattle.schedule_replay.proofs.Scripts.{all-taken, refused-after, taken-front}
+use Rattle.schedule_replay.proofs.Scripts.{all-taken, refused-after, taken-front, unnumbered}
 
 -- where the reading of a schedule stands, and the writing of what comes of it
 pub record Standing (R : Type 0) : Type 0 where
@@ -46,10 +45,6 @@ pub record Standing (R : Type 0) : Type 0 where
 -- what lines say after where a reader stands
 abbrev pub script_from : {I : Type 0} → (List ℕ → Option I) → ReaderView → List (List ℕ) → Script I
 script_from f r ls = script r.most f (r.number + 1) r.events ls
-
--- steps without the numbers of their lines
-abbrev pub unnumbered : {I : Type 0} → List (ℕ × Step I) → List (Step I)
-unnumbered steps = map (λ p. p.1) steps
 
 abbrev pub text_of : {I O : Type 0} → Texts I O → List (Item I O) → List ℕ
 text_of t items = trace_text t.input_text t.output_text items
@@ -64,11 +59,11 @@ pub record Reads {I : Type 0} (f : List ℕ → Option I) (old now : ReaderView)
   pub most : now.most ≡ old.most
 
 -- steps were taken, the part of their trace that was cleared was written, and the lines so far say them
-pub record Played {R S K I O M G : Type 0} (sys : System S K I O M G) (follows : R → List (Step I) → Type 0) (progress : R → Progress I O)
+pub record HasPlayed {R I O G : Type 0} (run : Played I O G) (follows : R → List (Step I) → Type 0) (progress : R → Progress I O)
     (t : Texts I O) (old now : Standing R) : Type 0 where
   pub steps : List (ℕ × Step I)
   pub gone : List (Item I O)
-  pub ran : HasRun sys follows progress (unnumbered steps) gone now.running
+  pub ran : HasRun run follows progress (unnumbered steps) gone now.running
   pub written : TraceWritten t gone old.written now.written now.tally
   pub reads : (rest : List ℕ) → HasRest old.reader old.left rest → Reads t.input_of old.reader now.reader now.left rest steps
 
@@ -78,14 +73,12 @@ module _ {I O G : Type 0} (st : Play I O G) where
   ended-front ss (Some y) = ([], sym (append-nil (trace_lines st ss)))
   ended-front ss None = (image_lines st ss, refl)
 
-trace-front : {S K I O M G : Type 0} (sys : System S K I O M G) (t : Texts I O) (i : ImageTexts G) (ss ts : List (Step I))
-    → (more : List ℕ) × (trace_lines (play_of sys t i) (ss ++ ts) ≡ trace_lines (play_of sys t i) ss ++ more)
-trace-front {I = I} {O = O} sys t i ss ts =
-    let m = sys.meaning in
-    let r = sys.recovery in
+trace-front : {I O G : Type 0} (run : Played I O G) (causal : IsCausal run) (t : Texts I O) (i : ImageTexts G) (ss ts : List (Step I))
+    → (more : List ℕ) × (trace_lines (play_of run t i) (ss ++ ts) ≡ trace_lines (play_of run t i) ss ++ more)
+trace-front {I = I} {O = O} run causal t i ss ts =
     let f = λ (x : Item I O). as_line (item_text t.input_text t.output_text x) in
-    let later = trace_from m r (run m r ss) ts in
-    (flat_map f later, ap (λ xs. flat_map f xs) (trace_from-append m r (first_world m) ss ts) ∙ flat_map-append f (trace m r ss) later)
+    let more = causal.trace ss ts in
+    (flat_map f more.0, ap (λ xs. flat_map f xs) more.1 ∙ flat_map-append f (run.trace ss) more.0)
 
 count-append : {X : Type 0} (p : X → Bool) (xs ys : List X) → count_by p (xs ++ ys) ≡ count_by p xs + count_by p ys
 count-append p xs ys = sum_by-append (λ x. cond (p x) 1 0) xs ys
@@ -133,16 +126,16 @@ module _ {R I O : Type 0} {follows : R → List (Step I) → Type 0} {progress :
         counted = rw (none, ins, outs, replies) refl;
       }
 
-module _ {R S K I O M G : Type 0} {sys : System S K I O M G} {follows : R → List (Step I) → Type 0} {progress : R → Progress I O}
+module _ {R I O G : Type 0} {run : Played I O G} {follows : R → List (Step I) → Type 0} {progress : R → Progress I O}
     {t : Texts I O} where
   run-written : {ss : List (Step I)} {gone : List (Item I O)} {v u : R} {tally tally' : Tally} {out out' : Option (List ℕ)}
-      → HasRun sys follows progress ss gone v → Writes follows progress t v u tally tally' out out'
-      → HasRun sys follows progress ss (gone ++ (progress v).trace) u
-  run-written {ss} {gone} {v} {u} ran w = has_run-forget sys follows progress ss gone v u w.forgets (w.stays ss ran.followed) ran
+      → HasRun run follows progress ss gone v → Writes follows progress t v u tally tally' out out'
+      → HasRun run follows progress ss (gone ++ (progress v).trace) u
+  run-written {ss} {gone} {v} {u} ran w = has_run-forget run follows progress ss gone v u w.forgets (w.stays ss ran.followed) ran
 
   -- before the first step
-  pub played-start : {a : Standing R} → HasRun sys follows progress [] [] a.running
-      → a.tally ≡ record { inputs = 0; outputs = 0; replies = 0 } → Played sys follows progress t a a
+  pub played-start : {a : Standing R} → HasRun run follows progress [] [] a.running
+      → a.tally ≡ record { inputs = 0; outputs = 0; replies = 0 } → HasPlayed run follows progress t a a
   played-start {a} ran is = record {
     steps = [];
     gone = [];
@@ -152,9 +145,9 @@ module _ {R S K I O M G : Type 0} {sys : System S K I O M G} {follows : R → Li
   }
 
   -- once what clients saw was written, or waits while a line is at hand
-  pub played-before-reading : {a b : Standing R} {u : R} {tally' : Tally} {out' : Option (List ℕ)} → Played sys follows progress t a b
+  pub played-before-reading : {a b : Standing R} {u : R} {tally' : Tally} {out' : Option (List ℕ)} → HasPlayed run follows progress t a b
       → Waits b.reader b.running u b.tally tally' b.written out' ⊎ Writes follows progress t b.running u b.tally tally' b.written out'
-      → Played sys follows progress t a (record b { running = u; tally = tally'; written = out' })
+      → HasPlayed run follows progress t a (record b { running = u; tally = tally'; written = out' })
   played-before-reading p (inl w) = rw (w.same, w.counts, w.nothing) p
   played-before-reading {b = b} p (inr w) = record {
     steps = p.steps;
@@ -233,18 +226,18 @@ nothing-left new left has = has.left_is ∙ ap Some (nothing-after new.ahead has
   nothing-after (x ∷ xs) ys e = cc
 
 -- after the steps that were played
-module _ {R S K I O M G : Type 0} {sys : System S K I O M G} {follows : R → List (Step I) → Type 0} {progress : R → Progress I O}
-    {t : Texts I O} {a b : Standing R} (p : Played sys follows progress t a b) where
+module _ {R I O G : Type 0} {run : Played I O G} {follows : R → List (Step I) → Type 0} {progress : R → Progress I O}
+    {t : Texts I O} {a b : Standing R} (p : HasPlayed run follows progress t a b) where
   -- one more was read and taken, or there is none, or it is refused
   abbrev pub Took : R → ReaderView → Option (List ℕ) → Option Halt → Type 0
-  Took u new after x = TookStep sys follows progress t.input_of u (unnumbered p.steps) p.gone b.reader new b.left after x
+  Took u new after x = TookStep run follows progress t.input_of u (unnumbered p.steps) p.gone b.reader new b.left after x
 
   pub played-more : {u : R} {new : ReaderView} {after : Option (List ℕ)} → Took u new after None → new.events ≡ b.reader.events + 1
-      → new.most ≡ b.reader.most → Played sys follows progress t a (record b { running = u; reader = new; left = after })
+      → new.most ≡ b.reader.most → HasPlayed run follows progress t a (record b { running = u; reader = new; left = after })
   played-more {u} {new} {after} (s, ran, reads) counted most = record {
     steps = p.steps ++ (new.number, s) ∷ [];
     gone = p.gone;
-    ran = subst (λ (ss : List (Step I)). HasRun sys follows progress ss p.gone u)
+    ran = subst (λ (ss : List (Step I)). HasRun run follows progress ss p.gone u)
         (sym (map-append (λ (q : ℕ × Step I). q.1) p.steps ((new.number, s) ∷ []))) ran;
     written = p.written;
     reads = λ rest has.
@@ -252,24 +245,24 @@ module _ {R S K I O M G : Type 0} {sys : System S K I O M G} {follows : R → Li
         reads-more r new after s (reads r.uses.rest' r.uses.left) counted most;
   }
 
-  module _ (i : ImageTexts G) where
+  module _ (causal : IsCausal run) (i : ImageTexts G) where
     -- they are the first that are taken of the whole rest
     front : (rest : List ℕ) → HasRest a.reader a.left rest
-        → (more : List (Step I)) × (taken (play_of sys t i) (script_from t.input_of a.reader (lines_of rest)) ≡ unnumbered p.steps ++ more)
+        → (more : List (Step I)) × (taken (play_of run t i) (script_from t.input_of a.reader (lines_of rest)) ≡ unnumbered p.steps ++ more)
     front rest has =
         let r = p.reads rest has in
-        taken-front sys.net sys.meaning sys.recovery (first_world sys.meaning) p.steps p.ran.allowed
+        taken-front run p.steps p.ran.allowed causal
         (script_from t.input_of b.reader (lines_of r.uses.rest')) (script_from t.input_of a.reader (lines_of rest)) (script-rest r)
 
     -- they are all that are taken of a script that says no others
     stops : (fault : Option (ℕ × Why)) (sc : Script I) → sc ≡ record { steps = p.steps; fault = fault }
-        → (stop (play_of sys t i) sc ≡ fault) × (taken (play_of sys t i) sc ≡ unnumbered p.steps)
-    stops fault sc is = all-taken sys.net sys.meaning sys.recovery (first_world sys.meaning) p.steps p.ran.allowed fault sc is
+        → (stop (play_of run t i) sc ≡ fault) × (taken (play_of run t i) sc ≡ unnumbered p.steps)
+    stops fault sc is = all-taken run p.steps p.ran.allowed fault sc is
 
     -- where the steps end
     module _ (u : R) (new : ReaderView) (after : Option (List ℕ)) where
       halts-by : (x : Halt) → Took u new after (Some x) → (rest : List ℕ) → HasRest a.reader a.left rest
-          → HaltsBy (play_of sys t i) (unnumbered p.steps) a.reader new after rest x
+          → HaltsBy (play_of run t i) (unnumbered p.steps) a.reader new after rest x
       halts-by halt.End (same, reads) rest has =
           let r = p.reads rest has in
           let read = reads r.uses.rest' r.uses.left in
@@ -292,8 +285,7 @@ module _ {R S K I O M G : Type 0} {sys : System S K I O M G} {follows : R → Li
                 let s = found.0 in
                 let read = found.2 in
                 let ahead = step-ahead r new after s read in
-                let both = refused-after sys.net sys.meaning sys.recovery (first_world sys.meaning) p.steps p.ran.allowed
-                new.number s ahead.0 sc found.1 ahead.1 found.4 in
+                let both = refused-after run p.steps p.ran.allowed causal new.number s ahead.0 sc found.1 ahead.1 found.4 in
                 let stands = subst (λ (n : ℕ). StandsAt b.reader new after r.uses.rest' n) (sym found.3) read.2 in (
                   stands-after a.reader b.reader new b.left after rest r.used number r.uses stands,
                   both.0 ∙ (ap (λ n. Some (n, why_of found.1)) (sym found.3) ∙ ap (λ x. Some (number, x)) (sym found.5)),
@@ -301,7 +293,7 @@ module _ {R S K I O M G : Type 0} {sys : System S K I O M G} {follows : R → Li
                 )
           ]
 
-      ran-at : (x : Halt) → Took u new after (Some x) → HasRun sys follows progress (unnumbered p.steps) p.gone u
+      ran-at : (x : Halt) → Took u new after (Some x) → HasRun run follows progress (unnumbered p.steps) p.gone u
       ran-at halt.End took = took.0
       ran-at halt.Read took = took.0
       ran-at (halt.Refused number w) took = took.0
@@ -309,7 +301,7 @@ module _ {R S K I O M G : Type 0} {sys : System S K I O M G} {follows : R → Li
     -- and what clients saw last was written
     pub played-halts : {u z : R} {tally' : Tally} {new : ReaderView} {after out' : Option (List ℕ)} {x : Halt}
         → Took u new after (Some x) → Writes follows progress t u z b.tally tally' b.written out'
-        → Halted sys follows progress t i z tally' a.reader new a.left after a.written out' x
+        → Halted run follows progress t i z tally' a.reader new a.left after a.written out' x
     played-halts {u} {new = new} {after = after} {x = x} took w =
         let ran = ran-at u new after x took in
         record {
@@ -323,15 +315,15 @@ module _ {R S K I O M G : Type 0} {sys : System S K I O M G} {follows : R → Li
         }
 
 -- what was written is a front of what the whole rest makes
-module _ {R S K I O M G : Type 0} {sys : System S K I O M G} {follows : R → List (Step I) → Type 0} {progress : R → Progress I O} {v : R}
-    {steps : List (Step I)} {gone : List (Item I O)} (ran : HasRun sys follows progress steps gone v) (t : Texts I O) (i : ImageTexts G)
-    (sc : Script I) (front : (more : List (Step I)) × (taken (play_of sys t i) sc ≡ steps ++ more)) where
+module _ {R I O G : Type 0} {run : Played I O G} {follows : R → List (Step I) → Type 0} {progress : R → Progress I O} {v : R}
+    {steps : List (Step I)} {gone : List (Item I O)} (ran : HasRun run follows progress steps gone v) (causal : IsCausal run) (t : Texts I O) (i : ImageTexts G)
+    (sc : Script I) (front : (more : List (Step I)) × (taken (play_of run t i) sc ≡ steps ++ more)) where
   text-front : (more : List ℕ)
-      × ((replayed_script (play_of sys t i) true sc).out ≡ text_of t gone ++ (text_of t (progress v).trace ++ more))
+      × ((replayed_script (play_of run t i) true sc).out ≡ text_of t gone ++ (text_of t (progress v).trace ++ more))
   text-front =
-      let st = play_of sys t i in
+      let st = play_of run t i in
       let a = ended-front st (taken st sc) (stop st sc) in
-      let b = trace-front sys t i steps front.0 in
+      let b = trace-front run causal t i steps front.0 in
       let seen = text_of t (progress v).trace in
       let lines : trace_lines st steps ≡ text_of t gone ++ seen =
       ap (text_of t) (sym ran.traced) ∙ text-append t gone (progress v).trace in (
@@ -341,25 +333,25 @@ module _ {R S K I O M G : Type 0} {sys : System S K I O M G} {follows : R → Li
       )
 
   pub written-front : {out out' : Option (List ℕ)} {tally : Tally} → TraceWritten t gone out out' tally
-      → GainedPrefix out out' (replayed_script (play_of sys t i) true sc).out
+      → GainedPrefix out out' (replayed_script (play_of run t i) true sc).out
   written-front {out} {out'} before =
       gained-front out out' (text_of t gone) (text_of t (progress v).trace ++ text-front.0) _ text-front.1 before.written
 
   -- also while what clients saw last is written
   writing-front : {out mid : Option (List ℕ)} {tally : Tally} (out' : Option (List ℕ)) → TraceWritten t gone out mid tally
-      → GainedPrefix mid out' (text_of t (progress v).trace) → GainedPrefix out out' (replayed_script (play_of sys t i) true sc).out
+      → GainedPrefix mid out' (text_of t (progress v).trace) → GainedPrefix out out' (replayed_script (play_of run t i) true sc).out
   writing-front {out} {mid} out' before more =
       gained-some out mid out' (text_of t gone) (text_of t (progress v).trace) _ text-front.0 text-front.1 before.written more
 
-module _ {R S K I O M G : Type 0} {sys : System S K I O M G} {follows : R → List (Step I) → Type 0} {progress : R → Progress I O}
-    {t : Texts I O} {a b : Standing R} (p : Played sys follows progress t a b) (i : ImageTexts G)
+module _ {R I O G : Type 0} {run : Played I O G} {follows : R → List (Step I) → Type 0} {progress : R → Progress I O}
+    {t : Texts I O} {a b : Standing R} (p : HasPlayed run follows progress t a b) (causal : IsCausal run) (i : ImageTexts G)
     (rest : List ℕ) (has : HasRest a.reader a.left rest) where
   abbrev whole : Script I
   whole = script_from t.input_of a.reader (lines_of rest)
 
-  pub played-front : GainedPrefix a.written b.written (replayed_script (play_of sys t i) true whole).out
-  played-front = written-front p.ran t i whole (front p i rest has) p.written
+  pub played-front : GainedPrefix a.written b.written (replayed_script (play_of run t i) true whole).out
+  played-front = written-front p.ran causal t i whole (front p causal i rest has) p.written
 
   pub playing-front : (out' : Option (List ℕ)) → GainedPrefix b.written out' (text_of t (progress b.running).trace)
-      → GainedPrefix a.written out' (replayed_script (play_of sys t i) true whole).out
-  playing-front out' more = writing-front p.ran t i whole (front p i rest has) out' p.written more
+      → GainedPrefix a.written out' (replayed_script (play_of run t i) true whole).out
+  playing-front out' more = writing-front p.ran causal t i whole (front p causal i rest has) out' p.written more

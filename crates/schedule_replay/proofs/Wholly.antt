@@ -5,8 +5,9 @@ use Rattle.vst_base.specs.declared.step.Item.{Item}
 use Rattle.schedule_text.specs.Printing.{trace_text}
 use Rattle.stacks.specs.ClaimTexts.{image_text}
 use Rattle.schedule_text.specs.Schedules.{Script}
-use Rattle.stacks.specs.Stack.{Play}
-use Rattle.schedule_replay.specs.Replaying.{Replayed, steps_of, stop_at, taken_at, stop, taken, image_lines, ended, replayed_script}
+use Rattle.stacks.specs.Plays.{Play}
+use Rattle.schedule_replay.specs.Explained.{steps_of}
+use Rattle.schedule_replay.specs.Replaying.{Replayed, stop_at, taken_at, stop, taken, image_lines, ended, replayed_script}
 
 module _ {I O G : Type 0} (st : Play I O G) (sc : Script I) (none : sc.fault ≡ None) (allowed : st.refused (steps_of sc) ≡ None) where
   pub taken-whole : replayed_script st true sc ≡ ended st true (steps_of sc) None

@@ -1,5 +1,6 @@
 pub mod Replaying
 pub mod Replays
+pub mod Rests
 pub mod Explained
 pub mod Tallying
 pub mod Playing

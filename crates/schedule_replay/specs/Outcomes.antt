@@ -1,6 +1,7 @@
 -- What a replay from a source to a sink comes to. It is said of the rest of a text, before which some lines stand, by what
 -- replay makes of a whole rest, and of the whole lines of one that broke off.
-use Rattle.std.specs.Prelude.{◌≡◌, ◌≢◌, ◌⊎◌, ℕ, Bool, false, ◌+◌, ◌-◌, ◌<◌, ◌≤◌, List, [], ◌++◌, length, Option, Some, None, Result, Ok, Err, IfErr}
+use Rattle.std.specs.Prelude.{◌≡◌, ◌≢◌, ◌⊎◌, ℕ, Bool, false, ◌+◌, ◌-◌, ◌<◌, ◌≤◌, List, [], ◌++◌, length}
+use Rattle.std.specs.Prelude.{Option, Some, None, Result, Ok, Err, IfErr}
 use Rattle.outside.specs.Counting.{Rose}
 use Rattle.outside.specs.Wholes.{Gained, GainedPrefix}
 use Rattle.line_reader.specs.declared.why.Why.{Why}
@@ -10,9 +11,9 @@ use Rattle.schedule_replay.specs.declared.fault.ReplayFault.{ReplayFault}
 use Rattle.schedule_replay.specs.declared.fault.ReplayFault.TheVariants as fault
 use Rattle.line_reader.specs.Outcomes.{ReadsPast}
 use Rattle.line_reader.specs.Readers.{ReaderView, HasRest}
-use Rattle.stacks.specs.Stack.{Play}
+use Rattle.stacks.specs.Plays.{Play}
 use Rattle.schedule_replay.specs.Replaying.{Replayed}
-use Rattle.schedule_replay.specs.Replays.{stack_so_far, stack_whole}
+use Rattle.schedule_replay.specs.Rests.{stack_so_far, stack_whole}
 
 -- of a rest these bytes were given, and the others are left
 pub record HasGiven (rest : List ℕ) (left' : Option (List ℕ)) (given : List ℕ) : Type 0 where
@@ -39,7 +40,8 @@ pub record BrokeOff (whole so_far : List ℕ → Replayed) (rest : List ℕ) (le
 
 -- this line is the first that is refused, the sink gained the trace before it, and at most 4,096 bytes were given past the
 -- byte that decided it
-pub record IsRefused (whole : List ℕ → Replayed) (before : ℕ) (rest : List ℕ) (left' out out' : Option (List ℕ)) (line : ℕ) (why : Why) : Type 0 where
+pub record IsRefused (whole : List ℕ → Replayed) (before : ℕ) (rest : List ℕ) (left' out out' : Option (List ℕ)) (line : ℕ) (why : Why)
+    : Type 0 where
   pub refused : (whole rest).refused ≡ Some (line, why)
   pub written : Gained out out' (whole rest).out
   pub given : List ℕ
@@ -47,7 +49,9 @@ pub record IsRefused (whole : List ℕ → Replayed) (before : ℕ) (rest : List
   pub later : before < line
   pub ahead : length given ≤ decided (line - before) rest + 4096
 
-abbrev pub ComesTo : (List ℕ → Replayed) → (List ℕ → Replayed) → ℕ → List ℕ → Option (List ℕ) → Option (List ℕ) → Option (List ℕ) → Result Done ReplayFault → Type 0
+-- what a replay answers of a rest before which so many lines stand
+abbrev pub ComesTo : (List ℕ → Replayed) → (List ℕ → Replayed) → ℕ → List ℕ → Option (List ℕ) → Option (List ℕ) → Option (List ℕ)
+    → Result Done ReplayFault → Type 0
 ComesTo whole so_far before rest left' out out' (Ok done) = IsDone whole rest left' out out' done
 ComesTo whole so_far before rest left' out out' (Err fault.Read) = BrokeOff whole so_far rest left' out out'
 ComesTo whole so_far before rest left' out out' (Err (fault.Refused line why)) = IsRefused whole before rest left' out out' line why

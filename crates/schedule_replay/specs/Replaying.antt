@@ -1,22 +1,19 @@
 -- What replay makes of a text: the run of its steps up to the first that the network or the grammar refuses, its
 -- trace, and, where none is refused, the image below it.
-use Rattle.std.specs.Prelude.{ℕ, zero, suc, Bool, true, false, List, [], ◌∷◌, ◌++◌, map, length, take, count_by, Option, Some, None}
-use Rattle.handler_trait.specs.Handling.{Meaning, Recovery}
-use Rattle.vst_base.specs.declared.net.Net.{Net}
+use Rattle.std.specs.Prelude.{ℕ, zero, suc, Bool, true, false, List, [], ◌∷◌, ◌++◌, length, take, count_by, Option, Some, None}
 use Rattle.vst_base.specs.declared.step.Step.{Step}
 use Rattle.vst_base.specs.declared.step.Item.{Item}
 use Rattle.vst_base.specs.declared.step.Item.TheVariants as item
 use Rattle.vst_base.specs.declared.step.StepRefusal.{StepRefusal}
 use Rattle.vst_base.specs.declared.step.StepRefusal.TheVariants as refusal
-use Rattle.net_semantics.specs.Worlds.{World}
-use Rattle.net_semantics.specs.Runs.{first_refused_from}
 use Rattle.line_reader.specs.declared.why.Why.{Why}
 use Rattle.line_reader.specs.declared.why.Why.TheVariants as why
 use Rattle.schedule_text.specs.Schedules.{Script}
 use Rattle.schedule_text.specs.Printing.{trace_text}
 use Rattle.schedule_replay.specs.declared.done.Done.{Done}
 use Rattle.stacks.specs.ClaimTexts.{image_text}
-use Rattle.stacks.specs.Stack.{Play}
+use Rattle.stacks.specs.Plays.{Play}
+use Rattle.schedule_replay.specs.Explained.{steps_of}
 
 -- a world's refusal as a line's
 abbrev pub why_of : StepRefusal → Why
@@ -30,14 +27,11 @@ why_of refusal.NotFirst = why.NotFirst
 why_of refusal.NodeBusy = why.NodeBusy
 why_of refusal.NodeIdle = why.NodeIdle
 
--- the line of the step at a place
+-- the line of the step at a place; that of a refusal is always the place of a step
 abbrev pub line_at : {I : Type 0} → ℕ → List (ℕ × Step I) → ℕ
 line_at n [] = 0
 line_at zero (s ∷ ss) = s.0
 line_at (suc n) (s ∷ ss) = line_at n ss
-
-abbrev pub steps_of : {I : Type 0} → Script I → List (Step I)
-steps_of sc = map (λ p. p.1) sc.steps
 
 -- the first line that is refused: that of the first step that the world does not take, or else the one at which the
 -- grammar stopped; and the steps before it
@@ -49,15 +43,7 @@ abbrev pub taken_at : {I : Type 0} → Script I → Option (ℕ × StepRefusal) 
 taken_at sc None = steps_of sc
 taken_at sc (Some p) = take p.0 (steps_of sc)
 
--- the same on a network, from a world on
-module _ {S K I O M : Type 0} (net : Net) (m : Meaning S I O M) (r : Recovery S K) where
-  abbrev pub stop_from : World S K M → Script I → Option (ℕ × Why)
-  stop_from w sc = stop_at sc (first_refused_from net m r w (steps_of sc))
-
-  abbrev pub taken_from : World S K M → Script I → List (Step I)
-  taken_from w sc = taken_at sc (first_refused_from net m r w (steps_of sc))
-
--- and by how schedules of a stack play
+-- the same by how schedules of a stack play
 module _ {I O G : Type 0} (p : Play I O G) where
   abbrev pub stop : Script I → Option (ℕ × Why)
   stop sc = stop_at sc (p.refused (steps_of sc))
@@ -93,6 +79,7 @@ counts_of p ss = record {
   image = length (p.image ss);
 }
 
+-- where a text was not taken to its end nothing is told of its counts
 abbrev pub no_counts : Done
 no_counts = record { events = 0; inputs = 0; outputs = 0; replies = 0; image = 0 }
 

@@ -1,28 +1,23 @@
 -- What replay makes of the bytes of a schedule.
-use Rattle.std.specs.Prelude.{ℕ, ◌+◌, ◌-◌, Bool, true, false, List, [], None}
+use Rattle.std.specs.Prelude.{ℕ, ◌-◌, Bool, true, false, List, [], None}
 use Rattle.line_reader.specs.Lines.{lines_of, whole_lines}
-use Rattle.line_reader.specs.Readers.{ReaderView}
 use Rattle.line_reader.specs.declared.why.Why.TheVariants as why
 use Rattle.schedule_text.specs.Schedules.{Opening, Opened, RefusedAt, EndedAt, opening, script}
 use Rattle.schedule_text.specs.declared.header.Header.{Header}
-use Rattle.stacks.specs.Stack.{Play, found_or}
-use Rattle.stacks.specs.Table.{stack_at}
+use Rattle.stacks.specs.Plays.{found_or, Play}
+use Rattle.stacks.specs.Table.{plays_at}
 use Rattle.schedule_replay.specs.Replaying.{Replayed, refused_at, no_counts, replayed_script}
-use Rattle.schedule_text.specs.declared.reading.TheConstants.{MAX_LINES}
-
--- the greatest number of a line
-abbrev pub most_lines : ℕ
-most_lines = MAX_LINES
+use Rattle.schedule_replay.specs.Explained.{most_lines}
 
 -- what replay makes of these lines of a stack's schedule: the first has this number, so many events stand before it, and no line
 -- may have a number over the most
 abbrev pub replayed_by : {I O G : Type 0} → Play I O G → Bool → ℕ → ℕ → ℕ → List (List ℕ) → Replayed
 replayed_by p whole most number events ls = replayed_script p whole (script most p.texts.input_of number events ls)
 
--- and of those after a header, which stands on the line before them. Each header names a stack of the table
+-- and of those after a header, which stands on the line before them. A header without a stack in the table is refused at its line
 abbrev pub replayed_header : Bool → Header → ℕ → ℕ → ℕ → List (List ℕ) → Replayed
 replayed_header whole h most number events ls =
-    found_or (refused_at (number - 1) why.Header) (λ e. replayed_by (e.of h.nodes).stack.play whole most number events ls) (stack_at h.net h.stack)
+    found_or (refused_at (number - 1) why.Header) (λ a. replayed_by a.play whole most number events ls) (plays_at h)
 
 -- a text without a header is refused at the line after its last, if that was its end
 abbrev pub replayed_opening : Bool → Opening → Replayed
@@ -38,17 +33,3 @@ replayed bytes = replayed_opening true (opening most_lines 1 (lines_of bytes))
 -- the whole lines of a text that broke off
 abbrev pub replayed_so_far : List ℕ → Replayed
 replayed_so_far bytes = replayed_opening false (opening most_lines 1 (whole_lines bytes))
-
--- the rest of a stack's schedule, after where a reader stands, and the whole lines of one that broke off
-abbrev pub stack_whole : {I O G : Type 0} → Play I O G → ReaderView → List ℕ → Replayed
-stack_whole p r rest = replayed_by p true r.most (r.number + 1) r.events (lines_of rest)
-
-abbrev pub stack_so_far : {I O G : Type 0} → Play I O G → ReaderView → List ℕ → Replayed
-stack_so_far p r rest = replayed_by p false r.most (r.number + 1) r.events (whole_lines rest)
-
--- the same after a header
-abbrev pub rest_whole : Header → ReaderView → List ℕ → Replayed
-rest_whole h r rest = replayed_header true h r.most (r.number + 1) r.events (lines_of rest)
-
-abbrev pub rest_so_far : Header → ReaderView → List ℕ → Replayed
-rest_so_far h r rest = replayed_header false h r.most (r.number + 1) r.events (whole_lines rest)

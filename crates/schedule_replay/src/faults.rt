@@ -1,9 +1,9 @@
-ghost use Rattle.std.specs.Prelude.{◌≡◌, ◌≢◌};
-ghost use Rattle.schedule_replay.specs.Faults.{IsHeaderFault, write_fault};
+ghost use Rattle.std.specs.Prelude.{◌≡◌};
+ghost use Rattle.schedule_replay.specs.Faults.{replay_fault, write_fault};
 ghost use Rattle.schedule_replay.specs.declared.fault.ReplayFault.TheVariants.{Memory};
 
 use crate::ReplayFault;
-use schedule_text::{ReadFault, WriteFault};
+use schedule_text::{TextFault, WriteFault};
 use std::alloc::AllocError;
 
 impl From<AllocError> for ReplayFault {
@@ -24,15 +24,13 @@ pub(crate) fn write_fault(fault: WriteFault) -> ReplayFault
     }
 }
 
-// Why a header was not read, as a fault of a replay. A text that ends without one is refused.
-pub(crate) fn replay_fault(fault: ReadFault) -> ReplayFault
-    requires { fault ≢ ReadFault.End }
-    ensures { IsHeaderFault fault result }
+// Why a header was not read, as a fault of a replay.
+pub(crate) fn replay_fault(fault: TextFault) -> ReplayFault
+    ensures { result ≡ replay_fault fault }
 {
     match fault {
-        ReadFault::Read => ReplayFault::Read,
-        ReadFault::Refused { line, why } => ReplayFault::Refused { line, why },
-        ReadFault::Memory => ReplayFault::Memory,
-        ReadFault::End => unreachable!(),
+        TextFault::Read => ReplayFault::Read,
+        TextFault::Refused { line, why } => ReplayFault::Refused { line, why },
+        TextFault::Memory => ReplayFault::Memory,
     }
 }

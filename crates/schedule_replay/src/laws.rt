@@ -8,7 +8,8 @@ use stacks::stacks_explain;
 /// No other text is one of these bytes, and none of a text with a refused line.
 pub fn replays_are_explained()
     ensures explained { (bytes : List ℕ) → (replayed bytes).refused ≡ None → IsReplay bytes (replayed bytes).out }
-    ensures nothing_else { (bytes text : List ℕ) → IsReplay bytes text → ((replayed bytes).refused ≡ None) × (text ≡ (replayed bytes).out) }
+    ensures nothing_else { (bytes text : List ℕ) → IsReplay bytes text
+        → ((replayed bytes).refused ≡ None) × (text ≡ (replayed bytes).out) }
 {
     stacks_explain();
 }

@@ -9,8 +9,8 @@ ghost use Rattle.xform_stack.specs.Running.{HasRun};
 ghost use Rattle.schedule_replay.specs.Outcomes.{KeptUp};
 ghost use Rattle.schedule_replay.specs.Playing.{Halted};
 ghost use Rattle.schedule_replay.specs.Replaying.{replayed_script};
-ghost use Rattle.schedule_replay.specs.Replays.{stack_so_far};
-ghost use Rattle.stacks.specs.Stack.{ImageTexts, play_of, texts_of};
+ghost use Rattle.schedule_replay.specs.Rests.{stack_so_far};
+ghost use Rattle.stacks.specs.Plays.{ImageTexts, play_of, texts_of};
 
 use crate::halt::Halt;
 use crate::taking::take_step;
@@ -33,18 +33,18 @@ pub(crate) fn play<R: Runs, A: AppText<Input = R::Input, Output = R::Output>, S:
     sink: &mut K,
 ) -> Result<Halt, WriteFault>
     requires sound { R.sound running.old }
-    requires started { HasRun (R.system running.old) R.follows R.progress [] [] running.old }
+    requires started { HasRun (R.played running.old) R.follows R.progress [] [] running.old }
     requires tally { tally.old ≡ record { inputs = 0; outputs = 0; replies = 0 } }
     ensures halted { IfOk result (λ halt. (i : ImageTexts R.Line)
-        → Halted (R.system running.old) R.follows R.progress (texts_of A.input_of A.input_text A.output_of A.output_text A.replies) i
+        → Halted (R.played running.old) R.follows R.progress (texts_of A.input_of A.input_text A.output_of A.output_text A.replies) i
         running.new tally.new reader.old reader.new (S.left source.old) (S.left source.new) (K.written sink.old) (K.written sink.new)
         halt) }
     ensures front { IfErr result (λ _. (i : ImageTexts R.Line) (rest : List ℕ) → HasRest reader.old (S.left source.old) rest
         → GainedPrefix (K.written sink.old) (K.written sink.new)
-        (replayed_script (play_of (R.system running.old) (texts_of A.input_of A.input_text A.output_of A.output_text A.replies) i) true
+        (replayed_script (play_of (R.played running.old) (texts_of A.input_of A.input_text A.output_of A.output_text A.replies) i) true
         (script reader.old.most A.input_of (reader.old.number + 1) reader.old.events (lines_of rest))).out) }
     ensures kept_up { (i : ImageTexts R.Line) (rest : List ℕ) → HasRest reader.old (S.left source.old) rest → KeptUp
-        (stack_so_far (play_of (R.system running.old) (texts_of A.input_of A.input_text A.output_of A.output_text A.replies) i) reader.old)
+        (stack_so_far (play_of (R.played running.old) (texts_of A.input_of A.input_text A.output_of A.output_text A.replies) i) reader.old)
         rest (S.left source.new) (K.written sink.old) (K.written sink.new) }
     ensures fault { IfErr result (HasWriteCause (K.faults sink.old) (K.faults sink.new)) }
     ensures read { result ≡ Ok Halt.Read → Rose (S.faults source.old) (S.faults source.new) }
@@ -55,7 +55,7 @@ pub(crate) fn play<R: Runs, A: AppText<Input = R::Input, Output = R::Output>, S:
     ensures quiet { OnOk result ((K.faults sink.new ≡ K.faults sink.old) × (K.wants sink.new ≡ K.wants sink.old)) }
     ensures reads { S.faults source.old ≤ S.faults source.new }
     ensures writes { K.faults sink.old ≤ K.faults sink.new }
-    ensures system { OnOk result (R.system running.new ≡ R.system running.old) }
+    ensures played { OnOk result (R.played running.new ≡ R.played running.old) }
 {
     loop {
         write_before_reading::<R, A, K>(alloc, running, tally, reader, sink)?;

@@ -2,9 +2,8 @@ ghost use Rattle.std.specs.Prelude.{◌≡◌, ◌≢◌, ◌≤◌, ℕ, List, 
 ghost use Rattle.line_reader.specs.Readers.{HasRest};
 ghost use Rattle.xform_stack.specs.Running.{HasRun};
 ghost use Rattle.schedule_replay.specs.Outcomes.{ComesTo, HasCause, KeepsSink, KeptUp};
-ghost use Rattle.schedule_replay.specs.Replays.{stack_so_far, stack_whole};
-ghost use Rattle.check_text.specs.declared.image_line.ImageLine.{ImageLine};
-ghost use Rattle.stacks.specs.Stack.{image_of, play_of, texts_of};
+ghost use Rattle.schedule_replay.specs.Rests.{stack_so_far, stack_whole};
+ghost use Rattle.stacks.specs.Plays.{image_of, play_of, texts_of};
 
 use crate::faults::write_fault;
 use crate::finish::finish;
@@ -23,7 +22,7 @@ use xform_stack::Runs;
 pub(crate) fn replay_rest<
     R: Runs<Line = L>,
     A: AppText<Input = R::Input, Output = R::Output>,
-    L: Printed<A>,
+    L: Printed<A> + Drop,
     S: Source,
     K: Sink,
 >(
@@ -34,17 +33,17 @@ pub(crate) fn replay_rest<
     source: &mut S,
     sink: &mut K,
 ) -> Result<Done, ReplayFault>
-    requires started { HasRun (R.system running) R.follows R.progress [] [] running }
+    requires started { HasRun (R.played running) R.follows R.progress [] [] running }
     requires sound { R.sound running }
-    ensures told { (says : List ℕ → ImageLine L) (rest : List ℕ) → HasRest reader.old (S.left source.old) rest
-        → ComesTo (stack_whole (play_of (R.system running) (texts_of A.input_of A.input_text A.output_of A.output_text A.replies)
-        (image_of below L.text says)) reader.old)
-        (stack_so_far (play_of (R.system running) (texts_of A.input_of A.input_text A.output_of A.output_text A.replies)
-        (image_of below L.text says)) reader.old)
+    ensures told { (rest : List ℕ) → HasRest reader.old (S.left source.old) rest
+        → ComesTo (stack_whole (play_of (R.played running) (texts_of A.input_of A.input_text A.output_of A.output_text A.replies)
+        (image_of below L.text)) reader.old)
+        (stack_so_far (play_of (R.played running) (texts_of A.input_of A.input_text A.output_of A.output_text A.replies)
+        (image_of below L.text)) reader.old)
         reader.old.number rest (S.left source.new) (K.written sink.old) (K.written sink.new) result }
-    ensures kept_up { (says : List ℕ → ImageLine L) (rest : List ℕ) → HasRest reader.old (S.left source.old) rest
-        → KeptUp (stack_so_far (play_of (R.system running) (texts_of A.input_of A.input_text A.output_of A.output_text A.replies)
-        (image_of below L.text says)) reader.old) rest (S.left source.new) (K.written sink.old) (K.written sink.new) }
+    ensures kept_up { (rest : List ℕ) → HasRest reader.old (S.left source.old) rest
+        → KeptUp (stack_so_far (play_of (R.played running) (texts_of A.input_of A.input_text A.output_of A.output_text A.replies)
+        (image_of below L.text)) reader.old) rest (S.left source.new) (K.written sink.old) (K.written sink.new) }
     ensures fault { IfErr result (HasCause reader.old.ended (S.faults source.old) (S.faults source.new) (K.faults sink.old)
         (K.faults sink.new)) }
     ensures reads_quiet { result ≢ Err ReplayFault.Read → S.faults source.new ≡ S.faults source.old }
@@ -63,7 +62,11 @@ pub(crate) fn replay_rest<
         Ok(Halt::Refused(line, why)) => Err(ReplayFault::Refused { line, why }),
         Ok(Halt::End) => {
             let events = running.taken();
-            match finish::<A, L, K>(alloc, below, running.image(), events, &tally, sink) {
+            let finished = running.finish();
+            let Ok(ran) = finished else {
+                return Err(ReplayFault::Memory);
+            };
+            match finish::<A, L, K>(alloc, below, ran.image.lines(), events, &tally, sink) {
                 Ok(done) => Ok(done),
                 Err(fault) => Err(write_fault(fault)),
             }

@@ -9,6 +9,7 @@ use outside::{Sink, Source};
 use schedule_text::{MAX_LINES, Reader, read_header};
 use stacks::{OnStack, StackCode, headers_have_stacks, on_stack};
 use std::alloc::Global;
+use vst_base::StackId;
 
 // Replays what stands after a header.
 #[derive(Drop)]
@@ -21,18 +22,19 @@ impl<S: Source, K: Sink> OnStack<Reader, S, K> for Replaying {
 
     ghost ready = { λ _ _ _ _ _. Unit {0} };
 
-    ghost Does = { λ _ a r s k r' s' k' result. ReplaysRest a.stack.play r (S.left s) (S.left s') (S.faults s) (S.faults s') (K.written k)
+    ghost Does = { λ _ a r s k r' s' k' result. ReplaysRest a.plays.play r (S.left s) (S.left s') (S.faults s) (S.faults s') (K.written k)
         (K.written k') (K.faults k) (K.faults k') (K.wants k) (K.wants k') result };
 
     fn on<C: StackCode>(
         self,
+        stack: StackId,
         nodes: u8,
         reader: &mut Reader,
         source: &mut S,
         sink: &mut K,
     ) -> Result<Done, ReplayFault> {
         let below = C::below(nodes);
-        let running = C::start(self.alloc, nodes)?;
+        let running = C::start(self.alloc, stack, nodes)?;
         replay_rest::<C::Running, C::Text, C::Line, S, K>(
             self.alloc, running, below, reader, source, sink,
         )

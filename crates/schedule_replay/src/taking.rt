@@ -2,7 +2,7 @@ ghost use Rattle.std.specs.Prelude.{◌≡◌, ◌≢◌, ◌+◌, ◌<◌, ◌�
 ghost use Rattle.net_semantics.specs.Taking.{GrowsBy};
 ghost use Rattle.outside.specs.Counting.{Rose};
 ghost use Rattle.line_reader.specs.Readers.{HasRest};
-ghost use Rattle.schedule_text.specs.Lines.{tells_next};
+ghost use Rattle.schedule_text.specs.Reading.{tells_next};
 ghost use Rattle.schedule_text.specs.Streams.{StepIsNear};
 ghost use Rattle.vst_base.specs.declared.step.TheConstants.{MAX_STEPS};
 ghost use Rattle.vst_base.specs.declared.step.Step.{Step};
@@ -14,11 +14,12 @@ ghost use Rattle.schedule_replay.specs.Replaying.{why_of};
 
 use crate::halt::Halt;
 use app_text::AppText;
+use net_semantics::StepFault;
 use outside::Source;
 use schedule_text::{ReadFault, Reader, Why, read_step};
 use std::alloc::{AllocError, Global};
 use vst_base::StepRefusal;
-use xform_stack::{RunFault, Runs};
+use xform_stack::Runs;
 
 // A world's refusal as a line's.
 fn why_of(refusal: StepRefusal) -> Why
@@ -48,13 +49,13 @@ pub(crate) fn take_step<R: Runs, A: AppText<Input = R::Input, Output = R::Output
     requires sound { R.sound running.old }
     requires counted { (R.progress running.old).taken ≤ reader.old.events }
     ensures took { IfOk result (λ answer. (ss : List (Step R.Input)) (gone : List (Item R.Input R.Output))
-        → HasRun (R.system running.old) R.follows R.progress ss gone running.old
-        → TookStep (R.system running.old) R.follows R.progress A.input_of running.new ss gone reader.old reader.new (S.left source.old)
+        → HasRun (R.played running.old) R.follows R.progress ss gone running.old
+        → TookStep (R.played running.old) R.follows R.progress A.input_of running.new ss gone reader.old reader.new (S.left source.old)
         (S.left source.new) answer) }
     ensures near { (rest : List ℕ) → HasRest reader.old (S.left source.old) rest
         → StepIsNear A.input_of reader.old (S.left source.new) rest }
     ensures unread { tells_next reader.old.ahead ≡ true → source.new ≡ source.old }
-    ensures system { R.system running.new ≡ R.system running.old }
+    ensures played { R.played running.new ≡ R.played running.old }
     ensures taken { result ≡ Ok None → (R.progress running.new).taken ≡ (R.progress running.old).taken + 1 }
     ensures few { result ≡ Ok None → (R.progress running.new).taken ≤ MAX_STEPS }
     ensures grows { result ≡ Ok None → GrowsBy (length (R.progress running.old).trace) (length (R.progress running.new).trace) }
@@ -73,8 +74,8 @@ pub(crate) fn take_step<R: Runs, A: AppText<Input = R::Input, Output = R::Output
     match read_step::<A, S>(alloc, reader, source) {
         Ok(step) => match running.step(&step) {
             Ok(()) => Ok(None),
-            Err(RunFault::Memory) => Err(AllocError),
-            Err(RunFault::Step(why, _)) => Ok(Some(Halt::Refused(reader.number(), why_of(why)))),
+            Err(StepFault::Memory) => Err(AllocError),
+            Err(StepFault::Refused(why)) => Ok(Some(Halt::Refused(reader.number(), why_of(why)))),
         },
         Err(ReadFault::End) => Ok(Some(Halt::End)),
         Err(ReadFault::Read) => Ok(Some(Halt::Read)),

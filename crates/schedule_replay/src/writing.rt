@@ -2,7 +2,7 @@ ghost use Rattle.std.specs.Prelude.{◌≡◌, ◌≤◌, ◌⊎◌, length, IfE
 ghost use Rattle.outside.specs.Wholes.{GainedPrefix};
 ghost use Rattle.schedule_text.specs.Printing.{trace_text};
 ghost use Rattle.schedule_text.specs.Sending.{HasWriteCause};
-ghost use Rattle.stacks.specs.Stack.{texts_of};
+ghost use Rattle.stacks.specs.Plays.{texts_of};
 ghost use Rattle.schedule_replay.specs.Playing.{Waits, Writes};
 ghost use Rattle.schedule_replay.specs.Tallying.{HasRoom};
 
@@ -23,7 +23,7 @@ pub(crate) fn write_trace<R: Runs, A: AppText<Input = R::Input, Output = R::Outp
     requires { HasRoom tally.old (length (R.progress running.old).trace) }
     ensures ok { OnOk result (Writes R.follows R.progress (texts_of A.input_of A.input_text A.output_of A.output_text A.replies)
         running.old running.new tally.old tally.new (K.written sink.old) (K.written sink.new)) }
-    ensures system { OnOk result (R.system running.new ≡ R.system running.old) }
+    ensures played { OnOk result (R.played running.new ≡ R.played running.old) }
     ensures sound { OnOk result (R.sound running.old → R.sound running.new) }
     ensures err { OnErr result (GainedPrefix (K.written sink.old) (K.written sink.new)
         (trace_text A.input_text A.output_text (R.progress running.old).trace)) }
@@ -57,7 +57,7 @@ pub(crate) fn write_before_reading<
         ⊎ Writes R.follows R.progress (texts_of A.input_of A.input_text A.output_of A.output_text A.replies)
         running.old running.new tally.old tally.new (K.written sink.old) (K.written sink.new)) }
     ensures few { length reader.now.ahead ≤ 4096 }
-    ensures system { OnOk result (R.system running.new ≡ R.system running.old) }
+    ensures played { OnOk result (R.played running.new ≡ R.played running.old) }
     ensures sound { OnOk result (R.sound running.old → R.sound running.new) }
     ensures err { OnErr result (GainedPrefix (K.written sink.old) (K.written sink.new)
         (trace_text A.input_text A.output_text (R.progress running.old).trace)) }

@@ -11,15 +11,13 @@ use Rattle.vst_base.specs.declared.step.Step.TheVariants as step
 use Rattle.vst_base.specs.declared.step.StepKind.{StepKind}
 use Rattle.vst_base.specs.declared.step.StepKind.TheVariants as kind
 use Rattle.line_reader.specs.declared.why.Why.{Why}
-use Rattle.line_reader.specs.Cuts.{cut_at}
-use Rattle.line_reader.specs.Lines.{lines_of}
+use Rattle.line_reader.specs.Lines.{cut_at, lines_of}
 use Rattle.line_reader.proofs.Cutting.{none-from, none-append}
 use Rattle.line_reader.proofs.Lining.{lines-line}
 use Rattle.line_reader.proofs.Taking.{allows}
 use Rattle.schedule_text.specs.declared.line.Line.TheVariants as line
-use Rattle.schedule_text.specs.Lines.{is_skipped}
+use Rattle.schedule_text.specs.Reading.{is_skipped, line_of, line_says, step_or_refusal}
 use Rattle.schedule_text.specs.Words.{word_of, is_digit}
-use Rattle.schedule_text.specs.Reading.{line_of, line_says, step_or_refusal}
 use Rattle.schedule_text.specs.Printing.{numbered, step_text, steps_text}
 use Rattle.schedule_text.specs.Schedules.{script, with_step}
 use Rattle.schedule_text.specs.Spellable.{IsSpellable, AreSpellable, numbered_steps}

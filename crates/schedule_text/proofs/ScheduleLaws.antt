@@ -4,13 +4,12 @@ use Rattle.std.proofs.Common.{ap, ◌∙◌, sym, arith, add-zero}
 use Rattle.vst_base.specs.Firsts.{first_of}
 use Rattle.vst_base.specs.declared.step.Step.{Step}
 use Rattle.line_reader.specs.declared.why.Why.{Why}
-use Rattle.line_reader.specs.Limits.{line_refusals}
+use Rattle.line_reader.specs.Whys.{line_refusals}
 use Rattle.schedule_text.specs.declared.header.Header.{Header}
 use Rattle.schedule_text.specs.declared.line.Line.{Line}
 use Rattle.schedule_text.specs.declared.line.Line.TheVariants.{Skipped, IsStep, Refused}
-use Rattle.schedule_text.specs.Lines.{is_skipped}
+use Rattle.schedule_text.specs.Reading.{is_skipped, read_line, line_says, line_unless}
 use Rattle.schedule_text.specs.Headers.{header_of}
-use Rattle.schedule_text.specs.Reading.{read_line, line_says, line_unless}
 use Rattle.schedule_text.specs.Schedules.{Opening, Opened, RefusedAt, EndedAt, opened, opening_unless, opening, Script, refused_script, script_line, no_steps, with_step, script}
 
 -- the first line by its refusal, and by whether it is skipped

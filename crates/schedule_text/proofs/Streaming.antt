@@ -11,7 +11,7 @@ use Rattle.line_reader.specs.declared.why.Why.TheVariants as why
 use Rattle.line_reader.specs.declared.read_fault.ReadFault.{ReadFault}
 use Rattle.line_reader.specs.declared.read_fault.ReadFault.TheVariants as fault
 use Rattle.line_reader.specs.Lines.{lines_of}
-use Rattle.line_reader.specs.Limits.{line_refusals}
+use Rattle.line_reader.specs.Whys.{line_refusals}
 use Rattle.line_reader.specs.Readers.{ReaderView, HasRest}
 use Rattle.line_reader.specs.Outcomes.{LineIsNear, Uses, StandsAt, ReadsLine, HasReadCause}
 use Rattle.line_reader.proofs.Using.{uses-more, stands-after, stands-at-end, breaks-after}
@@ -19,31 +19,25 @@ use Rattle.schedule_text.specs.declared.header.Header.{Header}
 use Rattle.schedule_text.specs.declared.line.Line.{Line}
 use Rattle.schedule_text.specs.declared.line.Line.TheVariants as line
 use Rattle.schedule_text.specs.declared.said.Said.{Said}
-use Rattle.schedule_text.specs.Lines.{is_skipped, is_told}
+use Rattle.schedule_text.specs.declared.text_faults.TextFault.{TextFault}
+use Rattle.schedule_text.specs.declared.text_faults.TextFault.TheVariants as text
+use Rattle.schedule_text.specs.Reading.{is_skipped, is_told, and_then, line_of, line_says, said_of, step_of, step_or_refusal, step_said}
 use Rattle.schedule_text.specs.Headers.{header_of}
-use Rattle.schedule_text.specs.Reading.{and_then, line_of, line_says, said_of, step_of, step_or_refusal, step_said}
 use Rattle.schedule_text.specs.Schedules.{EndedAt, Opened, opened, opening, opening_refusal, script, script_line, no_steps, with_step, refused_script}
-use Rattle.schedule_text.specs.Streams.{HeaderIsNear, ReadsHeader, ReadsStep, StepIsNear, header_fault}
+use Rattle.schedule_text.specs.Streams.{HasHeaderCause, HeaderIsNear, ReadsHeader, ReadsStep, StepIsNear, text_fault}
 use Rattle.schedule_text.proofs.ScheduleLaws.{opening-front, opening-skips, opening-reads, opening-refuses, script-front, line-refused, line-said, script-by}
 use Rattle.schedule_text.proofs.Skipping.{Skipped, goes-on, near-after, skipped-more, of-rest, of-part}
 
 -- the cause of a header's fault is that of the line's
-pub header-cause : (old : ReaderView) (n f f' : ℕ) (found : ReadFault) → HasReadCause old f f' found → HasReadCause old f f' (header_fault n found)
+pub header-cause : (old : ReaderView) (n f f' : ℕ) (found : ReadFault) → HasReadCause old f f' found → HasHeaderCause old f f' (text_fault n found)
 header-cause old n f f' fault.Read cause = cause
 header-cause old n f f' fault.End cause = tt
 header-cause old n f f' fault.Memory cause = tt
 header-cause old n f f' (fault.Refused m w) cause = tt
 
--- it is never the end
-pub header-no-end : (n : ℕ) (found : ReadFault) → ◌≡◌ {A = ReadFault} (header_fault n found) fault.End → ⊥
-header-no-end n fault.Read e = cc
-header-no-end n fault.End e = cc
-header-no-end n fault.Memory e = cc
-header-no-end n (fault.Refused m w) e = cc
-
 -- it is a failed read where the line's is
-pub header-other : (n : ℕ) (found : ReadFault) → (◌≡◌ {A = ReadFault} (header_fault n found) fault.Read → ⊥) → ◌≡◌ {A = ReadFault} found fault.Read → ⊥
-header-other n found other is = other (ap (header_fault n) is)
+pub header-other : (n : ℕ) (found : ReadFault) → (◌≡◌ {A = TextFault} (text_fault n found) text.Read → ⊥) → ◌≡◌ {A = ReadFault} found fault.Read → ⊥
+header-other n found other is = other (ap (text_fault n) is)
 
 -- a cause that was there before the last line is there still
 pub cause-before : (old mid : ReaderView) (f0 f f' : ℕ) (why : ReadFault) → (old.ended ≡ true → mid.ended ≡ true) → f0 ≤ f → HasReadCause mid f f' why → HasReadCause old f0 f' why
@@ -78,7 +72,7 @@ module _ (old mid new : ReaderView) (left left' : Option (List ℕ)) (rest : Lis
 
   module _ (s : Skipped (opening old.most) old mid left rest) where
     pub header-failed : (A : Type 0) (found : ReadFault) (f f' : ℕ) → new.number ≡ mid.number → HasReadCause mid f f' found → ReadsLine {A = A} mid new left' s.uses.rest' (Err found)
-        → ReadsHeader old new left' rest (Err (header_fault (new.number + 1) found))
+        → ReadsHeader old new left' rest (Err (text_fault (new.number + 1) found))
     header-failed A fault.End f f' still cause (ends, none) =
         let there = ap (λ n. n + 1) still in (
           stands-at-end old mid new left left' rest s.used s.uses (new.number + 1) none ends.left there,
@@ -123,7 +117,7 @@ module _ (old mid new : ReaderView) (left left' : Option (List ℕ)) (rest : Lis
             ∙ (ap (λ o. opened o (mid.number + 1) []) (sym is) ∙ ap (λ k. Opened h (k + 1) []) (sym there)))),
       )
 
-      pub header-missing : is_skipped new.line ≡ false → None ≡ header_of new.line → ReadsHeader old new left' rest (Err (fault.Refused new.number why.Header))
+      pub header-missing : is_skipped new.line ≡ false → None ≡ header_of new.line → ReadsHeader old new left' rest (Err (text.Refused new.number why.Header))
       header-missing read is = (
         header-stands,
         ap opening_refusal (of-rest (opening old.most) old mid left rest s ∙ (ap (opening old.most (mid.number + 1)) first

@@ -1,5 +1,5 @@
--- What a line of a schedule after its header says, and why it may be refused.
-use Rattle.std.specs.Prelude.{ℕ, nat_le, List, Option, Some, None, ok_or, Result, Ok, Err, if◌then◌else◌}
+-- What a line of a schedule after its header says, if anything, and why it may be refused.
+use Rattle.std.specs.Prelude.{ℕ, nat_le, List, Option, Some, None, ok_or, Result, Ok, Err, if◌then◌else◌, Bool, true, false, not, ◌==◌, [], ◌∷◌}
 use Rattle.std.specs.Result.{result_ok}
 use Rattle.vst_base.specs.Firsts.{first_of}
 use Rattle.vst_base.specs.declared.step.Step.{Step}
@@ -13,10 +13,23 @@ use Rattle.schedule_text.specs.declared.line_word.LineWord.{LineWord}
 use Rattle.schedule_text.specs.declared.line_word.LineWord.TheVariants as word
 use Rattle.schedule_text.specs.declared.said.Said.{Said}
 use Rattle.schedule_text.specs.declared.said.Said.TheVariants as said
-use Rattle.line_reader.specs.Limits.{line_refusals}
-use Rattle.schedule_text.specs.Lines.{is_skipped}
+use Rattle.line_reader.specs.Whys.{line_refusals}
 use Rattle.schedule_text.specs.Words.{cut, number_up_to, word_named}
 use Rattle.vst_base.specs.declared.step.TheConstants.{MAX_STEPS}
+use Rattle.line_reader.specs.Lines.{cut_at}
+
+-- an empty line and one that begins with # are skipped
+abbrev pub is_skipped : List ℕ → Bool
+is_skipped [] = true
+is_skipped (b ∷ bs) = b == 35
+
+-- a first line that a newline ends stands before the rest, and is not skipped
+abbrev pub is_told : Option (List ℕ × List ℕ) → Bool
+is_told None = false
+is_told (Some p) = not (is_skipped p.0)
+
+abbrev pub tells_next : List ℕ → Bool
+tells_next bs = is_told (cut_at 10 bs)
 
 -- the numbers of nodes and packets
 abbrev pub number_of : List ℕ → Option ℕ

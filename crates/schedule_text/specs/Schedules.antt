@@ -4,13 +4,12 @@ use Rattle.vst_base.specs.Firsts.{first_of}
 use Rattle.vst_base.specs.declared.step.Step.{Step}
 use Rattle.line_reader.specs.declared.why.Why.{Why}
 use Rattle.line_reader.specs.declared.why.Why.TheVariants as why
-use Rattle.schedule_text.specs.Lines.{is_skipped}
+use Rattle.schedule_text.specs.Reading.{is_skipped, read_line}
 use Rattle.schedule_text.specs.declared.header.Header.{Header}
 use Rattle.schedule_text.specs.declared.line.Line.{Line}
 use Rattle.schedule_text.specs.declared.line.Line.TheVariants.{Skipped, IsStep, Refused}
 use Rattle.schedule_text.specs.Headers.{header_of}
-use Rattle.line_reader.specs.Limits.{line_refusals}
-use Rattle.schedule_text.specs.Reading.{read_line}
+use Rattle.line_reader.specs.Whys.{line_refusals}
 
 -- how a text opens: with a header, the lines after it and the number of the first of them; with a refused line; or
 -- with no line that isn't skipped, where the number is that of the line after the last

@@ -1,5 +1,5 @@
 ghost use Rattle.std.specs.Prelude.{◌≡◌, ◌≤◌, length};
-ghost use Rattle.schedule_text.specs.Lines.{tells_next};
+ghost use Rattle.schedule_text.specs.Reading.{tells_next};
 
 use line_reader::{NEWLINE, Reader};
 

@@ -2,9 +2,8 @@ ghost use Rattle.std.specs.Prelude.{◌≡◌, List, [], ◌∷◌, None, Some, 
 ghost use Rattle.app_text.specs.LockTexts.{input_of, input_text, output_text};
 ghost use Rattle.line_reader.specs.Whys.{why_text};
 ghost use Rattle.schedule_text.specs.Headers.{header_of, header_text};
-ghost use Rattle.schedule_text.specs.Lines.{tells_next};
+ghost use Rattle.schedule_text.specs.Reading.{tells_next, number_of, read_line, step_of};
 ghost use Rattle.schedule_text.specs.Printing.{item_text, refusal_line, step_text, steps_text, trace_text};
-ghost use Rattle.schedule_text.specs.Reading.{number_of, read_line, step_of};
 ghost use Rattle.schedule_text.specs.Schedules.{opening, script, Opened, RefusedAt, EndedAt};
 ghost use Rattle.schedule_text.specs.Words.{word_named};
 

@@ -18,6 +18,7 @@ mod saying;
 mod sinks;
 mod skips;
 mod streams;
+mod text_faults;
 mod words;
 
 pub use ahead::is_line_ahead;
@@ -35,4 +36,5 @@ pub use reading_examples::{worked_nearness, worked_nexts, worked_openings};
 pub use sinks::{print_lines, print_step, print_text, print_trace};
 pub use skips::is_skipped;
 pub use streams::{read_header, read_step};
+pub use text_faults::{TextFault, text_fault};
 pub use words::{MAX_NUMBER, SPACE, number_of, number_up_to, word_of};

@@ -1,5 +1,5 @@
 ghost use Rattle.std.specs.Prelude.{◌≡◌};
-ghost use Rattle.schedule_text.specs.Lines.{is_skipped};
+ghost use Rattle.schedule_text.specs.Reading.{is_skipped};
 
 /// Whether a line is skipped: it is empty, or a comment, which begins with `#`.
 pub fn is_skipped(line: &[u8]) -> bool

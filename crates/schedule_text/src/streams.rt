@@ -2,34 +2,23 @@ ghost use Rattle.std.specs.Prelude.{◌≡◌, ◌≢◌, ◌+◌, ◌<◌, ◌�
 ghost use Rattle.line_reader.specs.Outcomes.{HasReadCause};
 ghost use Rattle.line_reader.specs.Readers.{HasRest};
 ghost use Rattle.schedule_text.specs.Headers.{header_of};
-ghost use Rattle.schedule_text.specs.Lines.{tells_next};
-ghost use Rattle.schedule_text.specs.Reading.{step_of};
-ghost use Rattle.schedule_text.specs.Streams.{HeaderIsNear, ReadsHeader, ReadsStep, StepIsNear, header_fault};
+ghost use Rattle.schedule_text.specs.Reading.{tells_next, step_of};
+ghost use Rattle.schedule_text.specs.Streams.{HasHeaderCause, HeaderIsNear, ReadsHeader, ReadsStep, StepIsNear};
 ghost use Rattle.vst_base.specs.declared.step.TheConstants.{MAX_STEPS};
 
 use crate::headers::header_of;
 use crate::reading::line_says;
 use crate::skips::is_skipped;
-use crate::{Header, Line};
+use crate::{Header, Line, TextFault, text_fault};
 use app_text::AppText;
 use line_reader::{ReadFault, Reader, Why, next_line};
 use outside::Source;
 use std::alloc::Global;
 use vst_base::Step;
 
-// Why there is no header, where no further line was read.
-fn header_fault(reader: &Reader, fault: ReadFault) -> ReadFault
-    ensures { result ≡ header_fault (reader.now.number + 1) fault }
-{
-    match fault {
-        ReadFault::End => reader.refuse_next(Why::Header),
-        _ => fault,
-    }
-}
-
-/// Reads the header: the first line that is not skipped. A text without one is refused at the line after its last, so
-/// `End` never comes. Whatever comes, at most 4,096 bytes were read past lines that are skipped.
-pub fn read_header<S: Source>(reader: &mut Reader, source: &mut S) -> Result<Header, ReadFault>
+/// Reads the header: the first line that is not skipped. A text without one is refused at the line after its last.
+/// Whatever comes, at most 4,096 bytes were read past lines that are skipped.
+pub fn read_header<S: Source>(reader: &mut Reader, source: &mut S) -> Result<Header, TextFault>
     ensures told { (rest : List ℕ) → HasRest reader.old (S.left source.old) rest
         → ReadsHeader reader.old reader.new (S.left source.new) rest result }
     ensures near { (rest : List ℕ) → HasRest reader.old (S.left source.old) rest
@@ -37,22 +26,24 @@ pub fn read_header<S: Source>(reader: &mut Reader, source: &mut S) -> Result<Hea
     ensures few { length reader.new.ahead ≤ 4096 }
     ensures header { IfOk result (λ h. header_of reader.new.line ≡ Some h) }
     ensures number { OnOk result ((reader.old.number < reader.new.number) × (reader.new.number ≤ reader.new.most)) }
-    ensures headed { result ≢ Err ReadFault.End }
     ensures stays { reader.old.ended ≡ true → reader.new.ended ≡ true }
     ensures kept { (reader.new.most ≡ reader.old.most) × (reader.new.events ≡ reader.old.events) }
-    ensures fault { IfErr result (HasReadCause reader.old (S.faults source.old) (S.faults source.new)) }
-    ensures quiet { result ≢ Err ReadFault.Read → S.faults source.new ≡ S.faults source.old }
+    ensures fault { IfErr result (HasHeaderCause reader.old (S.faults source.old) (S.faults source.new)) }
+    ensures quiet { result ≢ Err TextFault.Read → S.faults source.new ≡ S.faults source.old }
     ensures counts { S.faults source.old ≤ S.faults source.new }
 {
     loop {
         match next_line(reader, source) {
             Ok(()) => {}
-            Err(fault) => return Err(header_fault(reader, fault)),
+            Err(fault) => return Err(text_fault(reader, fault)),
         }
         if !is_skipped(reader.line()) {
             return match header_of(reader.line()) {
                 Some(header) => Ok(header),
-                None => Err(reader.refuse(Why::Header)),
+                None => Err(TextFault::Refused {
+                    line: reader.number(),
+                    why: Why::Header,
+                }),
             };
         }
     }

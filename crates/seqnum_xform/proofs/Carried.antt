@@ -6,8 +6,7 @@ use Rattle.vst_base.specs.declared.seq.SeqMsg.{SeqMsg}
 use Rattle.handler_trait.specs.Handling.{Effect}
 use Rattle.net_semantics.specs.Worlds.{Packet, put, change_at, one_more, one_less, sent_by}
 use Rattle.net_semantics.proofs.Places.{put-there, put-elsewhere, change_at-there, change_at-elsewhere}
-use Rattle.seqnum_xform.specs.Numbered.{Numbered, has_seen, with_seen}
-use Rattle.seqnum_xform.specs.Numbering.{numbered_from, numbered}
+use Rattle.seqnum_xform.specs.Numbering.{Numbered, has_seen, with_seen, numbered_from, numbered}
 use Rattle.seqnum_xform.proofs.SeenLaws.{seen-itself, seen-other, seen-cases}
 use Rattle.lists.specs.Places.{slice_get_either}
 

@@ -14,8 +14,7 @@ use Rattle.net_semantics.specs.Steps.{next, refusal_of}
 use Rattle.net_semantics.specs.Runs.{IsAllowed, first_refused_from, trace, trace_from, place_and_why}
 use Rattle.net_semantics.specs.RunLaws.{place_and_why-none}
 use Rattle.net_semantics.specs.Once.{is_repeat, delivered_after, once, once_from}
-use Rattle.seqnum_xform.specs.Numbered.{Numbered}
-use Rattle.seqnum_xform.specs.Numbering.{sequence_numbered}
+use Rattle.seqnum_xform.specs.Numbering.{Numbered, sequence_numbered}
 use Rattle.seqnum_xform.proofs.Steps.{Mirrors, BothTake, TakeAlone, take-in, take-tick, take-dup, find-sent, carrier, take-first, take-again}
 
 module _ {S K K' I O M : Type 0} (m : Meaning S I O M) (r' : Recovery (Numbered S) K') (r : Recovery S K) where

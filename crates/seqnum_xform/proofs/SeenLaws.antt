@@ -6,7 +6,7 @@ use Rattle.std.specs.Ordering.{nat_cmp}
 use Rattle.std.proofs.Common.{ap, ◌∙◌, eqb, inl, inr}
 use Rattle.std.proofs.lemmas.Bool.{cases_eq, eq-eqb, ne_eqb}
 use Rattle.number_set.specs.NumberSetLaws.{contains-more, contains-nothing}
-use Rattle.seqnum_xform.specs.Numbered.{Seen, has_seen, is_in, seen_of, with_seen}
+use Rattle.seqnum_xform.specs.Numbering.{Seen, has_seen, is_in, seen_of, with_seen}
 
 set-itself : (s : FinSet nat_cmp) (n : ℕ) → set.contains (set.insert s n) n ≡ true
 set-itself s n = let same : eqb n n ≡ true = eq-eqb n n refl in contains-more s n n ∙ rw same refl

@@ -5,7 +5,7 @@ use Rattle.std.specs.FinSet.{FinSet}
 use Rattle.std.specs.Ordering.{nat_cmp}
 use Rattle.std.proofs.Common.{ap, arith, get_or}
 use Rattle.std.proofs.Common.{set as put_at}
-use Rattle.seqnum_xform.specs.Numbered.{Seen, with_seen}
+use Rattle.seqnum_xform.specs.Numbering.{Seen, with_seen}
 
 -- a sender of whom nothing was seen may have a place or none
 pub with_seen-reached : (ss : Seen) (sender n : ℕ) → length ss ≤ sender → with_seen (ss ++ set.empty ∷ []) sender n ≡ with_seen ss sender n

@@ -14,8 +14,7 @@ use Rattle.net_semantics.specs.Worlds.{World, Packet, put, change_at, one_more, 
 use Rattle.net_semantics.specs.Steps.{Event, next, refusal_of, items_of, delivery, items_of_event, after_event, with_packets}
 use Rattle.net_semantics.specs.Once.{delivered_after}
 use Rattle.net_semantics.proofs.Places.{put-there, put-elsewhere}
-use Rattle.seqnum_xform.specs.Numbered.{Numbered, with_seen}
-use Rattle.seqnum_xform.specs.Numbering.{numbered, nothing, sequence_numbered}
+use Rattle.seqnum_xform.specs.Numbering.{Numbered, with_seen, numbered, nothing, sequence_numbered}
 use Rattle.seqnum_xform.proofs.Carried.{Carries, Tied, carried, more-alike, less-alike, tied-one, tied-event, tied-first}
 
 -- putting a value where it stands, or twice, or where it is known to stand

@@ -4,8 +4,7 @@ use Rattle.std.proofs.Common.{ap, arith, suc}
 use Rattle.handler_trait.specs.Handling.{Meaning, Effect, IsModest, AreSentBelow}
 use Rattle.handler_trait.specs.declared.handlers.TheConstants.{MAX_SENDS}
 use Rattle.vst_base.specs.declared.seq.SeqMsg.{SeqMsg}
-use Rattle.seqnum_xform.specs.Numbered.{Numbered, Seen, has_seen}
-use Rattle.seqnum_xform.specs.Numbering.{numbered_from, numbered, nothing, sequence_numbered, numbered_sound, numbered_spent}
+use Rattle.seqnum_xform.specs.Numbering.{Numbered, Seen, has_seen, numbered_from, numbered, nothing, sequence_numbered, numbered_sound, numbered_spent}
 
 pub length-numbered_from : {M : Type 0} (n : ℕ) (ps : List (ℕ × M)) → length (numbered_from n ps) ≡ length ps
 length-numbered_from n [] = refl

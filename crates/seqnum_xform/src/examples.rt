@@ -2,8 +2,7 @@ ghost use Rattle.std.specs.Prelude.{◌≡◌, ℕ, [], ◌∷◌, true, false, 
 ghost use Rattle.std.specs.FinSet as set;
 ghost use Rattle.handler_trait.specs.Echo.{echo};
 ghost use Rattle.net_semantics.specs.Runs.{first_refused, no_recovery, trace};
-ghost use Rattle.seqnum_xform.specs.Numbered.{Numbered, has_seen, seen_of, with_seen};
-ghost use Rattle.seqnum_xform.specs.Numbering.{numbered_from, sequence_numbered};
+ghost use Rattle.seqnum_xform.specs.Numbering.{Numbered, has_seen, seen_of, with_seen, numbered_from, sequence_numbered};
 
 use vst_base::{Item, Net, SeqMsg, Step};
 

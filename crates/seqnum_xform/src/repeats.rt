@@ -2,8 +2,7 @@ ghost use Rattle.std.specs.Prelude.{◌≡◌, List};
 ghost use Rattle.handler_trait.specs.Handling.{Meaning};
 ghost use Rattle.net_semantics.specs.Once.{once};
 ghost use Rattle.net_semantics.specs.Runs.{IsAllowed, no_recovery, trace};
-ghost use Rattle.seqnum_xform.specs.Numbered.{Numbered};
-ghost use Rattle.seqnum_xform.specs.Numbering.{sequence_numbered};
+ghost use Rattle.seqnum_xform.specs.Numbering.{Numbered, sequence_numbered};
 ghost use Rattle.vst_base.specs.declared.step.Step.{Step};
 
 use handler_trait::Handlers;

@@ -1,6 +1,6 @@
 ghost use Rattle.std.specs.Prelude.{◌≡◌, ℕ, [], ◌<◌, length, OnOk};
 ghost use Rattle.number_set.specs.Marked.{IsMarked};
-ghost use Rattle.seqnum_xform.specs.Numbered.{has_seen, seen_of, with_seen};
+ghost use Rattle.seqnum_xform.specs.Numbering.{has_seen, seen_of, with_seen};
 
 use number_set::NumberSet;
 use std::alloc::{AllocError, Global};
@@ -16,7 +16,7 @@ pub struct SeenNumbers {
 impl Model for SeenNumbers {
     ghost use Rattle.std.specs.Coded.{coded_list, coded_ℕ};
     ghost use Rattle.std.specs.FinSet as set;
-    ghost use Rattle.seqnum_xform.specs.Numbered.{Seen};
+    ghost use Rattle.seqnum_xform.specs.Numbering.{Seen};
 
     ghost Value = { Seen };
 

@@ -1,6 +1,6 @@
 ghost use Rattle.std.specs.Prelude.{◌≡◌, ◌≢◌, ℕ, true};
 ghost use Rattle.std.specs.FinSet as set;
-ghost use Rattle.seqnum_xform.specs.Numbered.{Seen, has_seen, seen_of, with_seen};
+ghost use Rattle.seqnum_xform.specs.Numbering.{Seen, has_seen, seen_of, with_seen};
 
 /// Once a number of a sender is noted, it is seen of this sender, and all others are seen as before.
 pub fn seen_is_noted()

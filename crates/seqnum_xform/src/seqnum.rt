@@ -1,8 +1,7 @@
 ghost use Rattle.std.specs.Prelude.{◌≡◌, ℕ, ◌+◌, ◌<◌, ◌≤◌, IsOk, IsTrue, OnOk};
 ghost use Rattle.handler_trait.specs.Handling.{Does};
 ghost use Rattle.handler_trait.specs.declared.handlers.TheConstants.{STEP_COST, SPENT_MAX};
-ghost use Rattle.seqnum_xform.specs.Numbered.{has_seen};
-ghost use Rattle.seqnum_xform.specs.Numbering.{numbered_sound, numbered_spent, sequence_numbered};
+ghost use Rattle.seqnum_xform.specs.Numbering.{has_seen, numbered_sound, numbered_spent, sequence_numbered};
 ghost use Rattle.seqnum_xform.specs.NumberingLaws.{fresh, modest_input, modest_message, modest_timeout};
 
 use crate::hand_on::hand_on;

@@ -1,5 +1,5 @@
 ghost use Rattle.number_set.specs.Marked.{IsMarked};
-ghost use Rattle.seqnum_xform.specs.Numbered.{seen_of};
+ghost use Rattle.seqnum_xform.specs.Numbering.{seen_of};
 
 use crate::SeenNumbers;
 use std::marker::Model;
@@ -15,7 +15,7 @@ pub struct SeqState<S> {
 }
 
 impl<S> Model for SeqState<S> {
-    ghost use Rattle.seqnum_xform.specs.Numbered.{Numbered, numbered_code};
+    ghost use Rattle.seqnum_xform.specs.Numbering.{Numbered, numbered_code};
 
     ghost Value = { Numbered S };
 

@@ -1,12 +1,20 @@
 -- Each stack of the table fits its row: the last line stands for each stack but the first, and is checked for each.
+use Rattle.std.specs.Prelude.{◌≡◌}
 use Rattle.std.proofs.Common.{rules}
+use Rattle.transformers.proofs.Carried.{numbering_is}
+use Rattle.transformers.specs.Numbering.{numbering}
 use Rattle.vst_base.specs.Stacks.{row_of}
 use Rattle.vst_base.specs.declared.stack.StackId.{StackId}
 use Rattle.vst_base.specs.declared.stack.StackId.TheVariants as stack
-use Rattle.stacks.specs.Fits.{IsFit}
-use Rattle.stacks.specs.Stack.{IfFound}
+use Rattle.stacks.specs.Fits.{IsCarriedBy, IsFit}
+use Rattle.stacks.specs.Plays.{IfFound}
+use Rattle.stacks.specs.Kinds.{Service}
 use Rattle.stacks.specs.Table.{kind_at}
 
+-- sequence numbering stands on the network that it carries handlers from, and carries all
+numbered : (s : Service) → s.net ≡ numbering.lower → IsCarriedBy numbering s
+numbered s stands = record { stands = stands; carries = numbering_is s.State s.Input s.Output s.Msg }
+
 pub fits : (i : StackId) → IfFound (kind_at (row_of i).net i) (IsFit (row_of i))
-fits stack.Lock = search rules
-fits _ = search rules
+fits stack.Lock = search (rules, numbered)
+fits _ = search (rules, numbered)

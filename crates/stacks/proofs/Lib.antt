@@ -1,4 +1,5 @@
 pub mod Found
-pub mod Starting
 pub mod Fitting
 pub mod Explaining
+pub mod Playing
+pub mod Headed

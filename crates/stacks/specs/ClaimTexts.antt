@@ -6,7 +6,7 @@ use Rattle.check_text.specs.Claims.{Claim}
 use Rattle.schedule_text.specs.Headers.{header_text}
 use Rattle.schedule_text.specs.Printing.{as_line, lines_text, trace_text}
 use Rattle.schedule_text.specs.declared.header.Header.{Header}
-use Rattle.stacks.specs.Stack.{Play}
+use Rattle.stacks.specs.Plays.{Play}
 
 abbrev pub header_lines : Option Header → List (List ℕ)
 header_lines None = []

@@ -1,19 +1,16 @@
--- That a kind of stack fits the row of a stack: its network, and its numbers of nodes.
+-- That a kind of stack fits the row of a stack: its network, its numbers of nodes, and that each transformer carries what it stands on.
 use Rattle.std.specs.Prelude.{◌≡◌, ℕ, ◌≤◌}
 use Rattle.vst_base.specs.Stacks.{row_of}
 use Rattle.vst_base.specs.declared.net.Net.{Net}
 use Rattle.vst_base.specs.declared.net.Net.TheVariants as net
 use Rattle.vst_base.specs.declared.node.TheConstants.{MAX_NODES}
 use Rattle.vst_base.specs.declared.stack.StackRow.{StackRow}
-use Rattle.stacks.specs.Kinds.{Kind, Plain, Numbered, Alone, Backed, BackedNumbered, Clustered}
+use Rattle.transformers.specs.Transformers.{Carries, Transformer}
+use Rattle.stacks.specs.Kinds.{Alone, Backed, Clustered, Itself, Kind, Layers, Own, Service, Steady, Through, service}
 
 -- the network that schedules of a kind of stack run on
 abbrev pub net_of : Kind → Net
-net_of (Plain h) = (row_of h.own).net
-net_of (Numbered h) = net.Dup
-net_of (Alone p) = net.One
-net_of (Backed p) = net.Bag
-net_of (BackedNumbered p) = net.Dup
+net_of (Steady l) = (service l).net
 net_of (Clustered p) = net.Fail
 
 -- a stack has so many nodes, no fewer and no more
@@ -21,27 +18,43 @@ pub record HasNodes (row : StackRow) (few many : ℕ) : Type 0 where
   pub least : row.least ≡ few
   pub most : row.most ≡ many
 
--- with numbered packets handlers run on as many nodes as by themselves, which they do on a bag
-pub record IsNumbered (row own : StackRow) : Type 0 where
-  pub nodes : HasNodes row own.least own.most
-  pub bag : own.net ≡ net.Bag
-
 -- so many nodes of a stack whose image is a schedule at one node
 pub record IsOfOne (row own : StackRow) (n : ℕ) : Type 0 where
   pub nodes : HasNodes row n n
   pub image : HasNodes own 1 1
 
--- handlers run on as many nodes as by themselves, a machine on one node, on a primary and its backup, or on a cluster of any size
-abbrev pub HasItsNodes : StackRow → Kind → Type 0
-HasItsNodes row (Plain h) = HasNodes row (row_of h.own).least (row_of h.own).most
-HasItsNodes row (Numbered h) = IsNumbered row (row_of h.own)
+-- handlers run on as many nodes as by themselves, a machine on one node, or on a primary and its backup, with transformers on as many as
+-- without; and layers whose image is their own schedule on as many as the stack of that schedule
+abbrev pub HasItsNodes : StackRow → Layers → Type 0
+HasItsNodes row (Own h) = HasNodes row (row_of h.own).least (row_of h.own).most
 HasItsNodes row (Alone p) = IsOfOne row (row_of p.own) 1
 HasItsNodes row (Backed p) = IsOfOne row (row_of p.own) 2
-HasItsNodes row (BackedNumbered p) = IsOfOne row (row_of p.own) 2
-HasItsNodes row (Clustered p) = HasNodes row 1 MAX_NODES
+HasItsNodes row (Through t l) = HasItsNodes row l
+HasItsNodes row (Itself i l) = HasNodes row (row_of i).least (row_of i).most × HasItsNodes row l
+
+-- a transformer stands on the network that it carries handlers from, and carries these
+pub record IsCarriedBy (t : Transformer) (s : Service) : Type 0 where
+  pub stands : s.net ≡ t.lower
+  pub carries : Carries t s.State s.Input s.Output s.Msg
+
+abbrev pub AreCarried : Layers → Type 0
+AreCarried (Own h) = Unit {0}
+AreCarried (Alone p) = Unit {0}
+AreCarried (Backed p) = Unit {0}
+AreCarried (Through t l) = IsCarriedBy t (service l) × AreCarried l
+AreCarried (Itself i l) = ((row_of i).net ≡ (service l).net) × AreCarried l
+
+-- what a row asks of layers, and of a cluster, which has any size
+pub record AreLayersOf (row : StackRow) (l : Layers) : Type 0 where
+  pub nodes : HasItsNodes row l
+  pub carried : AreCarried l
+
+abbrev pub IsOfItsNodes : StackRow → Kind → Type 0
+IsOfItsNodes row (Steady l) = AreLayersOf row l
+IsOfItsNodes row (Clustered p) = HasNodes row 1 MAX_NODES
 
 pub record IsFit (row : StackRow) (k : Kind) : Type 0 where
   pub net : row.net ≡ net_of k
   pub some : 1 ≤ row.least
   pub few : row.most ≤ MAX_NODES
-  pub nodes : HasItsNodes row k
+  pub nodes : IsOfItsNodes row k

@@ -1,7 +1,11 @@
-pub mod Stack
+pub mod Plays
 pub mod ClaimTexts
 pub mod Kinds
 pub mod Fits
 pub mod Explained
 pub mod Table
+pub mod Claimed
+pub mod Made
+pub mod Stack
 pub mod Checks
+pub mod Examples

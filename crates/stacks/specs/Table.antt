@@ -1,6 +1,5 @@
 -- The stacks' table.
 use Rattle.std.specs.Prelude.{true}
-use Rattle.vst_base.specs.Stacks.{row_of}
 use Rattle.vst_base.specs.declared.lock.LockInput.{LockInput}
 use Rattle.vst_base.specs.declared.lock.LockOutput.{LockOutput}
 use Rattle.vst_base.specs.declared.net.Net.{Net}
@@ -18,8 +17,10 @@ use Rattle.lock_table.specs.Table.{table}
 use Rattle.lock_table.specs.declared.cmd.TableCmd.{TableCmd}
 use Rattle.lock_table.specs.declared.out.TableOut.{TableOut}
 use Rattle.schedule_make.specs.Inputs.{kv_input, lock_input, table_input}
-use Rattle.stacks.specs.Kinds.{Application, Kind, OwnHandlers, Plain, Numbered, Alone, Backed, BackedNumbered, Clustered, application, of_kind, own_handlers}
-use Rattle.stacks.specs.Stack.{Entry, Found, Here, Nowhere, Texts, found_map, texts_of}
+use Rattle.schedule_text.specs.declared.header.Header.{Header}
+use Rattle.transformers.specs.Numbering.{numbering}
+use Rattle.stacks.specs.Plays.{Found, Here, Nowhere, found_map, AnyPlay, Texts, texts_of}
+use Rattle.stacks.specs.Kinds.{Alone, Application, Backed, Clustered, Kind, Own, OwnHandlers, Steady, Through, application, own_handlers, plays}
 
 abbrev pub lock_texts : Texts LockInput LockOutput
 lock_texts = texts_of lock_text.input_of lock_text.input_text lock_text.output_of lock_text.output_text (λ _. true)
@@ -42,20 +43,17 @@ lock_table = application stack.Table table table_texts table_input
 
 -- the kind of stack that a network and a name are, if there is one: one line a stack
 abbrev pub kind_at : Net → StackId → Found Kind
-kind_at net.Bag stack.Lock = Here (Plain locks)
-kind_at net.Dup stack.LockSeq = Here (Numbered locks)
-kind_at net.One stack.Kv = Here (Alone store)
-kind_at net.Bag stack.KvPb = Here (Backed store)
-kind_at net.Dup stack.KvPbSeq = Here (BackedNumbered store)
+kind_at net.Bag stack.Lock = Here (Steady (Own locks))
+kind_at net.Dup stack.LockSeq = Here (Steady (Through numbering (Own locks)))
+kind_at net.One stack.Kv = Here (Steady (Alone store))
+kind_at net.Bag stack.KvPb = Here (Steady (Backed store))
+kind_at net.Dup stack.KvPbSeq = Here (Steady (Through numbering (Backed store)))
 kind_at net.Fail stack.KvRaft = Here (Clustered store)
-kind_at net.One stack.Table = Here (Alone lock_table)
-kind_at net.Dup stack.TablePbSeq = Here (BackedNumbered lock_table)
+kind_at net.One stack.Table = Here (Steady (Alone lock_table))
+kind_at net.Dup stack.TablePbSeq = Here (Steady (Through numbering (Backed lock_table)))
 kind_at net.Fail stack.TableRaft = Here (Clustered lock_table)
 kind_at n i = Nowhere
 
--- that stack, with its row
-abbrev pub entry : StackId → Kind → Entry
-entry i k = record { row = row_of i; of = of_kind k }
-
-abbrev pub stack_at : Net → StackId → Found Entry
-stack_at n i = found_map (entry i) (kind_at n i)
+-- how the schedules with a header play
+abbrev pub plays_at : Header → Found AnyPlay
+plays_at h = found_map (λ k. plays k h.nodes) (kind_at h.net h.stack)

@@ -1,15 +1,24 @@
-//! The stacks' table: of each stack its network, its run, its texts, its image, the verdict on a claim and what explains one;
-//! and the one place that goes from a header to the code of its stack.
+//! The stacks' table: of each stack its network, its run, its texts, its image, the verdict on a claim and what explains one, as an
+//! application and the transformers over it; and the one place that goes from a header to the code of its stack.
 #![tactic(auto)]
 
+mod clustered;
 mod code;
+mod examples;
 mod laws;
+mod layered;
 mod machine;
 mod own;
+mod rows;
+mod steady;
 mod table;
 
-pub use code::{OnStack, StackCode};
+pub use clustered::Clustered;
+pub use code::{Judged, OnStack, Plays, StackCode};
+pub use examples::worked_layers;
 pub use laws::{headers_have_stacks, machine_takes_images, stacks_explain, stacks_fit_their_rows};
-pub use machine::{Alone, Application, Backed, BackedNumbered, Clustered};
-pub use own::{Numbered, OwnStack, Plain};
+pub use layered::{Layered, Numbered};
+pub use machine::{Alone, Application, Backed};
+pub use own::{Own, OwnStack};
+pub use steady::Steady;
 pub use table::on_stack;

@@ -1,28 +1,26 @@
-ghost use Rattle.std.specs.Prelude.{◌≡◌, ◌≤◌, ◌+◌, IfOk, length};
-ghost use Rattle.raft_types.specs.Ranges.{IsClusterSize};
-ghost use Rattle.linearizability.specs.Linearizable.{IsLinearizable};
-ghost use Rattle.stacks.specs.Kinds.{IsMachineAlone, IsOneMachine, backed, backed_numbered, by_itself, clustered, header_on};
-ghost use Rattle.stacks.specs.Stack.{texts_of};
+ghost use Rattle.std.specs.Prelude.{◌≡◌, ◌≤◌, ◌+◌, IfOk, length, refl};
+ghost use Rattle.stacks.specs.Claimed.{layers_claimed};
+ghost use Rattle.stacks.specs.Explained.{alone_play};
+ghost use Rattle.stacks.specs.Kinds.{Alone, Backed, IsMachineAlone, IsOneMachine, application, header_on, schedule_below};
+ghost use Rattle.stacks.specs.Made.{layers_made};
+ghost use Rattle.stacks.specs.Plays.{texts_of};
+ghost use Rattle.vst_base.specs.declared.net.Net.TheVariants as net;
 ghost use Rattle.vst_base.specs.declared.stack.StackId.{StackId as SpecId};
 
-use crate::StackCode;
 use crate::own::header_on;
+use crate::{Judged, Layered, Plays, StackCode};
 use app_text::{MachineText, PbText};
-use check_text::{Claim, Orders, Steps};
-use claim_verdicts::{Verdict, backup_verdict, cluster_verdict, schedule_verdict};
+use check_text::{Claim, Steps};
+use claim_verdicts::{Verdict, backup_verdict, schedule_verdict};
 use primary_backup::PrimaryBackup;
-use raft_text::RaftText;
-use raft_types::{RaftInput, RaftOut};
-use runs_in_bytes::{
-    BackedCommands, BackedNumberedCommands, ClusterInBytes, ClusteredCommands, RunningInBytes,
-};
-use schedule_make::{ByClients, MakesInputs};
+use schedule_make::MakesInputs;
 use schedule_text::Header;
-use single_node::SingleNode;
 use std::alloc::{AllocError, Global};
 use std::marker::PhantomData;
+use trace_maps::SingleNode;
 use vst_base::{Machine, Net, PbOut, StackId, Step};
-use xform_stack::{Itself, RepliedTo, Running, SeqNum};
+use wired::AlwaysFits;
+use xform_stack::{Itself, Mapped, RepliedTo, Running, SteadyWorld};
 
 /// A machine with its texts, which alone is a stack.
 pub trait Application: Machine {
@@ -64,17 +62,7 @@ pub struct Backed<M> {
     machine: PhantomData<M>,
 }
 
-/// The same with numbered packets, on a network that copies packets.
-pub struct BackedNumbered<M> {
-    machine: PhantomData<M>,
-}
-
-/// A machine on a Raft cluster: the image is the order in which one machine takes the requests.
-pub struct Clustered<M> {
-    machine: PhantomData<M>,
-}
-
-impl<M: Application> StackCode for Alone<M> {
+impl<M: Application> Plays for Alone<M> {
     type Input = M::Cmd;
 
     type Output = M::Out;
@@ -83,26 +71,30 @@ impl<M: Application> StackCode for Alone<M> {
 
     type Text = M::Text;
 
-    type Lines = Steps<M::Text>;
+    type Running = Running<SingleNode<M>, SteadyWorld<SingleNode<M>>, Mapped<Itself<M::Cmd>>>;
 
-    type Inputs = M::Inputs;
-
-    type Running = Running<SingleNode<M>, Itself<M::Cmd>>;
-
-    ghost stack = { λ _. (by_itself M.own (M.meaning M.machine)
-        (texts_of M.Text.input_of M.Text.input_text M.Text.output_of M.Text.output_text M.Text.replies) M.Inputs.inputs).stack };
+    ghost play = { λ _. alone_play (application M.own (M.meaning M.machine)
+        (texts_of M.Text.input_of M.Text.input_text M.Text.output_of M.Text.output_text M.Text.replies) M.Inputs.inputs) };
 
     ghost Explains = { IsMachineAlone (M.meaning M.machine) };
 
-    ghost ready = { λ _. Unit {0} };
+    ghost ready = { λ _ _. Unit {0} };
 
     fn below(_nodes: u8) -> Option<Header> {
         Some(alone_header::<M>())
     }
 
-    fn start(alloc: Global, _nodes: u8) -> Result<Self::Running, AllocError> {
-        Running::new(alloc, SingleNode::new(M::machine()), Net::One)
+    fn start(alloc: Global, _stack: StackId, _nodes: u8) -> Result<Self::Running, AllocError> {
+        let network = SteadyWorld::new(alloc, SingleNode::new(M::machine()), Net::One)?;
+        Ok(Running::new(alloc, network))
     }
+}
+
+impl<M: Application> Judged for Alone<M> {
+    type Lines = Steps<M::Text>;
+
+    ghost claimed = { layers_claimed (Alone (application M.own (M.meaning M.machine)
+        (texts_of M.Text.input_of M.Text.input_text M.Text.output_of M.Text.output_text M.Text.replies) M.Inputs.inputs)) };
 
     fn verdict(
         alloc: Global,
@@ -112,15 +104,34 @@ impl<M: Application> StackCode for Alone<M> {
         let node = SingleNode::new(M::machine());
         schedule_verdict::<SingleNode<M>, M::Text>(alloc, node, Net::One, claim)
     }
+
+    ghost says = { refl };
 }
 
-impl<M: Application> StackCode for Backed<M>
+impl<M: Application> StackCode for Alone<M> {
+    type Handlers = SingleNode<M>;
+
+    type Network = SteadyWorld<SingleNode<M>>;
+
+    type Inputs = M::Inputs;
+
+    ghost made = { layers_made (Alone (application M.own (M.meaning M.machine)
+        (texts_of M.Text.input_of M.Text.input_text M.Text.output_of M.Text.output_text M.Text.replies) M.Inputs.inputs)) };
+
+    fn network(alloc: Global, _stack: StackId, _nodes: u8) -> Result<Self::Network, AllocError> {
+        SteadyWorld::new(alloc, SingleNode::new(M::machine()), Net::One)
+    }
+}
+
+impl<M: Application> Layered for Backed<M>
 where
-    M::Cmd: BackedCommands,
+    M::Cmd: AlwaysFits,
 {
     type Input = M::Cmd;
 
     type Output = PbOut<M::Out>;
+
+    type Handlers = PrimaryBackup<M>;
 
     type Line = Step<M::Cmd>;
 
@@ -128,23 +139,34 @@ where
 
     type Lines = Steps<PbText<M::Text>>;
 
+    type Map = RepliedTo<M::Cmd>;
+
     type Inputs = M::Inputs;
 
-    type Running = RunningInBytes<PrimaryBackup<M>, RepliedTo<M::Cmd>>;
+    ghost net = { net.Bag };
 
-    ghost stack = { λ _. (backed M.own (M.meaning M.machine) (texts_of M.Text.input_of M.Text.input_text M.Text.output_of
-        M.Text.output_text M.Text.replies) M.Inputs.inputs).stack };
+    ghost handlers = { λ _. M.machine };
+
+    ghost below = { λ _. schedule_below (header_on M.own 1)
+        (texts_of M.Text.input_of M.Text.input_text M.Text.output_of M.Text.output_text M.Text.replies) };
 
     ghost Explains = { IsOneMachine (M.meaning M.machine) };
 
+    ghost claimed = { layers_claimed (Backed (application M.own (M.meaning M.machine)
+        (texts_of M.Text.input_of M.Text.input_text M.Text.output_of M.Text.output_text M.Text.replies) M.Inputs.inputs)) };
+
     ghost ready = { λ _. Unit {0} };
+
+    fn net() -> Net {
+        Net::Bag
+    }
+
+    fn handlers(_nodes: u8) -> PrimaryBackup<M> {
+        PrimaryBackup::new(M::machine())
+    }
 
     fn below(_nodes: u8) -> Option<Header> {
         Some(alone_header::<M>())
-    }
-
-    fn start(alloc: Global, _nodes: u8) -> Result<Self::Running, AllocError> {
-        RunningInBytes::new(alloc, PrimaryBackup::new(M::machine()), Net::Bag)
     }
 
     fn verdict(
@@ -154,89 +176,6 @@ where
     ) -> Result<Verdict, AllocError> {
         backup_verdict::<M, M::Text>(alloc, M::machine(), claim)
     }
-}
 
-impl<M: Application> StackCode for BackedNumbered<M>
-where
-    M::Cmd: BackedNumberedCommands,
-{
-    type Input = M::Cmd;
-
-    type Output = PbOut<M::Out>;
-
-    type Line = Step<M::Cmd>;
-
-    type Text = PbText<M::Text>;
-
-    type Lines = Steps<PbText<M::Text>>;
-
-    type Inputs = M::Inputs;
-
-    type Running = RunningInBytes<SeqNum<PrimaryBackup<M>>, RepliedTo<M::Cmd>>;
-
-    ghost stack = { λ _. (backed_numbered M.own (M.meaning M.machine)
-        (texts_of M.Text.input_of M.Text.input_text M.Text.output_of M.Text.output_text M.Text.replies) M.Inputs.inputs).stack };
-
-    ghost Explains = { IsOneMachine (M.meaning M.machine) };
-
-    ghost ready = { λ _. Unit {0} };
-
-    fn below(_nodes: u8) -> Option<Header> {
-        Some(alone_header::<M>())
-    }
-
-    fn start(alloc: Global, _nodes: u8) -> Result<Self::Running, AllocError> {
-        let handlers = SeqNum::new(PrimaryBackup::new(M::machine()));
-        RunningInBytes::new(alloc, handlers, Net::Dup)
-    }
-
-    fn verdict(
-        alloc: Global,
-        _nodes: u8,
-        claim: &Claim<M::Cmd, PbOut<M::Out>, Step<M::Cmd>>,
-    ) -> Result<Verdict, AllocError> {
-        backup_verdict::<M, M::Text>(alloc, M::machine(), claim)
-    }
-}
-
-impl<M: Application> StackCode for Clustered<M>
-where
-    M::Cmd: ClusteredCommands,
-{
-    type Input = RaftInput<M::Cmd>;
-
-    type Output = RaftOut<M::Out>;
-
-    type Line = RaftInput<M::Cmd>;
-
-    type Text = RaftText<M::Text>;
-
-    type Lines = Orders<RaftText<M::Text>>;
-
-    type Inputs = ByClients<M::Inputs>;
-
-    type Running = ClusterInBytes<M>;
-
-    ghost stack = { λ n. (clustered (M.meaning M.machine) (texts_of M.Text.input_of M.Text.input_text M.Text.output_of M.Text.output_text
-        M.Text.replies) M.Inputs.inputs n).stack };
-
-    ghost Explains = { λ c. IsLinearizable (M.meaning M.machine) c.image c.trace };
-
-    ghost ready = { IsClusterSize };
-
-    fn below(_nodes: u8) -> Option<Header> {
-        None
-    }
-
-    fn start(alloc: Global, nodes: u8) -> Result<Self::Running, AllocError> {
-        ClusterInBytes::new(alloc, M::machine(), nodes)
-    }
-
-    fn verdict(
-        alloc: Global,
-        _nodes: u8,
-        claim: &Claim<RaftInput<M::Cmd>, RaftOut<M::Out>, RaftInput<M::Cmd>>,
-    ) -> Result<Verdict, AllocError> {
-        cluster_verdict::<M, M::Text>(alloc, &M::machine(), claim)
-    }
+    ghost says = { refl };
 }

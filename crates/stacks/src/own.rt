@@ -1,7 +1,8 @@
-ghost use Rattle.std.specs.Prelude.{◌≡◌, ◌≢◌, ◌≤◌, ◌+◌, ℕ, IfOk, IsTrue, Some, length};
+ghost use Rattle.std.specs.Prelude.{◌≡◌, ◌≢◌, ◌≤◌, ◌+◌, ℕ, IfOk, IsTrue, Some, length, refl};
 ghost use Rattle.check_text.specs.ImageLines.{IsHeaded};
-ghost use Rattle.stacks.specs.Kinds.{IsItsRun, header_on, numbered, own_verdict, plain};
-ghost use Rattle.stacks.specs.Stack.{texts_of};
+ghost use Rattle.stacks.specs.Claimed.{of_itself};
+ghost use Rattle.stacks.specs.Kinds.{IsWhatClientsSee, header_on, nodes_of, schedule_below};
+ghost use Rattle.stacks.specs.Plays.{texts_of};
 ghost use Rattle.vst_base.specs.Nets.{stops_no_node};
 ghost use Rattle.vst_base.specs.Stacks.{row_of};
 ghost use Rattle.vst_base.specs.declared.net.Net.TheVariants as net;
@@ -10,18 +11,18 @@ ghost use Rattle.vst_base.specs.declared.node.TheConstants.{MAX_NODES};
 ghost use Rattle.vst_base.specs.declared.step.TheConstants.{MAX_STEPS};
 ghost use Rattle.check_text.specs.declared.reading.TheConstants.{MAX_LINES};
 
-use crate::StackCode;
+use crate::Layered;
 use app_text::AppText;
 use check_text::{Claim, Steps};
 use claim_verdicts::{Verdict, schedule_verdict};
 use handler_trait::Handlers;
-use runs_in_bytes::{OnWire, OnWireNumbered, RunningInBytes};
 use schedule_make::MakesInputs;
 use schedule_text::{Header, headers_follow_the_rows};
 use std::alloc::{AllocError, Global};
 use std::marker::PhantomData;
 use vst_base::{Net, StackId, Step};
-use xform_stack::{Itself, SeqNum, WithoutRepeats};
+use wired::OnWire;
+use xform_stack::Itself;
 
 /// Handlers that are a stack by themselves, without a transformer, on a network that carries packets and stops no node.
 pub trait OwnStack: Handlers {
@@ -63,14 +64,18 @@ pub(crate) fn header_on(stack: StackId, nodes: u8) -> Header
 }
 
 /// Such handlers alone: the image of a schedule is the schedule itself.
-pub struct Plain<H> {
+pub struct Own<H> {
     handlers: PhantomData<H>,
 }
 
-/// The same with numbered packets, on a network that copies packets: the image of a schedule is a schedule of the handlers
-/// themselves.
-pub struct Numbered<H> {
-    handlers: PhantomData<H>,
+// How many nodes the header of an image names: none where there is no header.
+fn nodes_of(header: Option<Header>) -> u8
+    ensures { result ≡ nodes_of header }
+{
+    match header {
+        Some(header) => header.nodes,
+        None => 0,
+    }
 }
 
 // The verdict on a claim whose image is a schedule of these handlers.
@@ -81,23 +86,20 @@ fn own_verdict<H: OwnStack>(
     requires few { length claim.now.trace + length claim.now.image ≤ MAX_LINES }
     requires counted { length claim.now.image ≤ MAX_STEPS }
     requires headed { IsHeaded (Some H.own) claim.now.header }
-    ensures { IfOk result (λ verdict. verdict ≡ own_verdict H.own (λ n. H.meaning (H.of_nodes n))
-        (texts_of H.Text.input_of H.Text.input_text H.Text.output_of H.Text.output_text H.Text.replies) claim.now) }
+    ensures { IfOk result (λ verdict. verdict ≡ (of_itself (row_of H.own).net (λ n. H.meaning (H.of_nodes n))
+        (texts_of H.Text.input_of H.Text.input_text H.Text.output_of H.Text.output_text H.Text.replies)).verdict claim.now) }
 {
     headers_follow_the_rows();
-    match claim.header() {
-        Some(header) => {
-            let handlers = H::of_nodes(header.nodes);
-            schedule_verdict::<H, H::Text>(alloc, handlers, H::own().row().net, claim)
-        }
-        None => unreachable!(),
-    }
+    let handlers = H::of_nodes(nodes_of(claim.header()));
+    schedule_verdict::<H, H::Text>(alloc, handlers, H::own().row().net, claim)
 }
 
-impl<H: OwnStack + OnWire> StackCode for Plain<H> {
+impl<H: OwnStack + OnWire> Layered for Own<H> {
     type Input = H::Input;
 
     type Output = H::Output;
+
+    type Handlers = H;
 
     type Line = Step<H::Input>;
 
@@ -105,24 +107,34 @@ impl<H: OwnStack + OnWire> StackCode for Plain<H> {
 
     type Lines = Steps<H::Text>;
 
+    type Map = Itself<H::Input>;
+
     type Inputs = H::Inputs;
 
-    type Running = RunningInBytes<H, Itself<H::Input>>;
+    ghost net = { (row_of H.own).net };
 
-    ghost stack = { λ n. (plain H.own (λ k. H.meaning (H.of_nodes k))
-        (texts_of H.Text.input_of H.Text.input_text H.Text.output_of H.Text.output_text H.Text.replies) H.Inputs.inputs n).stack };
+    ghost handlers = { H.of_nodes };
 
-    ghost Explains = { IsItsRun H.own (λ k. H.meaning (H.of_nodes k))
+    ghost below = { λ n. schedule_below (header_on H.own n)
+        (texts_of H.Text.input_of H.Text.input_text H.Text.output_of H.Text.output_text H.Text.replies) };
+
+    ghost Explains = { λ c. IsWhatClientsSee (row_of H.own).net (H.meaning (H.of_nodes (nodes_of c.header))) c };
+
+    ghost claimed = { of_itself (row_of H.own).net (λ n. H.meaning (H.of_nodes n))
         (texts_of H.Text.input_of H.Text.input_text H.Text.output_of H.Text.output_text H.Text.replies) };
 
     ghost ready = { λ n. ((row_of H.own).least ≤ n) × (n ≤ (row_of H.own).most) };
 
-    fn below(nodes: u8) -> Option<Header> {
-        Some(header_on(H::own(), nodes))
+    fn net() -> Net {
+        H::own().row().net
     }
 
-    fn start(alloc: Global, nodes: u8) -> Result<Self::Running, AllocError> {
-        RunningInBytes::new(alloc, H::of_nodes(nodes), H::own().row().net)
+    fn handlers(nodes: u8) -> H {
+        H::of_nodes(nodes)
+    }
+
+    fn below(nodes: u8) -> Option<Header> {
+        Some(header_on(H::own(), nodes))
     }
 
     fn verdict(
@@ -132,44 +144,6 @@ impl<H: OwnStack + OnWire> StackCode for Plain<H> {
     ) -> Result<Verdict, AllocError> {
         own_verdict::<H>(alloc, claim)
     }
-}
 
-impl<H: OwnStack + OnWireNumbered> StackCode for Numbered<H> {
-    type Input = H::Input;
-
-    type Output = H::Output;
-
-    type Line = Step<H::Input>;
-
-    type Text = H::Text;
-
-    type Lines = Steps<H::Text>;
-
-    type Inputs = H::Inputs;
-
-    type Running = RunningInBytes<SeqNum<H>, WithoutRepeats<H::Input>>;
-
-    ghost stack = { λ n. (numbered H.own (λ k. H.meaning (H.of_nodes k))
-        (texts_of H.Text.input_of H.Text.input_text H.Text.output_of H.Text.output_text H.Text.replies) H.Inputs.inputs n).stack };
-
-    ghost Explains = { IsItsRun H.own (λ k. H.meaning (H.of_nodes k))
-        (texts_of H.Text.input_of H.Text.input_text H.Text.output_of H.Text.output_text H.Text.replies) };
-
-    ghost ready = { λ n. ((row_of H.own).least ≤ n) × (n ≤ (row_of H.own).most) };
-
-    fn below(nodes: u8) -> Option<Header> {
-        Some(header_on(H::own(), nodes))
-    }
-
-    fn start(alloc: Global, nodes: u8) -> Result<Self::Running, AllocError> {
-        RunningInBytes::new(alloc, SeqNum::new(H::of_nodes(nodes)), Net::Dup)
-    }
-
-    fn verdict(
-        alloc: Global,
-        _nodes: u8,
-        claim: &Claim<H::Input, H::Output, Step<H::Input>>,
-    ) -> Result<Verdict, AllocError> {
-        own_verdict::<H>(alloc, claim)
-    }
+    ghost says = { refl };
 }

@@ -1,18 +1,20 @@
 ghost use Rattle.std.specs.Prelude.{◌≡◌, ◌≤◌};
 ghost use Rattle.schedule_text.specs.Headers.{IsHeader};
-ghost use Rattle.stacks.specs.Stack.{IfFound};
-ghost use Rattle.stacks.specs.Table.{stack_at};
+ghost use Rattle.stacks.specs.Plays.{IfFound};
+ghost use Rattle.stacks.specs.Stack.{stack_at};
 ghost use Rattle.vst_base.specs.declared.stack.StackId.TheVariants as id;
 
-use crate::{
-    Alone, Application, Backed, BackedNumbered, Clustered, Numbered, OnStack, OwnStack, Plain,
+use crate::rows::{
+    on_kv, on_kv_pb, on_kv_pb_seq, on_kv_raft, on_lock, on_lock_seq, on_table, on_table_pb_seq,
+    on_table_raft,
 };
+use crate::{Application, OnStack, OwnStack};
 use app_text::{KvText, LockText, TableText};
 use kv_machine::KvMachine;
 use lock_server::LockServer;
 use lock_table::TableMachine;
 use schedule_make::{KvInputs, LockInputs, TableInputs};
-use schedule_text::{Header, headers_follow_the_rows};
+use schedule_text::Header;
 use vst_base::StackId;
 
 impl OwnStack for LockServer {
@@ -78,22 +80,18 @@ pub fn on_stack<A, B, C, V: OnStack<A, B, C>>(
     c: &mut C,
 ) -> V::Said
     requires known { IsHeader header.now }
-    requires ready { IfFound (stack_at header.now.net header.now.stack) (λ e.
-        V.ready command (e.of header.now.nodes) a.old b.old c.old) }
-    ensures { IfFound (stack_at header.now.net header.now.stack) (λ e.
-        V.Does command (e.of header.now.nodes) a.old b.old c.old a.new b.new c.new result) }
+    requires ready { IfFound (stack_at header.now) (λ s. V.ready command s a.old b.old c.old) }
+    ensures { IfFound (stack_at header.now) (λ s. V.Does command s a.old b.old c.old a.new b.new c.new result) }
 {
-    headers_follow_the_rows();
-    let nodes = header.nodes;
     match header.stack {
-        StackId::Lock => command.on::<Plain<LockServer>>(nodes, a, b, c),
-        StackId::LockSeq => command.on::<Numbered<LockServer>>(nodes, a, b, c),
-        StackId::KvPb => command.on::<Backed<KvMachine>>(nodes, a, b, c),
-        StackId::KvPbSeq => command.on::<BackedNumbered<KvMachine>>(nodes, a, b, c),
-        StackId::KvRaft => command.on::<Clustered<KvMachine>>(nodes, a, b, c),
-        StackId::TablePbSeq => command.on::<BackedNumbered<TableMachine>>(nodes, a, b, c),
-        StackId::TableRaft => command.on::<Clustered<TableMachine>>(nodes, a, b, c),
-        StackId::Kv => command.on::<Alone<KvMachine>>(nodes, a, b, c),
-        StackId::Table => command.on::<Alone<TableMachine>>(nodes, a, b, c),
+        StackId::Lock => on_lock(header, command, a, b, c),
+        StackId::LockSeq => on_lock_seq(header, command, a, b, c),
+        StackId::KvPb => on_kv_pb(header, command, a, b, c),
+        StackId::KvPbSeq => on_kv_pb_seq(header, command, a, b, c),
+        StackId::KvRaft => on_kv_raft(header, command, a, b, c),
+        StackId::TablePbSeq => on_table_pb_seq(header, command, a, b, c),
+        StackId::TableRaft => on_table_raft(header, command, a, b, c),
+        StackId::Kv => on_kv(header, command, a, b, c),
+        StackId::Table => on_table(header, command, a, b, c),
     }
 }

@@ -1,15 +1,15 @@
 ghost use Rattle.std.specs.Prelude.{◌≡◌, ◌⊎◌, Some};
 ghost use Rattle.command_line.specs.CommandSet.{CanBeMade, IfMakes};
-ghost use Rattle.text_commands.specs.Answers.{answer_by};
+ghost use Rattle.commands.specs.Answers.{answer_by};
 
 use app_text::KvText;
 use command_line::Command;
+use commands::run_command;
 use kv_machine::KvCmd;
 use outside_mem::{SteadySink, SteadySource};
 use schedule_text::print_step;
 use std::alloc::Global;
 use std::test::Fail;
-use text_commands::run_command;
 use vst_base::{Key, StackId, Step};
 
 // A command over forms that never fail comes to its answer to the input, or to want of memory: no other status is left.

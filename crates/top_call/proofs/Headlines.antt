@@ -1,49 +1,63 @@
 -- A replay says the headline.
 use Rattle.std.specs.Prelude.{◌≡◌, ℕ, List, ◌++◌, Option, Some, None, IfSome}
 use Rattle.std.proofs.Common.{◌∙◌, ap, arith, inl, inr, subst, sym}
+use Rattle.check_text.specs.Claims.{Claim}
 use Rattle.command_line.specs.AskedNodes.{NodeWordsView}
 use Rattle.command_line.specs.declared.asked.Asked.{Asked}
 use Rattle.command_line.specs.declared.asked.Asked.TheVariants.{Node, Texts}
 use Rattle.command_line.specs.declared.command.Command.{Command}
 use Rattle.command_line.specs.declared.command.Command.TheVariants as command
-use Rattle.run_streams.specs.Lines.{memory_line}
-use Rattle.run_streams.specs.Saying.{Said}
-use Rattle.run_streams.specs.Seen.{Run, SinkSeen}
+use Rattle.commands.specs.Lines.{memory_line}
+use Rattle.commands.specs.Saying.{Said}
+use Rattle.commands.specs.Seen.{Run, SinkSeen}
 use Rattle.schedule_replay.specs.Explained.{IsReplay, IsReplayOn}
 use Rattle.stacks.specs.ClaimTexts.{claim_by}
-use Rattle.stacks.specs.Kinds.{Alone, Backed, BackedNumbered, Clustered, Kind, Numbered, Plain, of_kind}
-use Rattle.stacks.specs.Stack.{Found, Here, IfFound, Nowhere, found_map}
-use Rattle.stacks.specs.Table.{entry, kind_at}
-use Rattle.text_commands.specs.Complaints.{Told}
-use Rattle.text_commands.specs.Statuses.{IsDone}
-use Rattle.text_commands.specs.declared.complaint.Complaint.TheVariants as complaint
-use Rattle.top_call.specs.Headline.{ExplainsIt, GainedHeadline, Headline, IsHeadlineOn}
-use Rattle.vst_base.specs.declared.stack.StackId.{StackId}
+use Rattle.stacks.specs.Plays.{Found, Here, IfFound, Nowhere, found_map}
+use Rattle.stacks.specs.Kinds.{Alone, Backed, Clustered, Itself, Kind, Layers, Own, Steady, Through, plays, service}
+use Rattle.stacks.specs.Table.{kind_at}
+use Rattle.commands.specs.Complaints.{Told}
+use Rattle.commands.specs.Statuses.{IsDone}
+use Rattle.commands.specs.declared.complaint.Complaint.TheVariants as complaint
+use Rattle.top_call.specs.Headline.{ExplainsIt, GainedHeadline, Headline, IsHeadlineOn, LayersExplain}
 
--- what a stack of a kind says of its claims
-explains-it : (k : Kind) (nodes : ℕ) (number : ℕ) (ls : List (List ℕ)) (text : List ℕ) (r : IsReplayOn (of_kind k nodes) number ls text)
-    → ExplainsIt k nodes (claim_by (of_kind k nodes).stack.play r.steps)
-explains-it (Plain h) nodes number ls text r = r.explained
-explains-it (Numbered h) nodes number ls text r = r.explained
-explains-it (Alone p) nodes number ls text r = r.explained
-explains-it (Backed p) nodes number ls text r = r.explained
-explains-it (BackedNumbered p) nodes number ls text r = r.explained
-explains-it (Clustered p) nodes number ls text r = r.explained
+-- what layers say of their claims
+layers-explain : (l : Layers) (c : Claim (service l).Input (service l).Output (service l).Line) → (service l).Explains c → LayersExplain l c
+layers-explain (Own h) c is = is
+layers-explain (Alone p) c is = is
+layers-explain (Backed p) c is = is
+layers-explain (Through t l) c is = layers-explain l c is
+layers-explain (Itself i l) c is = is
 
-on-kind : (k : Kind) (nodes number : ℕ) (ls : List (List ℕ)) (text : List ℕ) → IsReplayOn (of_kind k nodes) number ls text → IsHeadlineOn k nodes number ls text
+explained-by-layers : (l : Layers) (c : Claim (service l).Input (service l).Output (service l).Line) → LayersExplain l c → (service l).Explains c
+explained-by-layers (Own h) c is = is
+explained-by-layers (Alone p) c is = is
+explained-by-layers (Backed p) c is = is
+explained-by-layers (Through t l) c is = explained-by-layers l c is
+explained-by-layers (Itself i l) c is = is
+
+-- and what a stack of a kind says of its
+explains-it : (k : Kind) (nodes : ℕ) (c : Claim (plays k nodes).Input (plays k nodes).Output (plays k nodes).Line) → (plays k nodes).Explains c → ExplainsIt k nodes c
+explains-it (Steady l) nodes c is = layers-explain l c is
+explains-it (Clustered p) nodes c is = is
+
+explained-by-it : (k : Kind) (nodes : ℕ) (c : Claim (plays k nodes).Input (plays k nodes).Output (plays k nodes).Line) → ExplainsIt k nodes c → (plays k nodes).Explains c
+explained-by-it (Steady l) nodes c is = explained-by-layers l c is
+explained-by-it (Clustered p) nodes c is = is
+
+on-kind : (k : Kind) (nodes number : ℕ) (ls : List (List ℕ)) (text : List ℕ) → IsReplayOn (plays k nodes) number ls text → IsHeadlineOn k nodes number ls text
 on-kind k nodes number ls text r = record {
   steps = r.steps;
   faultless = r.faultless;
   says = r.says;
   allowed = r.allowed;
   text_is = r.written;
-  explained = explains-it k nodes number ls text r;
+  explained = explains-it k nodes (claim_by (plays k nodes).play r.steps) r.explained;
 }
 
-on-found : (i : StackId) (nodes number : ℕ) (ls : List (List ℕ)) (text : List ℕ) (found : Found Kind)
-    → IfFound (found_map (entry i) found) (λ e. IsReplayOn (e.of nodes) number ls text) → IfFound found (λ k. IsHeadlineOn k nodes number ls text)
-on-found i nodes number ls text Nowhere none = none
-on-found i nodes number ls text (Here k) r = on-kind k nodes number ls text r
+on-found : (nodes number : ℕ) (ls : List (List ℕ)) (text : List ℕ) (found : Found Kind)
+    → IfFound (found_map (λ k. plays k nodes) found) (λ a. IsReplayOn a number ls text) → IfFound found (λ k. IsHeadlineOn k nodes number ls text)
+on-found nodes number ls text Nowhere none = none
+on-found nodes number ls text (Here k) r = on-kind k nodes number ls text r
 
 pub headline_of : (bytes text : List ℕ) → IsReplay bytes text → Headline bytes text
 headline_of bytes text r = record {
@@ -51,7 +65,7 @@ headline_of bytes text r = record {
   number = r.number;
   lines = r.lines;
   opens = r.opens;
-  replayed = on-found r.header.stack r.header.nodes r.number r.lines text (kind_at r.header.net r.header.stack) r.replayed;
+  replayed = on-found r.header.nodes r.number r.lines text (kind_at r.header.net r.header.stack) r.replayed;
 }
 
 gained : (out out' : Option (List ℕ)) (bytes : List ℕ) → IfSome out (λ held. (text : List ℕ) × (out' ≡ Some (held ++ text)) × IsReplay bytes text)
@@ -69,24 +83,20 @@ pub done_headline : (r : Run) → IsDone (Some command.Replay) r → IfSome r.be
 done_headline r done = by-input r.before.input.left r.before.out.written r.after.out.written done.explained
 
 -- and nothing else is one
-replays-it : (k : Kind) (nodes number : ℕ) (ls : List (List ℕ)) (text : List ℕ) → IsHeadlineOn k nodes number ls text → IsReplayOn (of_kind k nodes) number ls text
-replays-it (Plain h) nodes number ls text r =
-    record { steps = r.steps; faultless = r.faultless; says = r.says; allowed = r.allowed; written = r.text_is; explained = r.explained }
-replays-it (Numbered h) nodes number ls text r =
-    record { steps = r.steps; faultless = r.faultless; says = r.says; allowed = r.allowed; written = r.text_is; explained = r.explained }
-replays-it (Alone p) nodes number ls text r =
-    record { steps = r.steps; faultless = r.faultless; says = r.says; allowed = r.allowed; written = r.text_is; explained = r.explained }
-replays-it (Backed p) nodes number ls text r =
-    record { steps = r.steps; faultless = r.faultless; says = r.says; allowed = r.allowed; written = r.text_is; explained = r.explained }
-replays-it (BackedNumbered p) nodes number ls text r =
-    record { steps = r.steps; faultless = r.faultless; says = r.says; allowed = r.allowed; written = r.text_is; explained = r.explained }
-replays-it (Clustered p) nodes number ls text r =
-    record { steps = r.steps; faultless = r.faultless; says = r.says; allowed = r.allowed; written = r.text_is; explained = r.explained }
+replays-it : (k : Kind) (nodes number : ℕ) (ls : List (List ℕ)) (text : List ℕ) → IsHeadlineOn k nodes number ls text → IsReplayOn (plays k nodes) number ls text
+replays-it k nodes number ls text r = record {
+  steps = r.steps;
+  faultless = r.faultless;
+  says = r.says;
+  allowed = r.allowed;
+  written = r.text_is;
+  explained = explained-by-it k nodes (claim_by (plays k nodes).play r.steps) r.explained;
+}
 
-found-on : (i : StackId) (nodes number : ℕ) (ls : List (List ℕ)) (text : List ℕ) (found : Found Kind)
-    → IfFound found (λ k. IsHeadlineOn k nodes number ls text) → IfFound (found_map (entry i) found) (λ e. IsReplayOn (e.of nodes) number ls text)
-found-on i nodes number ls text Nowhere none = none
-found-on i nodes number ls text (Here k) r = replays-it k nodes number ls text r
+found-on : (nodes number : ℕ) (ls : List (List ℕ)) (text : List ℕ) (found : Found Kind)
+    → IfFound found (λ k. IsHeadlineOn k nodes number ls text) → IfFound (found_map (λ k. plays k nodes) found) (λ a. IsReplayOn a number ls text)
+found-on nodes number ls text Nowhere none = none
+found-on nodes number ls text (Here k) r = replays-it k nodes number ls text r
 
 pub replay_of : (bytes text : List ℕ) → Headline bytes text → IsReplay bytes text
 replay_of bytes text r = record {
@@ -94,7 +104,7 @@ replay_of bytes text r = record {
   number = r.number;
   lines = r.lines;
   opens = r.opens;
-  replayed = found-on r.header.stack r.header.nodes r.number r.lines text (kind_at r.header.net r.header.stack) r.replayed;
+  replayed = found-on r.header.nodes r.number r.lines text (kind_at r.header.net r.header.stack) r.replayed;
 }
 
 abbrev texts_in : Option Asked → Option Command

@@ -5,15 +5,15 @@ use Rattle.command_line.specs.AskedNodes.{NodeWordsView}
 use Rattle.command_line.specs.CommandSet.{asked_of}
 use Rattle.command_line.specs.declared.asked.Asked.{Asked}
 use Rattle.command_line.specs.declared.asked.Asked.TheVariants.{Node, Texts}
-use Rattle.node_command.proofs.Answering.{node_answers}
-use Rattle.node_command.proofs.Ending.{wanted_first}
-use Rattle.node_command.specs.Outcomes.{AnswersNode}
-use Rattle.node_command.specs.Seen.{NodeRun}
-use Rattle.run_streams.specs.Seen.{KeepsCounts, Run, SourceSeen}
-use Rattle.text_commands.proofs.Answering.{wanted_memory, words_unread}
-use Rattle.text_commands.proofs.Complained.{none-hidden, unread-kept, unwritten}
-use Rattle.text_commands.specs.Complaints.{Told}
-use Rattle.text_commands.specs.declared.complaint.Complaint.TheVariants as complaint
+use Rattle.commands.proofs.NodeAnswering.{node_answers}
+use Rattle.commands.proofs.NodeEnding.{wanted_first}
+use Rattle.commands.specs.NodeOutcomes.{AnswersNode}
+use Rattle.commands.specs.NodeSeen.{NodeRun}
+use Rattle.commands.specs.Seen.{KeepsCounts, Run, SourceSeen}
+use Rattle.commands.proofs.Answering.{wanted_memory, words_unread}
+use Rattle.commands.proofs.Complained.{none-hidden, unread-kept, unwritten}
+use Rattle.commands.specs.Complaints.{Told}
+use Rattle.commands.specs.declared.complaint.Complaint.TheVariants as complaint
 use Rattle.top_call.specs.Outcomes.{Answers, AnswersAsked}
 
 pub answers_as : (words : List (List ℕ)) (asked : Option Asked) (r : NodeRun) (result : ℕ) → asked_of words ≡ asked → AnswersAsked asked words r result

@@ -3,10 +3,10 @@ use Rattle.std.specs.Prelude.{ℕ, [], ◌∷◌, Some}
 use Rattle.command_line.specs.declared.asked.Asked.TheVariants.{Node, Texts}
 use Rattle.command_line.specs.declared.command.Command.TheVariants as command
 use Rattle.disk.specs.Acts.{Now}
-use Rattle.node_command.specs.Examples.{device, idle, words}
-use Rattle.node_command.specs.Seen.{NodeRun}
+use Rattle.commands.specs.NodeExamples.{device, idle, words}
+use Rattle.commands.specs.NodeSeen.{NodeRun}
 use Rattle.node_device.specs.Examples.{counts, tells}
-use Rattle.run_streams.specs.Seen.{Run}
+use Rattle.commands.specs.Seen.{Run}
 use Rattle.top_call.specs.Outcomes.{AnswersAsked}
 
 -- a device that is left alone, and one whose clock is read

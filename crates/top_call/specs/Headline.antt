@@ -1,43 +1,47 @@
 -- What a replay that is done has shown, in one place: the bytes of its input are a schedule that its network allows, and the text on
 -- its output is exactly what clients saw, with an image below it that explains that.
 use Rattle.std.specs.Prelude.{◌≡◌, ℕ, List, ◌++◌, Option, Some, None, IfSome}
+use Rattle.vst_base.specs.Stacks.{row_of}
 use Rattle.vst_base.specs.declared.step.Step.{Step}
 use Rattle.check_text.specs.Claims.{Claim}
 use Rattle.line_reader.specs.Lines.{lines_of}
 use Rattle.linearizability.specs.Linearizable.{IsLinearizable}
-use Rattle.schedule_replay.specs.Replaying.{image_lines, steps_of, trace_lines}
-use Rattle.schedule_replay.specs.Replays.{most_lines}
+use Rattle.schedule_replay.specs.Replaying.{image_lines, trace_lines}
+use Rattle.schedule_replay.specs.Explained.{most_lines, steps_of}
 use Rattle.schedule_text.specs.Schedules.{Opened, Script, opening, script}
 use Rattle.schedule_text.specs.declared.header.Header.{Header}
 use Rattle.stacks.specs.ClaimTexts.{claim_by}
-use Rattle.stacks.specs.Kinds.{Alone, Backed, BackedNumbered, Clustered, IsItsRun, IsMachineAlone, IsOneMachine, Kind, Numbered, Plain, of_kind}
-use Rattle.stacks.specs.Stack.{IfFound, Play}
+use Rattle.stacks.specs.Plays.{IfFound, Play}
+use Rattle.stacks.specs.Kinds.{Alone, Backed, Clustered, IsMachineAlone, IsOneMachine, IsWhatClientsSee, Itself, Kind, Layers, Own, Steady, Through, nodes_of, plays, service}
 use Rattle.stacks.specs.Table.{kind_at}
 
--- An image explains a trace, by what the stack is made of. Handlers without a transformer, and those with numbered packets: the image
--- is a schedule of the handlers themselves, and the trace is their own under it. A machine alone: the same of the machine. Below
--- primary-backup: one machine gave the outputs, and took the image. Through Raft: what clients saw is linearizable, to the one machine
--- that takes the requests in the image's order.
-abbrev pub ExplainsIt : (k : Kind) (nodes : ℕ) → Claim (of_kind k nodes).Input (of_kind k nodes).Output (of_kind k nodes).Line → Type 0
-ExplainsIt (Plain h) nodes c = IsItsRun h.own h.handlers h.texts c
-ExplainsIt (Numbered h) nodes c = IsItsRun h.own h.handlers h.texts c
-ExplainsIt (Alone p) nodes c = IsMachineAlone p.machine c
-ExplainsIt (Backed p) nodes c = IsOneMachine p.machine c
-ExplainsIt (BackedNumbered p) nodes c = IsOneMachine p.machine c
+-- An image explains a trace, by what the stack is made of. Handlers of their own: the image is a schedule of these handlers, and the
+-- trace is their own under it. A machine alone: the same of the machine. Below primary-backup: one machine gave the outputs, and took the
+-- image. Through a transformer the image explains as it does without.
+abbrev pub LayersExplain : (l : Layers) → Claim (service l).Input (service l).Output (service l).Line → Type 0
+LayersExplain (Own h) c = IsWhatClientsSee (row_of h.own).net (h.handlers (nodes_of c.header)) c
+LayersExplain (Alone p) c = IsMachineAlone p.machine c
+LayersExplain (Backed p) c = IsOneMachine p.machine c
+LayersExplain (Through t l) c = LayersExplain l c
+LayersExplain (Itself i l) c = IsWhatClientsSee (service l).net ((service l).handlers (nodes_of c.header)) c
+
+-- And through Raft: what clients saw is linearizable, to the one machine that takes the requests in the image's order.
+abbrev pub ExplainsIt : (k : Kind) (nodes : ℕ) → Claim (plays k nodes).Input (plays k nodes).Output (plays k nodes).Line → Type 0
+ExplainsIt (Steady l) nodes c = LayersExplain l c
 ExplainsIt (Clustered p) nodes c = IsLinearizable p.machine c.image c.trace
 
 module _ (k : Kind) (nodes : ℕ) where
-  abbrev play_at : Play (of_kind k nodes).Input (of_kind k nodes).Output (of_kind k nodes).Line
-  play_at = (of_kind k nodes).stack.play
+  abbrev play_at : Play (plays k nodes).Input (plays k nodes).Output (plays k nodes).Line
+  play_at = (plays k nodes).play
 
   -- what lines of a schedule say, of which the first has this number
-  abbrev said_by : ℕ → List (List ℕ) → Script (of_kind k nodes).Input
+  abbrev said_by : ℕ → List (List ℕ) → Script (plays k nodes).Input
   said_by number ls = script most_lines play_at.texts.input_of number 0 ls
 
   -- the lines say these steps, and nothing else; the network allows them; the text is the lines of their trace, and below it those of
   -- their image; and the image explains the trace
   pub record IsHeadlineOn (number : ℕ) (ls : List (List ℕ)) (text : List ℕ) : Type 0 where
-    pub steps : List (Step (of_kind k nodes).Input)
+    pub steps : List (Step (plays k nodes).Input)
     pub faultless : (said_by number ls).fault ≡ None
     pub says : steps_of (said_by number ls) ≡ steps
     pub allowed : play_at.refused steps ≡ None

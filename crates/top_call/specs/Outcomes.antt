@@ -3,9 +3,9 @@ use Rattle.std.specs.Prelude.{◌≡◌, ◌⊎◌, ℕ, List, Option, Some, Non
 use Rattle.command_line.specs.CommandSet.{asked_of}
 use Rattle.command_line.specs.declared.asked.Asked.{Asked}
 use Rattle.command_line.specs.declared.asked.Asked.TheVariants.{Node, Texts}
-use Rattle.node_command.specs.Outcomes.{AnswersNode}
-use Rattle.node_command.specs.Seen.{NodeRun}
-use Rattle.text_commands.specs.Outcomes.{AnswersCommand, RefusesWords}
+use Rattle.commands.specs.NodeOutcomes.{AnswersNode}
+use Rattle.commands.specs.NodeSeen.{NodeRun}
+use Rattle.commands.specs.Outcomes.{AnswersCommand, RefusesWords}
 
 -- a status of the program
 abbrev pub IsStatus : ℕ → Type 0

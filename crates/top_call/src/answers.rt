@@ -2,19 +2,18 @@ ghost use Rattle.std.specs.Prelude.{◌≡◌, None, Some, map, string_bytes};
 ghost use Rattle.std.specs.Bool.{OnFalse};
 ghost use Rattle.command_line.specs.declared.asked.Asked.TheVariants.{Texts};
 ghost use Rattle.command_line.specs.declared.command.Command.TheVariants as command;
-ghost use Rattle.node_command.specs.Seen.{node_ran};
-ghost use Rattle.run_streams.specs.Seen.{ran};
-ghost use Rattle.text_commands.specs.Answers.{reads};
+ghost use Rattle.commands.specs.NodeSeen.{node_ran};
+ghost use Rattle.commands.specs.Seen.{ran};
+ghost use Rattle.commands.specs.Answers.{reads};
 ghost use Rattle.top_call.specs.Headline.{ShowsHeadline};
 ghost use Rattle.top_call.specs.Outcomes.{Answers, IsStatus};
 ghost use Rattle.top_call.specs.Requests.{By, asked};
 
 use command_line::{Asked, read_words};
-use node_command::run_node;
+use commands::{Complaint, run_command, run_node, tell};
 use node_device::Device;
 use outside::{Sink, Source};
 use std::alloc::{AllocError, Global};
-use text_commands::{Complaint, run_command, tell};
 
 /// Runs the program: its words, its input, its output, its error stream and the device that a node runs on, which no other command
 /// uses. Answers the status: 0 done, 1 a condition of a claim is false, 2 the words are refused, 3 a line or the configuration is

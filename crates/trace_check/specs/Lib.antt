@@ -1,2 +1,4 @@
+pub mod Spelled
+pub mod Permitted
 pub mod Outcomes
 pub mod Examples

@@ -24,10 +24,12 @@ impl<S: Source> OnStack<S, (), ()> for Checking {
 
     ghost ready = { λ _ _ _ _ _. Unit {0} };
 
-    ghost Does = { λ c a s _ _ s' _ _ result. ChecksText c.nodes a.stack (S.left s) (S.left s') (S.faults s) (S.faults s') result };
+    ghost Does = { λ c a s _ _ s' _ _ result.
+        ChecksText c.nodes a.plays.play a.claimed (S.left s) (S.left s') (S.faults s) (S.faults s') result };
 
     fn on<C: StackCode>(
         self,
+        _: StackId,
         nodes: u8,
         source: &mut S,
         _: &mut (),

@@ -1,9 +1,9 @@
-ghost use Rattle.std.specs.Prelude.{◌≡◌, ◌≢◌};
-ghost use Rattle.trace_check.specs.Outcomes.{IsCheckFault};
+ghost use Rattle.std.specs.Prelude.{◌≡◌};
+ghost use Rattle.trace_check.specs.Outcomes.{check_fault};
 ghost use Rattle.trace_check.specs.declared.fault.CheckFault.TheVariants.{Memory};
 
 use crate::CheckFault;
-use line_reader::ReadFault;
+use schedule_text::TextFault;
 use std::alloc::AllocError;
 
 impl From<AllocError> for CheckFault {
@@ -14,15 +14,13 @@ impl From<AllocError> for CheckFault {
     }
 }
 
-// Why a claim was not read, as a fault of a check. A text that ends too early is refused.
-pub(crate) fn check_fault(fault: ReadFault) -> CheckFault
-    requires { fault ≢ ReadFault.End }
-    ensures { IsCheckFault fault result }
+// Why a claim was not read, as a fault of a check.
+pub(crate) fn check_fault(fault: TextFault) -> CheckFault
+    ensures { result ≡ check_fault fault }
 {
     match fault {
-        ReadFault::Read => CheckFault::Read,
-        ReadFault::Refused { line, why } => CheckFault::Refused { line, why },
-        ReadFault::Memory => CheckFault::Memory,
-        ReadFault::End => unreachable!(),
+        TextFault::Read => CheckFault::Read,
+        TextFault::Refused { line, why } => CheckFault::Refused { line, why },
+        TextFault::Memory => CheckFault::Memory,
     }
 }

@@ -1,2 +1,3 @@
 pub mod Follows
 pub mod Sees
+pub mod Alone

@@ -9,13 +9,8 @@ use Rattle.vst_base.specs.declared.step.Item.{Item}
 use Rattle.vst_base.specs.declared.step.Item.TheVariants as item
 use Rattle.vst_base.specs.declared.step.Step.{Step}
 use Rattle.vst_base.specs.declared.step.Step.TheVariants as step
-use Rattle.handler_trait.specs.Handling.{Meaning}
-use Rattle.net_semantics.specs.Worlds.{first_world}
-use Rattle.net_semantics.specs.Steps.{items_of}
-use Rattle.net_semantics.specs.Runs.{no_recovery, run, trace}
-use Rattle.net_semantics.specs.RunLaws.{trace_from-append}
 use Rattle.net_semantics.specs.BelowPb.{below_pb, inputs_at, outputs_at, replies_in}
-use Rattle.trace_maps.specs.Replying.{alone, counted, Seen, HasSeen}
+use Rattle.trace_maps.specs.SingleNode.{alone, counted, Seen, HasSeen}
 
 first_if : {X : Type 0} (b : Bool) (x : X) (xs ys : List X) → (if b then x ∷ xs else xs) ++ ys ≡ (if b then x ∷ (xs ++ ys) else (xs ++ ys))
 first_if true x xs ys = refl
@@ -104,15 +99,6 @@ module _ {C O : Type 0} where
   takes-replied s items taken is had =
       let n = replies_in (outputs_at 0 items) in
       is n had.replies ∙ (ap (take n) had.inputs ∙ take-map (λ c. step.In 0 c) n (inputs_at 0 items))
-
-  -- what clients see of one more step stands after the trace before it
-  pub sees-step : {S M : Type 0} (m : Meaning S C (PbOut O) M) (s s' : Seen C) (ss : List (Step C)) (last : Step C) (more : List (Item C (PbOut O))) → ((items : List (Item C (PbOut O))) → HasSeen s items → HasSeen s' (items ++ more))
-      → HasSeen s (trace m (no_recovery {S = S}) ss) → more ≡ items_of m (run m (no_recovery {S = S}) ss) last → HasSeen s' (trace m (no_recovery {S = S}) (ss ++ last ∷ []))
-  sees-step {S} m s s' ss last more sees had e =
-      let seen = items_of m (run m (no_recovery {S = S}) ss) last in
-      let longer : trace m (no_recovery {S = S}) (ss ++ last ∷ []) ≡ trace m (no_recovery {S = S}) ss ++ seen =
-      trace_from-append m no_recovery (first_world m) ss (last ∷ []) ∙ ap (λ xs. trace m (no_recovery {S = S}) ss ++ xs) (append-nil seen) in
-      subst (λ (xs : List (Item C (PbOut O))). HasSeen s' xs) (ap (λ xs. trace m (no_recovery {S = S}) ss ++ xs) e ∙ sym longer) (sees (trace m no_recovery ss) had)
 
 -- a count that stopped is as good as the true one, for a list whose length is counted
 pub take-counted : {X : Type 0} (n m : ℕ) (xs : List X) → length xs < 2 ^ 64 → m ≡ counted n → take m xs ≡ take n xs

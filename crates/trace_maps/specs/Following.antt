@@ -6,12 +6,12 @@ use Rattle.std.specs.Ordering.{nat_cmp}
 use Rattle.vst_base.specs.declared.step.Step.{Step}
 use Rattle.net_semantics.specs.Once.{delivered_from, once}
 
--- the packets that were delivered, and what is left of the steps
-pub record Left (I : Type 0) : Type 0 where
+-- the packets that were delivered, and the map that goes on without the repeats
+pub record Left (F : Type 0) : Type 0 where
   pub delivered : FinSet nat_cmp
-  pub steps : List (Step I)
+  pub rest : F
 
--- these steps were followed
-pub record HasFollowed {I : Type 0} (l : Left I) (ss : List (Step I)) : Type 0 where
-  pub steps : l.steps ≡ once ss
+-- these steps were taken: the map that goes on has followed what is left of them
+pub record HasFollowed {F I : Type 0} (follows : F → List (Step I) → Type 0) (l : Left F) (ss : List (Step I)) : Type 0 where
+  pub rest : follows l.rest (once ss)
   pub delivered : (k : ℕ) → set.contains l.delivered k ≡ delivered_from (λ _. false) ss k

@@ -1,2 +1,3 @@
 pub mod Following
-pub mod Replying
+pub mod SingleNode
+pub mod Modest

@@ -23,10 +23,12 @@ impl<I> Model for Itself<I> {
     ghost view = { λ i. i.steps };
 }
 
-impl<H: Handlers> TraceMap<H> for Itself<H::Input> {
-    ghost image_of = { λ m ss. ss };
+impl<I: Drop, O: Drop> TraceMap<I, O> for Itself<I> {
+    type Line = Step<I>;
 
-    ghost has_followed = { λ map m ss. map ≡ ss };
+    ghost image_of = { λ ss items. ss };
+
+    ghost has_followed = { λ map ss items. map ≡ ss };
 
     fn start(alloc: Global) -> Self {
         Itself {
@@ -34,21 +36,25 @@ impl<H: Handlers> TraceMap<H> for Itself<H::Input> {
         }
     }
 
-    fn follow(
+    fn take<H: Handlers<Input = I>>(
         &mut self,
         alloc: Global,
         handlers: &H,
-        step: &Step<H::Input>,
-        _seen: &[Item<H::Input, H::Output>],
+        step: &Step<I>,
     ) -> Result<(), AllocError> {
         self.steps.push(copy_step(alloc, handlers, step)?)
     }
 
-    fn steps(&self) -> &[Step<H::Input>] {
-        self.steps.lines()
+    fn see<H: Handlers<Input = I>>(
+        &mut self,
+        _alloc: Global,
+        _handlers: &H,
+        _seen: &[Item<I, O>],
+    ) -> Result<(), AllocError> {
+        Ok(())
     }
 
-    fn into_image(self) -> Image<Step<H::Input>> {
+    fn into_image(self) -> Image<Step<I>> {
         self.steps
     }
 }

@@ -1,10 +1,8 @@
-ghost use Rattle.std.specs.Prelude.{◌≡◌, ℕ, List, [], ◌∷◌, ◌++◌, IfOk, OnOk};
+ghost use Rattle.std.specs.Prelude.{◌≡◌, ℕ, IfOk, OnOk};
 ghost use Rattle.std.specs.FinSet as set;
 ghost use Rattle.net_semantics.specs.Once.{delivered_after, is_repeat, once};
-ghost use Rattle.vst_base.specs.declared.step.Step.{Step};
 ghost use Rattle.trace_maps.specs.Following.{HasFollowed};
 
-use crate::copy::copy_step;
 use crate::{Image, TraceMap};
 use handler_trait::Handlers;
 use number_set::NumberSet;
@@ -12,24 +10,24 @@ use std::alloc::{AllocError, Global};
 use std::marker::Model;
 use vst_base::{Item, Step};
 
-/// The image of a schedule without its repeats: copies are left out, and each further delivery of a packet.
+/// A map that another goes on from, without the schedule's repeats: copies are left out, and each further delivery of a packet.
 #[derive(Drop)]
-pub struct WithoutRepeats<I> {
+pub struct WithoutRepeats<F> {
     delivered: NumberSet,
-    steps: Image<Step<I>>,
+    rest: F,
 }
 
-impl<I> Model for WithoutRepeats<I> {
+impl<F> Model for WithoutRepeats<F> {
     ghost use Rattle.std.specs.Coded.{codes, coded_ℕ};
     ghost use Rattle.std.specs.FinSet as set;
     ghost use Rattle.std.specs.Ordering.{nat_cmp};
     ghost use Rattle.trace_maps.specs.Following.{Left};
 
-    ghost Value = { Left I };
+    ghost Value = { Left F };
 
     ghost coded = { Prim.hlevel (codes, set.code {R = nat_cmp} coded_ℕ) };
 
-    ghost view = { λ l. record { delivered = l.delivered; steps = l.steps } };
+    ghost view = { λ l. record { delivered = l.delivered; rest = l.rest } };
 }
 
 // Whether a step is a repeat where these packets were delivered. A packet that it delivers is noted.
@@ -52,73 +50,42 @@ fn is_repeat<I>(delivered: &mut NumberSet, step: &Step<I>) -> Result<bool, Alloc
     }
 }
 
-impl<I: Drop> WithoutRepeats<I> {
-    /// No step yet. It takes no memory.
-    pub fn new(alloc: Global) -> Self
-        ensures { HasFollowed result [] }
-    {
+impl<I: Drop, O: Drop, F: TraceMap<I, O>> TraceMap<I, O> for WithoutRepeats<F> {
+    type Line = F::Line;
+
+    ghost image_of = { λ ss items. F.image_of (once ss) items };
+
+    ghost has_followed = { λ map ss items. HasFollowed (λ rest left. F.has_followed rest left items) map ss };
+
+    fn start(alloc: Global) -> Self {
         WithoutRepeats {
             delivered: NumberSet::new(alloc),
-            steps: Image::new(alloc),
+            rest: F::start(alloc),
         }
     }
 
-    /// What is left of the steps so far.
-    pub fn left(&self) -> &[Step<I>]
-        ensures { (ss : List (Step I)) → HasFollowed self.now ss → result.now ≡ once ss }
-    {
-        self.steps.lines()
-    }
-
-    /// Gives up the map for what is left of the steps.
-    pub fn into_left(self) -> Image<Step<I>>
-        ensures { (ss : List (Step I)) → HasFollowed self ss → result ≡ once ss }
-    {
-        self.steps
-    }
-}
-
-impl<I: Drop> WithoutRepeats<I> {
-    /// Adds a step, if it is no repeat. After an `Err` the map is given up.
-    pub fn add<H: Handlers<Input = I>>(
+    fn take<H: Handlers<Input = I>>(
         &mut self,
         alloc: Global,
         handlers: &H,
         step: &Step<I>,
-    ) -> Result<(), AllocError>
-        ensures { OnOk result ((ss : List (Step I)) → HasFollowed self.old ss → HasFollowed self.new (ss ++ step.now ∷ [])) }
-    {
+    ) -> Result<(), AllocError> {
         if is_repeat(&mut self.delivered, step)? {
             return Ok(());
         }
-        self.steps.push(copy_step(alloc, handlers, step)?)
-    }
-}
-
-impl<H: Handlers> TraceMap<H> for WithoutRepeats<H::Input> {
-    ghost image_of = { λ m ss. once ss };
-
-    ghost has_followed = { λ map m ss. HasFollowed map ss };
-
-    fn start(alloc: Global) -> Self {
-        WithoutRepeats::new(alloc)
+        self.rest.take(alloc, handlers, step)
     }
 
-    fn follow(
+    fn see<H: Handlers<Input = I>>(
         &mut self,
         alloc: Global,
         handlers: &H,
-        step: &Step<H::Input>,
-        _seen: &[Item<H::Input, H::Output>],
+        seen: &[Item<I, O>],
     ) -> Result<(), AllocError> {
-        self.add(alloc, handlers, step)
+        self.rest.see(alloc, handlers, seen)
     }
 
-    fn steps(&self) -> &[Step<H::Input>] {
-        self.left()
-    }
-
-    fn into_image(self) -> Image<Step<H::Input>> {
-        self.into_left()
+    fn into_image(self) -> Image<F::Line> {
+        self.rest.into_image()
     }
 }

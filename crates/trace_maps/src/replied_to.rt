@@ -1,9 +1,8 @@
 ghost use Rattle.std.specs.Prelude.{◌≡◌, ℕ, List, [], ◌∷◌, ◌++◌, take, OnOk};
 ghost use Rattle.net_semantics.specs.BelowPb.{below_pb};
-ghost use Rattle.net_semantics.specs.Runs.{no_recovery, trace};
 ghost use Rattle.vst_base.specs.declared.pb_out.PbOut.{PbOut};
 ghost use Rattle.vst_base.specs.declared.step.Item.{Item};
-ghost use Rattle.trace_maps.specs.Replying.{alone, counted, HasSeen};
+ghost use Rattle.trace_maps.specs.SingleNode.{alone, counted, HasSeen};
 
 use crate::{Image, TraceMap};
 use handler_trait::Handlers;
@@ -21,7 +20,7 @@ pub struct RepliedTo<I> {
 }
 
 impl<I> Model for RepliedTo<I> {
-    ghost use Rattle.trace_maps.specs.Replying.{Seen};
+    ghost use Rattle.trace_maps.specs.SingleNode.{Seen};
 
     ghost Value = { Seen I };
 
@@ -39,15 +38,7 @@ impl<I: Drop> RepliedTo<I> {
         }
     }
 
-    /// What the machine takes of what clients saw so far: where n replies were counted, the first n inputs.
-    pub fn taken(&self) -> &[Step<I>]
-        ensures { (n : ℕ) → self.now.replies ≡ counted n → result.now ≡ take n self.now.inputs }
-    {
-        let inputs = self.inputs.lines();
-        &inputs[..self.replies.min(inputs.len())]
-    }
-
-    /// Gives up the map for what the machine takes.
+    /// Gives up the map for what the machine takes of what clients saw: where n replies were counted, the first n inputs.
     pub fn into_taken(self) -> Image<Step<I>>
         ensures { (n : ℕ) → self.replies ≡ counted n → result ≡ take n self.inputs }
     {
@@ -85,7 +76,7 @@ impl<I: Drop> RepliedTo<I> {
     }
 
     /// Clients saw these items after what they saw before. After an `Err` the map is given up.
-    pub fn see<H: Handlers<Input = I>, O>(
+    pub fn see_all<H: Handlers<Input = I>, O>(
         &mut self,
         alloc: Global,
         handlers: &H,
@@ -100,30 +91,36 @@ impl<I: Drop> RepliedTo<I> {
     }
 }
 
-impl<H: Handlers<Output = PbOut<O>>, O: Drop> TraceMap<H> for RepliedTo<H::Input> {
-    ghost image_of = { λ m ss. alone (below_pb (trace m no_recovery ss)) };
+impl<C: Drop, O: Drop> TraceMap<C, PbOut<O>> for RepliedTo<C> {
+    type Line = Step<C>;
 
-    ghost has_followed = { λ map m ss. HasSeen map (trace m no_recovery ss) };
+    ghost image_of = { λ ss items. alone (below_pb items) };
+
+    ghost has_followed = { λ map ss items. HasSeen map items };
 
     fn start(alloc: Global) -> Self {
         RepliedTo::new(alloc)
     }
 
-    fn follow(
+    fn take<H: Handlers<Input = C>>(
+        &mut self,
+        _alloc: Global,
+        _handlers: &H,
+        _step: &Step<C>,
+    ) -> Result<(), AllocError> {
+        Ok(())
+    }
+
+    fn see<H: Handlers<Input = C>>(
         &mut self,
         alloc: Global,
         handlers: &H,
-        _step: &Step<H::Input>,
-        seen: &[Item<H::Input, PbOut<O>>],
+        seen: &[Item<C, PbOut<O>>],
     ) -> Result<(), AllocError> {
-        self.see(alloc, handlers, seen)
+        self.see_all(alloc, handlers, seen)
     }
 
-    fn steps(&self) -> &[Step<H::Input>] {
-        self.taken()
-    }
-
-    fn into_image(self) -> Image<Step<H::Input>> {
+    fn into_image(self) -> Image<Step<C>> {
         self.into_taken()
     }
 }

@@ -1,7 +1,5 @@
 ghost use Rattle.std.specs.Prelude.{◌≡◌, List, [], ◌∷◌, ◌++◌, OnOk};
-ghost use Rattle.handler_trait.specs.Handling.{Meaning};
-ghost use Rattle.net_semantics.specs.Runs.{no_recovery, run};
-ghost use Rattle.net_semantics.specs.Steps.{items_of};
+ghost use Rattle.vst_base.specs.declared.step.Item.{Item};
 ghost use Rattle.vst_base.specs.declared.step.Step.{Step};
 
 use crate::Image;
@@ -9,37 +7,43 @@ use handler_trait::Handlers;
 use std::alloc::{AllocError, Global};
 use vst_base::{Item, Step};
 
-/// How a run of handlers is mapped to its image, a step at a time.
-pub trait TraceMap<H: Handlers>: Drop {
-    /// The image of a schedule, by what the handlers mean.
-    ghost image_of: { Meaning H.State H.Input H.Output H.Msg → List (Step H.Input) → List (Step H.Input) };
+/// How a run is mapped to its image, a step at a time, by its steps and by what clients saw.
+pub trait TraceMap<I, O>: Drop {
+    /// A line of the image.
+    type Line: Drop;
 
-    /// Whether a run of these steps was followed.
-    ghost has_followed: { Self → Meaning H.State H.Input H.Output H.Msg → List (Step H.Input) → Type 0 };
+    /// The image of a schedule of which clients saw these items.
+    ghost image_of: { List (Step I) → List (Item I O) → List Self.Line };
+
+    /// Whether these steps were taken, and these items seen.
+    ghost has_followed: { Self → List (Step I) → List (Item I O) → Type 0 };
 
     /// No step yet. It takes no memory.
     fn start(alloc: Global) -> Self
-        ensures { (m : Meaning H.State H.Input H.Output H.Msg) → has_followed result m [] };
+        ensures { has_followed result [] [] };
 
-    /// Follows one more step that was taken, of which clients saw these items. After an `Err` the map is given up.
-    fn follow(
+    /// One more step was taken. The handlers, which may be any with this input, copy it. After an `Err` the map is given up.
+    fn take<H: Handlers<Input = I>>(
         &mut self,
         alloc: Global,
         handlers: &H,
-        step: &Step<H::Input>,
-        seen: &[Item<H::Input, H::Output>],
+        step: &Step<I>,
     ) -> Result<(), AllocError>
-        ensures { OnOk result ((ss : List (Step H.Input)) → has_followed self.old (H.meaning handlers.now) ss
-            → seen.now ≡ items_of (H.meaning handlers.now) (run (H.meaning handlers.now) (no_recovery {S = H.State}) ss) step.now
-            → has_followed self.new (H.meaning handlers.now) (ss ++ step.now ∷ [])) };
+        ensures { OnOk result ((ss : List (Step I)) (items : List (Item I O)) → has_followed self.old ss items
+            → has_followed self.new (ss ++ step.now ∷ []) items) };
 
-    /// The image so far.
-    fn steps(&self) -> &[Step<H::Input>]
-        ensures { (m : Meaning H.State H.Input H.Output H.Msg) (ss : List (Step H.Input)) → has_followed self.now m ss
-            → result.now ≡ image_of m ss };
+    /// Clients saw these items after what they saw before. The handlers, which may be any with this input, copy inputs of them.
+    /// After an `Err` the map is given up.
+    fn see<H: Handlers<Input = I>>(
+        &mut self,
+        alloc: Global,
+        handlers: &H,
+        seen: &[Item<I, O>],
+    ) -> Result<(), AllocError>
+        ensures { OnOk result ((ss : List (Step I)) (items : List (Item I O)) → has_followed self.old ss items
+            → has_followed self.new ss (items ++ seen.now)) };
 
     /// Gives up the map for the image.
-    fn into_image(self) -> Image<Step<H::Input>>
-        ensures { (m : Meaning H.State H.Input H.Output H.Msg) (ss : List (Step H.Input)) → has_followed self m ss
-            → result ≡ image_of m ss };
+    fn into_image(self) -> Image<Self::Line>
+        ensures { (ss : List (Step I)) (items : List (Item I O)) → has_followed self ss items → result ≡ image_of ss items };
 }

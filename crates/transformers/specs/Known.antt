@@ -1,27 +1,13 @@
--- The transformers that there are.
+-- The transformers beside sequence numbering.
 use Rattle.fifo_xform.specs.Fifo.{FifoState, fifo}
 use Rattle.fifo_xform.specs.Image.{fifo_image}
-use Rattle.net_semantics.specs.Once.{once}
 use Rattle.retry_xform.specs.Image.{retried_image}
 use Rattle.retry_xform.specs.Keeping.{Retrying}
 use Rattle.retry_xform.specs.Retransmission.{retrying}
 use Rattle.retry_xform.specs.declared.message.RetryMsg.{RetryMsg}
-use Rattle.seqnum_xform.specs.Numbered.{Numbered}
-use Rattle.seqnum_xform.specs.Numbering.{sequence_numbered}
 use Rattle.vst_base.specs.declared.net.Net.TheVariants as net
 use Rattle.vst_base.specs.declared.seq.SeqMsg.{SeqMsg}
 use Rattle.transformers.specs.Transformers.{Transformer}
-
--- sequence numbers, from a bag to a network that copies packets
-abbrev pub numbering : Transformer
-numbering = record {
-  lower = net.Bag;
-  upper = net.Dup;
-  State = λ S M. Numbered S;
-  Msg = SeqMsg;
-  transforms = λ m. sequence_numbered m;
-  within = λ m ss. once ss;
-}
 
 -- numbers by destination, from a network that keeps the order between two nodes to one that copies and reorders packets
 abbrev pub ordering : Transformer

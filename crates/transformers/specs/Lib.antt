@@ -1,3 +1,4 @@
 pub mod Transformers
 pub mod TransformerLaws
+pub mod Numbering
 pub mod Known

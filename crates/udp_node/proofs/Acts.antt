@@ -16,7 +16,7 @@ use Rattle.node_records.proofs.ActKinds.{says_after}
 use Rattle.node_run.specs.declared.event.Event.{Event}
 use Rattle.node_state.specs.Crashes.{IsHeldBefore, LeavesEither, Saves}
 use Rattle.outside.specs.declared.device.Address.{Address}
-use Rattle.raft_types.specs.Keeping.{KeptView}
+use Rattle.raft_types.specs.Messages.{KeptView}
 use Rattle.raft_types.specs.declared.client.RaftOut.{RaftOut}
 use Rattle.raft_types.specs.declared.msg.RaftMsg.{RaftMsg}
 use Rattle.slots.specs.Opening.{OpensAs}

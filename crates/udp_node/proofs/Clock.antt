@@ -20,7 +20,7 @@ use Rattle.node_records.specs.Records.{Stores}
 use Rattle.node_records.proofs.ActKinds.{areas_store, save_on_areas, short_stores}
 use Rattle.node_run.specs.Settings.{Settings}
 use Rattle.node_run.specs.declared.event.Event.{Event}
-use Rattle.raft_types.specs.Keeping.{KeptView}
+use Rattle.raft_types.specs.Messages.{KeptView}
 use Rattle.slots.specs.Opening.{named}
 use Rattle.slots.specs.Saving.{sync_acts}
 use Rattle.slots.specs.Turns.{Says, OnAreas}

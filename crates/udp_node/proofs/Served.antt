@@ -13,7 +13,7 @@ use Rattle.node_progress.proofs.Going.{goes_is_halts, goes_on, halts_after}
 use Rattle.node_progress.proofs.Turns.{first_goes, quiet_goes}
 use Rattle.node_records.proofs.Turning.{turns_hear}
 use Rattle.node_run.specs.Runs.{Stage, Starting, Between}
-use Rattle.raft_types.specs.Keeping.{KeptView}
+use Rattle.raft_types.specs.Messages.{KeptView}
 use Rattle.vst_base.specs.Machines.{MachineMeaning}
 use Rattle.vst_base.specs.declared.stack.StackId.{StackId}
 use Rattle.vst_base.specs.declared.stack.StackId.TheVariants as stack

@@ -6,7 +6,7 @@ use Rattle.disk.proofs.CutShort.{fronts_are_cut_short}
 use Rattle.kv_machine.specs.Kv.{Store, kv}
 use Rattle.kv_machine.specs.declared.cmd.KvCmd.{KvCmd}
 use Rattle.kv_machine.specs.declared.out.KvOut.{KvOut}
-use Rattle.raft_types.specs.Keeping.{KeptView}
+use Rattle.raft_types.specs.Messages.{KeptView}
 use Rattle.vst_base.specs.declared.stack.StackId.TheVariants as stack
 use Rattle.wire_fields.specs.Bytes.{has_bytes, number_bytes, number_in, read_number}
 use Rattle.wire_messages.specs.KvByteLaws.{kv_command_is_format}

@@ -12,7 +12,7 @@ use Rattle.node_core.specs.declared.replica.Replica.{Replica}
 use Rattle.node_device.specs.Telling.{Told, told_after}
 use Rattle.node_run.specs.declared.event.Event.{Event}
 use Rattle.outside.specs.declared.device.Address.{Address}
-use Rattle.raft_types.specs.Keeping.{KeptView}
+use Rattle.raft_types.specs.Messages.{KeptView}
 use Rattle.slots.specs.Opening.{OpensAs}
 use Rattle.slots.specs.Turns.{Says, datagrams}
 use Rattle.vst_base.specs.Machines.{MachineMeaning}

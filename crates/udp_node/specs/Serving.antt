@@ -14,7 +14,7 @@ use Rattle.node_run.specs.Runs.{Stage, Starting, Between}
 use Rattle.node_state.specs.Answers.{refusal_of}
 use Rattle.node_state.specs.Crashes.{LeavesFound}
 use Rattle.node_state.specs.declared.opening.Refusal.{Refusal}
-use Rattle.raft_types.specs.Keeping.{KeptView}
+use Rattle.raft_types.specs.Messages.{KeptView}
 use Rattle.slots.specs.Opening.{Opening, Why, Fresh, Held, Refused, opening}
 use Rattle.slots.specs.Saving.{sync_acts}
 use Rattle.udp_node.specs.declared.fault.NodeFault.{NodeFault}

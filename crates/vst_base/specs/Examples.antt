@@ -1,7 +1,7 @@
 -- What the definitions are computed on.
 use Rattle.std.specs.Prelude.{ℕ, ◌+◌, min, List, [], ◌∷◌, Some, None}
 use Rattle.vst_base.specs.Machines.{MachineMeaning}
-use Rattle.vst_base.specs.StepViews.{StepView, AtNode, OfPacket, Stops, Starts, Delivered, Copied, Lost}
+use Rattle.vst_base.specs.Nets.{StepView, AtNode, OfPacket, Stops, Starts, Delivered, Copied, Lost}
 use Rattle.vst_base.specs.declared.net.Net.{Net}
 use Rattle.vst_base.specs.declared.net.Net.TheVariants as net
 use Rattle.vst_base.specs.declared.step.Step.{Step}

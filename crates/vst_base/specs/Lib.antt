@@ -1,4 +1,3 @@
-pub mod Committing
 pub mod Elections
 pub mod Entries
 pub mod Examples
@@ -8,5 +7,4 @@ pub mod Logs
 pub mod Machines
 pub mod Nets
 pub mod Stacks
-pub mod StepViews
 pub mod Tokens

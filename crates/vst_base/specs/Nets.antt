@@ -1,11 +1,33 @@
--- Which network has which kinds of step.
-use Rattle.std.specs.Prelude.{Bool, true, false, Option, Some, None}
+-- Which network has which kinds of step, and what a step is of.
+use Rattle.std.specs.Prelude.{Bool, true, false, Option, Some, None, ℕ}
 use Rattle.vst_base.specs.declared.net.Net.{Net}
 use Rattle.vst_base.specs.declared.net.Net.TheVariants as net
 use Rattle.vst_base.specs.declared.step.Step.{Step}
-use Rattle.vst_base.specs.StepViews.{Fate, Delivered, Copied, Lost, StepView, AtNode, OfPacket, Stops, Starts, view_of}
 use Rattle.vst_base.specs.declared.step.StepKind.{StepKind}
 use Rattle.vst_base.specs.declared.step.StepKind.TheVariants as kind
+use Rattle.vst_base.specs.declared.step.Step.TheVariants as step
+
+-- what comes of a copy in flight
+pub data Fate : Type 0 where
+  Delivered : Fate
+  Copied : Fate
+  Lost : Fate
+
+-- a step is of a node, with an input or else its timer; of a packet in flight; of a node that stops; or of one that starts again
+pub data StepView (I : Type 0) : Type 0 where
+  AtNode : ℕ → Option I → StepView I
+  OfPacket : ℕ → Fate → StepView I
+  Stops : ℕ → StepView I
+  Starts : ℕ → StepView I
+
+abbrev pub view_of : {I : Type 0} → Step I → StepView I
+view_of (step.In n i) = AtNode n (Some i)
+view_of (step.Tick n) = AtNode n None
+view_of (step.Deliver k) = OfPacket k Delivered
+view_of (step.Dup k) = OfPacket k Copied
+view_of (step.Lose k) = OfPacket k Lost
+view_of (step.Crash n) = Stops n
+view_of (step.Reboot n) = Starts n
 
 -- the kind of what happens at a node: an input, or its timer
 abbrev pub kind_at : {I : Type 0} → Option I → StepKind

@@ -2,9 +2,8 @@ ghost use Rattle.std.specs.Prelude.{◌≡◌, [], ◌∷◌, ◌++◌, true, fa
 ghost use Rattle.vst_base.specs.Examples.{counter, kinds, nets, steps, views};
 ghost use Rattle.vst_base.specs.Firsts.{first_of};
 ghost use Rattle.vst_base.specs.Machines.{fold, state_after};
-ghost use Rattle.vst_base.specs.Nets.{has_kind, keeps_order, kind_of, stops_no_node};
+ghost use Rattle.vst_base.specs.Nets.{has_kind, keeps_order, kind_of, stops_no_node, view_of};
 ghost use Rattle.vst_base.specs.Stacks.{row_of, rows, stack_word};
-ghost use Rattle.vst_base.specs.StepViews.{view_of};
 ghost use Rattle.vst_base.specs.Tokens.{is_token, token_of};
 
 use crate::{Net, StackId, StepKind, StepRefusal};

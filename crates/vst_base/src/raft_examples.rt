@@ -1,9 +1,8 @@
 ghost use Rattle.std.specs.Prelude.{◌≡◌, ℕ, [], ◌∷◌, ◌++◌, true, false, Some, None, drop, slice_index};
-ghost use Rattle.vst_base.specs.Committing.{advance, learned_commit, may_commit};
-ghost use Rattle.vst_base.specs.Elections.{MajoritiesMeet, count, is_free_for, is_majority, is_up_to_date, nobody, with_node};
+ghost use Rattle.vst_base.specs.Logs.{accepted, has_conflict, last_term, matches, merged, term_at};
+ghost use Rattle.vst_base.specs.Elections.{MajoritiesMeet, count, is_free_for, is_majority, is_up_to_date, nobody, with_node, advance, learned_commit, may_commit};
 ghost use Rattle.vst_base.specs.Entries.{HasOrigin};
 ghost use Rattle.vst_base.specs.LogExamples.{entry, far_behind, leader, log, of_a_later_term, one_behind, one_more, parted_early, parted_late};
-ghost use Rattle.vst_base.specs.Logs.{accepted, has_conflict, last_term, matches, merged, term_at};
 
 use crate::What;
 

@@ -1,6 +1,6 @@
 use crate::page::Page;
 use drawing::{Arrow, Bar, BarKind, Picture, Row};
-use drawn_runs::picture_of;
+use drawn_schedules::picture_of;
 use std::alloc::{AllocError, Global};
 
 // Adds where a packet is, by its column, behind words for a node and for a way.

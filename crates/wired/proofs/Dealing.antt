@@ -13,7 +13,7 @@ use Rattle.net_semantics.specs.Worlds.{Packet, World, change_at, first_world, pu
 use Rattle.net_semantics.proofs.Places.{put-there, put-elsewhere}
 use Rattle.vst_base.specs.declared.net.Net.{Net}
 use Rattle.vst_base.specs.declared.step.Step.{Step}
-use Rattle.vst_base.specs.StepViews.{AtNode, Copied, Delivered, Fate, Lost, OfPacket, Starts, StepView, Stops, view_of}
+use Rattle.vst_base.specs.Nets.{AtNode, Copied, Delivered, Fate, Lost, OfPacket, Starts, StepView, Stops, view_of}
 use Rattle.vst_base.specs.declared.step.TheConstants.{MAX_STEPS}
 use Rattle.wired.specs.Dealing.{AllKeepTo, AreSent, DealsInBytes, GoesOn, IsGoodPacket}
 use Rattle.wired.specs.StackRuns.{AreInputSteps, IsInputIn, IsInputStep}

@@ -1,8 +1,7 @@
 -- What an event makes of a node and of what was gathered, once its packets are handed on as bytes.
 use Rattle.std.specs.Prelude.{◌≡◌, ℕ, List, [], ◌++◌, Option, Some, Result, Ok, Err, OnOk}
 use Rattle.std.proofs.Common.{ap, ◌∙◌, sym, subst}
-use Rattle.handler_trait.specs.Gathering.{Gathered}
-use Rattle.handler_trait.specs.Handling.{Does, Effect, Meaning}
+use Rattle.handler_trait.specs.Handling.{Gathered, Does, Effect, Meaning}
 use Rattle.vst_base.specs.declared.stack.StackId.{StackId}
 use Rattle.wire_fields.specs.Formats.{Format}
 use Rattle.wired.specs.Wiring.{Named, after_message, in_bytes, sent}

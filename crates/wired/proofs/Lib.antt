@@ -9,8 +9,5 @@ pub mod Taking
 pub mod Dealing
 pub mod Refusing
 pub mod RunningAsBytes
-pub mod LockDeals
-pub mod NumberedDeals
-pub mod BackupDeals
 pub mod RaftFits
 pub mod RaftDeals

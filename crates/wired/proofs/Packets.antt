@@ -7,7 +7,7 @@ use Rattle.std.proofs.lemmas.List.Elements.{All-cons, All-head, All-nil, All-tai
 use Rattle.std.proofs.lemmas.Option.{slice_get-map}
 use Rattle.net_semantics.specs.Steps.{comes_first, copied, delivered, flies_among, is_first}
 use Rattle.net_semantics.specs.Worlds.{Packet, World, change_at, copies, copies_of, ends, ends_of, sent_by}
-use Rattle.vst_base.specs.StepViews.{Copied, Delivered, Fate, Lost}
+use Rattle.vst_base.specs.Nets.{Copied, Delivered, Fate, Lost}
 use Rattle.vst_base.specs.declared.stack.StackId.{StackId}
 use Rattle.wire_fields.specs.Formats.{Format}
 use Rattle.wired.specs.WiredRuns.{IsSpelledPacket, packet_in_bytes, world_in_bytes}

@@ -4,7 +4,7 @@ use Rattle.std.proofs.Common.{arith}
 use Rattle.std.proofs.lemmas.List.Elements.{All-nil}
 use Rattle.handler_trait.specs.Handling.{AreSentBelow, IsModest}
 use Rattle.node_body.specs.BodyLaws.{body_fits}
-use Rattle.raft_types.specs.Ranges.{IsClusterSize}
+use Rattle.raft_types.specs.Messages.{IsClusterSize}
 use Rattle.raft_types.specs.declared.msg.RaftMsg.{RaftMsg}
 use Rattle.raft_xform.proofs.Keeping.{keeps_input, keeps_message, keeps_tick}
 use Rattle.raft_xform.proofs.Sounding.{sound_started}

@@ -17,8 +17,7 @@ use Rattle.raft_types.specs.declared.msg.RaftMsg.{RaftMsg}
 use Rattle.raft_types.specs.declared.msg.RaftMsg.TheVariants as msg
 use Rattle.raft_xform.proofs.Keeping.{candidate_in_a_term, term_in_range, under}
 use Rattle.raft_xform.proofs.Sounding.{same_role, sound_broadcast, sound_candidate, sound_heard, sound_known, sound_led, sound_voted, sound_with_entry, sound_with_noop}
-use Rattle.raft_xform.specs.Electing.{candidate, has_won, heard, on_vote, sees_up_to_date, tick, voted}
-use Rattle.raft_xform.specs.Leading.{broadcasts, lead, led, with_entry, with_noop}
+use Rattle.raft_xform.specs.Electing.{candidate, has_won, heard, on_vote, sees_up_to_date, tick, voted, broadcasts, lead, led, with_entry, with_noop}
 use Rattle.raft_xform.specs.Nodes.{RaftEffect, RaftView, is_candidate, is_leader, peer_at}
 use Rattle.raft_xform.specs.Raft.{by_message, on_message}
 use Rattle.raft_xform.specs.Replicating.{may_take, moved_by, on_append, on_input, on_moved}

@@ -8,7 +8,7 @@ use Rattle.net_semantics.specs.Worlds.{Packet, World, first_world, put}
 use Rattle.net_semantics.proofs.Places.{put-there, put-elsewhere}
 use Rattle.vst_base.specs.declared.net.Net.{Net}
 use Rattle.vst_base.specs.declared.step.Step.{Step}
-use Rattle.vst_base.specs.StepViews.{AtNode, OfPacket, Starts, StepView, Stops, view_of}
+use Rattle.vst_base.specs.Nets.{AtNode, OfPacket, Starts, StepView, Stops, view_of}
 use Rattle.wired.specs.Saving.{EachKeepsBytes, KeepsBytesIn, ReadsBack, SavedRunsAreTheSame, Saving, Seated, saved, saved_recovery, seat, seated, started, world_saved}
 use Rattle.wired.proofs.Alike.{EachStepsTheSame, runs}
 

@@ -6,9 +6,8 @@ use Rattle.handler_trait.specs.Handling.{Meaning}
 use Rattle.net_semantics.specs.Steps.{acts_at, fails, input_is_taken, is_first, node_named, node_started, packet_named, refusal_in}
 use Rattle.net_semantics.specs.Worlds.{World, copies}
 use Rattle.vst_base.specs.Firsts.{first_of}
-use Rattle.vst_base.specs.Nets.{has_kind, keeps_order, kind_in}
+use Rattle.vst_base.specs.Nets.{has_kind, keeps_order, kind_in, AtNode, StepView}
 use Rattle.vst_base.specs.declared.net.Net.{Net}
-use Rattle.vst_base.specs.StepViews.{AtNode, StepView}
 use Rattle.vst_base.specs.declared.step.StepRefusal.TheVariants as refusal
 
 none_applies : (a b c d e f g : Bool)

@@ -10,7 +10,7 @@ use Rattle.net_semantics.specs.Worlds.{Packet, World, change_at, first_world, se
 use Rattle.vst_base.specs.declared.net.Net.{Net}
 use Rattle.vst_base.specs.declared.stack.StackId.{StackId}
 use Rattle.vst_base.specs.declared.step.Step.{Step}
-use Rattle.vst_base.specs.StepViews.{AtNode, OfPacket, Starts, StepView, Stops, view_of}
+use Rattle.vst_base.specs.Nets.{AtNode, OfPacket, Starts, StepView, Stops, view_of}
 use Rattle.wire_fields.specs.Formats.{Format, IsFormat}
 use Rattle.wired.specs.WiredRuns.{IsSpelledPacket, WiredRunsAreTheSame, packet_in_bytes, world_in_bytes}
 use Rattle.wired.specs.Wiring.{after_message, in_bytes, wired}

@@ -15,7 +15,7 @@ use Rattle.vst_base.specs.declared.step.Step.{Step}
 use Rattle.vst_base.specs.declared.step.Step.TheVariants as step
 use Rattle.wire_messages.specs.PeerBytes.{lock_message}
 use Rattle.kv_machine.specs.declared.cmd.KvCmd.{KvCmd}
-use Rattle.raft_types.specs.Keeping.{KeptView}
+use Rattle.raft_types.specs.Messages.{KeptView}
 use Rattle.wire_messages.specs.KvBytes.{kv_command}
 use Rattle.wired.specs.RaftSaving.{raft_saving}
 use Rattle.wired.specs.Same.{RunsAlike, RunsTheSame}

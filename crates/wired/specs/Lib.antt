@@ -9,4 +9,8 @@ pub mod RaftSavingLaws
 pub mod BytesAlone
 pub mod StackRuns
 pub mod Dealing
+pub mod Sending
+pub mod LockDealLaws
+pub mod BackupDealLaws
+pub mod NumberedDealLaws
 pub mod Examples

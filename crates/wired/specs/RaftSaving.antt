@@ -2,7 +2,7 @@
 use Rattle.std.specs.Prelude.{ℕ, ◌==◌, Bool, ◌&&◌, List, Option, None, Some, bytes_eq, if◌then◌else◌}
 use Rattle.node_body.specs.Bodies.{body, body_of, read_body}
 use Rattle.node_body.specs.declared.who.Who.{Who}
-use Rattle.raft_types.specs.Keeping.{KeptView}
+use Rattle.raft_types.specs.Messages.{KeptView}
 use Rattle.raft_types.specs.declared.client.RaftInput.{RaftInput}
 use Rattle.vst_base.specs.declared.stack.StackId.{StackId}
 use Rattle.wire_fields.specs.Formats.{Format}

@@ -7,7 +7,7 @@ use Rattle.node_body.specs.Bodies.{VoteAmong, body, body_of, read_body}
 use Rattle.node_body.specs.BodyLaws.{body_back, body_one}
 use Rattle.node_body.specs.VoteLaws.{body_keeps}
 use Rattle.node_body.specs.declared.who.Who.{Who}
-use Rattle.raft_types.specs.Keeping.{KeptView}
+use Rattle.raft_types.specs.Messages.{KeptView}
 use Rattle.vst_base.specs.declared.stack.StackId.{StackId}
 use Rattle.wire_fields.specs.Formats.{Format, IsFormat}
 use Rattle.wired.specs.RaftSaving.{is_own, own_state, raft_saving, who_at}

@@ -5,7 +5,7 @@ use Rattle.net_semantics.specs.Runs.{no_recovery}
 use Rattle.vst_base.specs.declared.net.Net.{Net}
 use Rattle.vst_base.specs.declared.stack.StackId.{StackId}
 use Rattle.vst_base.specs.declared.step.Step.{Step}
-use Rattle.vst_base.specs.StepViews.{AtNode, OfPacket, Starts, StepView, Stops, view_of}
+use Rattle.vst_base.specs.Nets.{AtNode, OfPacket, Starts, StepView, Stops, view_of}
 use Rattle.vst_base.specs.declared.step.TheConstants.{MAX_STEPS}
 use Rattle.wire_fields.specs.Fields.{name}
 use Rattle.wire_fields.specs.Formats.{Format}

@@ -13,7 +13,8 @@ ghost use Rattle.wired.specs.Saving.{seat, world_saved};
 ghost use Rattle.wired.specs.WiredRuns.{HasBytes, IsFormatOf};
 ghost use Rattle.wired.specs.Wiring.{heard, no_name};
 
-use crate::stacks_run_the_same_as_bytes;
+use crate::runs_as_bytes;
+use lock_server::LockServer;
 
 /// The packets of a lock server as bytes, and which bytes are none of its packets.
 #[tactic(auto, unfolding(wire_fields::specs::Bytes::number_bytes, wire_fields::specs::Bytes::number_in, wire_fields::specs::Bytes::has_bytes, wire_fields::specs::Bytes::read_number))]
@@ -65,6 +66,7 @@ pub fn worked_runs()
     ensures not_under_no_name { HasBytes lock_message stack.Lock [] 1 0 lock.Lock → ⊥ }
     ensures is_format { IsFormatOf stack.Lock lock_message }
     ensures not_of_numbered { IsFormatOf stack.LockSeq lock_message → ⊥ }
+    ensures not_of_no_packets { IsFormatOf stack.Kv lock_message → ⊥ }
     ensures in_bytes { (locks_in_bytes asked_world).packets
         ≡ record { source = 1; destination = 0; content = bytes_of 1 0 1 0 1; copies = 1 } ∷ [] }
     ensures runs_the_same { runs_as_locks wired_locks }
@@ -72,7 +74,7 @@ pub fn worked_runs()
     ensures runs_alike { runs_like_locks wired_locks }
     ensures not_alike { runs_like_locks deaf_locks → ⊥ }
 {
-    stacks_run_the_same_as_bytes::<(), ()>();
+    runs_as_bytes::<LockServer>();
 }
 
 /// What a node that stops has to keep so that it has bytes, and what a world is whose nodes keep bytes.

@@ -1,43 +1,31 @@
 ghost use Rattle.std.specs.Prelude.{ℕ, ◌≤◌};
-ghost use Rattle.kv_machine.specs.declared.cmd.KvCmd.{KvCmd};
-ghost use Rattle.lock_server.specs.Locks.{lock_server};
-ghost use Rattle.lock_table.specs.declared.cmd.TableCmd.{TableCmd};
-ghost use Rattle.primary_backup.specs.Backup.{primary_backup};
-ghost use Rattle.raft_types.specs.Ranges.{IsClusterSize};
+ghost use Rattle.raft_types.specs.Messages.{IsClusterSize};
 ghost use Rattle.raft_xform.specs.Raft.{raft, raft_recovery};
-ghost use Rattle.seqnum_xform.specs.Numbering.{sequence_numbered};
 ghost use Rattle.vst_base.specs.Machines.{MachineMeaning};
-ghost use Rattle.vst_base.specs.declared.stack.StackId.TheVariants as stack;
-ghost use Rattle.wire_messages.specs.KvBytes.{kv_command};
-ghost use Rattle.wire_messages.specs.PeerBytes.{backup_message, lock_message, numbered};
+ghost use Rattle.vst_base.specs.declared.node.TheConstants.{MAX_NODES};
+ghost use Rattle.vst_base.specs.declared.stack.StackId.{StackId};
+ghost use Rattle.wire_codec.specs.Headings.{HasByte};
 ghost use Rattle.wire_messages.specs.RaftBytes.{raft_message};
-ghost use Rattle.wire_messages.specs.TableBytes.{table_command};
 ghost use Rattle.wired.specs.RaftSaving.{IsAsked, raft_saving};
 ghost use Rattle.wired.specs.StackRuns.{RunsAsBytes, RunsOnBytesAlone};
+ghost use Rattle.wired.specs.WiredRuns.{IsFormatOf};
 
-/// The stacks whose nodes never stop: with packets that are bytes each refuses what it refuses with messages, and clients see the
-/// same, on at most 1,000,000 steps. The commands that clients give are to have bytes, as all tokens of a schedule have.
-pub fn stacks_run_the_same_as_bytes<S, O>()
-    ensures lock { (nodes : ℕ) → nodes ≤ 9 → RunsAsBytes lock_message stack.Lock (λ _. Unit {0}) (lock_server nodes) }
-    ensures lock_seq { (nodes : ℕ) → nodes ≤ 9
-        → RunsAsBytes (numbered lock_message) stack.LockSeq (λ _. Unit {0}) (sequence_numbered (lock_server nodes)) }
-    ensures kv_pb { (m : MachineMeaning S KvCmd O)
-        → RunsAsBytes (backup_message kv_command) stack.KvPb kv_command.Fits (primary_backup m) }
-    ensures kv_pb_seq { (m : MachineMeaning S KvCmd O)
-        → RunsAsBytes (numbered (backup_message kv_command)) stack.KvPbSeq kv_command.Fits (sequence_numbered (primary_backup m)) }
-    ensures table_pb_seq { (m : MachineMeaning S TableCmd O)
-        → RunsAsBytes (numbered (backup_message table_command)) stack.TablePbSeq table_command.Fits
-        (sequence_numbered (primary_backup m)) }
+use crate::OnWire;
+use node_body::Commands;
+
+/// Handlers whose nodes never stop: with packets that are bytes of a stack they refuse what they refuse with messages, and clients
+/// see the same, on at most 1,000,000 steps. Their messages are to be those of the stack, and the inputs that clients give are to
+/// have bytes, as all tokens of a schedule have.
+pub fn runs_as_bytes<H: OnWire>()
+    ensures { (h : H) (stack : StackId) → HasByte stack → IsFormatOf stack H.Msg.format → (H.meaning h).nodes ≤ MAX_NODES
+        → H.longest ≤ 59978 → RunsAsBytes H.Msg.format stack H.has_bytes (H.meaning h) }
 {}
 
-/// The stacks whose nodes stop and start again: on bytes alone, in packets and in what is kept, each refuses what it refuses with
-/// messages and states, and clients see the same. The commands that clients give are to have bytes, and the numbers of clients and
-/// requests eight at most.
-pub fn clusters_run_the_same_on_bytes_alone<S, O>()
-    ensures kv_raft { (nodes : ℕ) (m : MachineMeaning S KvCmd O) → IsClusterSize nodes
-        → RunsOnBytesAlone (raft_message kv_command) stack.KvRaft (raft_saving stack.KvRaft kv_command nodes)
-        (IsAsked kv_command) (raft nodes m) (raft_recovery m) }
-    ensures table_raft { (nodes : ℕ) (m : MachineMeaning S TableCmd O) → IsClusterSize nodes
-        → RunsOnBytesAlone (raft_message table_command) stack.TableRaft (raft_saving stack.TableRaft table_command nodes)
-        (IsAsked table_command) (raft nodes m) (raft_recovery m) }
+/// Clusters, whose nodes stop and start again: on bytes alone, in packets and in what is kept, each refuses what it refuses with
+/// messages and states, and clients see the same. Its messages are to be those of the stack. The commands that clients give are
+/// to have bytes, and the numbers of clients and requests eight at most.
+pub fn clusters_run_the_same_on_bytes_alone<S, O, C: Commands>()
+    ensures { (nodes : ℕ) (m : MachineMeaning S C O) → HasByte C.stack → IsFormatOf C.stack (raft_message C.format)
+        → IsClusterSize nodes → RunsOnBytesAlone (raft_message C.format) C.stack (raft_saving C.stack C.format nodes)
+        (IsAsked C.format) (raft nodes m) (raft_recovery m) }
 {}

@@ -1,15 +1,13 @@
 ghost use Rattle.std.specs.Prelude.{◌≡◌, ◌≤◌, length, None, OnOk, IfOk, IfErr};
 ghost use Rattle.net_semantics.specs.Runs.{first_refused, machine_trace, no_recovery};
-ghost use Rattle.single_node.specs.Commands.{commands};
-ghost use Rattle.single_node.specs.SingleNode.{single_node};
+ghost use Rattle.trace_maps.specs.SingleNode.{commands, single_node};
 ghost use Rattle.xform_stack.specs.Running.{IsRunRefusal};
 ghost use Rattle.vst_base.specs.declared.step.TheConstants.{MAX_STEPS};
 
 use crate::run::run_mapped;
 use crate::{Ran, RunFault};
-use single_node::{SingleNode, is_the_machine};
 use std::alloc::Global;
-use trace_maps::Itself;
+use trace_maps::{Itself, SingleNode, is_the_machine};
 use vst_base::{Machine, Net, Step};
 
 /// Runs a schedule of a machine at one node, on a network of inputs alone: the machine's own trace, and the schedule itself as its

@@ -3,7 +3,7 @@ ghost use Rattle.net_semantics.specs.BelowPb.{below_pb, IsExplainedBy};
 ghost use Rattle.net_semantics.specs.Runs.{first_refused, trace, no_recovery};
 ghost use Rattle.primary_backup.specs.Backup.{primary_backup};
 ghost use Rattle.seqnum_xform.specs.Numbering.{sequence_numbered};
-ghost use Rattle.trace_maps.specs.Replying.{alone};
+ghost use Rattle.trace_maps.specs.SingleNode.{alone};
 ghost use Rattle.xform_stack.specs.Running.{IsRunRefusal};
 ghost use Rattle.vst_base.specs.declared.step.TheConstants.{MAX_STEPS};
 

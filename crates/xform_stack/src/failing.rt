@@ -3,14 +3,17 @@ ghost use Rattle.linearizability.specs.Linearizable.{IsLinearizable};
 ghost use Rattle.net_semantics.specs.Runs.{IsAllowed, first_refused};
 ghost use Rattle.raft_safety.specs.Applied.{executed_by};
 ghost use Rattle.raft_safety.specs.Runs.{seen};
-ghost use Rattle.raft_types.specs.Ranges.{IsClusterSize};
+ghost use Rattle.raft_types.specs.Messages.{IsClusterSize};
 ghost use Rattle.raft_xform.specs.Raft.{raft, raft_recovery};
 ghost use Rattle.xform_stack.specs.Running.{IsRunRefusal};
 ghost use Rattle.vst_base.specs.declared.step.TheConstants.{MAX_STEPS};
 
-use crate::run::run_on;
-use crate::{Ran, RunFault, RunningCluster};
+use crate::whole::run_on;
+use crate::{Ran, RunFault};
+use applied_order::AppliedOrder;
+use net_semantics::FailWorld;
 use raft_types::{RaftInput, RaftOut};
+use raft_xform::Raft;
 use std::alloc::Global;
 use vst_base::{Machine, Net, Step};
 
@@ -34,8 +37,8 @@ pub fn run_fail<M: Machine>(
         (raft_recovery (M.meaning machine)) steps.now)) }
 {
     raft_safety::laws::<M>();
-    let Ok(running) = RunningCluster::new(alloc, machine, nodes) else {
+    let Ok(network) = FailWorld::new(alloc, Raft::new(machine, nodes)) else {
         return Err(RunFault::Memory);
     };
-    run_on(running, steps)
+    run_on::<Raft<M>, FailWorld<Raft<M>>, AppliedOrder<M::Cmd>>(alloc, network, steps)
 }

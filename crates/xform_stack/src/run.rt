@@ -1,59 +1,39 @@
-ghost use Rattle.std.specs.Prelude.{◌≡◌, ◌≤◌, [], length, IsTrue, None, OnOk, IfOk, IfErr};
+ghost use Rattle.std.specs.Prelude.{◌≡◌, ◌≤◌, length, IsTrue, None, OnOk, IfOk, IfErr};
 ghost use Rattle.net_semantics.specs.Once.{once};
 ghost use Rattle.net_semantics.specs.Runs.{IsAllowed, first_refused, trace, no_recovery};
 ghost use Rattle.seqnum_xform.specs.Numbering.{sequence_numbered};
-ghost use Rattle.xform_stack.specs.Running.{HasRun, IsRunRefusal};
+ghost use Rattle.xform_stack.specs.Running.{IsRunRefusal};
 ghost use Rattle.vst_base.specs.Nets.{stops_no_node};
 ghost use Rattle.vst_base.specs.declared.step.TheConstants.{MAX_STEPS};
 
-use crate::{Ran, RunFault, Running, Runs};
+use crate::whole::run_on;
+use crate::{Mapped, Ran, RunFault, SteadyWorld};
 use handler_trait::Handlers;
 use seqnum_xform::{SeqNum, repeats_do_nothing};
 use std::alloc::Global;
 use trace_maps::{Itself, TraceMap, WithoutRepeats};
 use vst_base::{Net, Step};
 
-// Runs a schedule to its end, or to the first step that is refused.
-pub(crate) fn run_on<R: Runs>(
-    mut running: R,
-    steps: &[Step<R::Input>],
-) -> Result<Ran<R::Input, R::Output, R::Line>, RunFault>
-    requires started { HasRun (R.system running) R.follows R.progress [] [] running }
-    requires sound { R.sound running }
-    requires few { length steps.now ≤ MAX_STEPS }
-    ensures allowed { OnOk result (first_refused (R.system running).net (R.system running).meaning (R.system running).recovery steps.now ≡
-        None) }
-    ensures trace { IfOk result (λ ran. ran.trace ≡ trace (R.system running).meaning (R.system running).recovery steps.now) }
-    ensures image { IfOk result (λ ran. ran.image ≡ (R.system running).image steps.now) }
-    ensures refused { IfErr result (λ why. IsRunRefusal why (first_refused (R.system running).net (R.system running).meaning
-        (R.system running).recovery steps.now)) }
-{
-    for step in steps {
-        running.step(step)?;
-    }
-    Ok(running.finish())
-}
-
 /// Runs a schedule of handlers on a network that stops no node: the trace, and its image by a map. Where a network has inputs
 /// alone there is one node. The first step that the network refuses is answered with its place, the number of steps before it.
-pub fn run_mapped<H: Handlers, T: TraceMap<H>>(
+pub fn run_mapped<H: Handlers, T: TraceMap<H::Input, H::Output>>(
     alloc: Global,
     handlers: H,
     net: Net,
     steps: &[Step<H::Input>],
-) -> Result<Ran<H::Input, H::Output, Step<H::Input>>, RunFault>
+) -> Result<Ran<H::Input, H::Output, T::Line>, RunFault>
     requires net { IsTrue (stops_no_node net) }
     requires alone { net ≡ Net.One → (H.meaning handlers).nodes ≡ 1 }
     requires few { length steps.now ≤ MAX_STEPS }
     ensures allowed { OnOk result (first_refused net (H.meaning handlers) no_recovery steps.now ≡ None) }
     ensures trace { IfOk result (λ ran. ran.trace ≡ trace (H.meaning handlers) no_recovery steps.now) }
-    ensures image { IfOk result (λ ran. ran.image ≡ T.image_of (H.meaning handlers) steps.now) }
+    ensures image { IfOk result (λ ran. ran.image ≡ T.image_of steps.now (trace (H.meaning handlers) no_recovery steps.now)) }
     ensures refused { IfErr result (λ why. IsRunRefusal why (first_refused net (H.meaning handlers) no_recovery steps.now)) }
 {
-    let Ok(running) = Running::<H, T>::new(alloc, handlers, net) else {
+    let Ok(network) = SteadyWorld::new(alloc, handlers, net) else {
         return Err(RunFault::Memory);
     };
-    run_on(running, steps)
+    run_on::<H, SteadyWorld<H>, Mapped<T>>(alloc, network, steps)
 }
 
 /// Runs a schedule of handlers on a bag: the trace, and the schedule itself as its image. The first step that
@@ -90,5 +70,10 @@ pub fn run_dup<H: Handlers>(
         steps.now)) }
 {
     repeats_do_nothing::<H>();
-    run_mapped::<SeqNum<H>, WithoutRepeats<H::Input>>(alloc, SeqNum::new(handlers), Net::Dup, steps)
+    run_mapped::<SeqNum<H>, WithoutRepeats<Itself<H::Input>>>(
+        alloc,
+        SeqNum::new(handlers),
+        Net::Dup,
+        steps,
+    )
 }

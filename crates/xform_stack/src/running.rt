@@ -1,175 +1,104 @@
-ghost use Rattle.std.specs.Prelude.{◌≡◌, ℕ, ◌≤◌, drop, List, [], ◌∷◌, ◌++◌, length, IsTrue, IfOk, OnOk};
-ghost use Rattle.handler_trait.specs.Handling.{Meaning};
-ghost use Rattle.net_semantics.specs.Steps.{items_of};
-ghost use Rattle.net_semantics.specs.Runs.{run, no_recovery};
-ghost use Rattle.net_semantics.specs.Shown.{IsSoundBy};
-ghost use Rattle.vst_base.specs.Nets.{stops_no_node};
-ghost use Rattle.vst_base.specs.declared.step.Step.{Step};
-ghost use Rattle.xform_stack.specs.Running.{HasFollowed, system_of};
+ghost use Rattle.std.specs.Prelude.{◌≡◌, []};
+ghost use Rattle.xform_stack.specs.Running.{HasRun, HasTaken};
+ghost use Rattle.xform_stack.specs.SystemLaws.{played_on-causal};
+ghost use Rattle.xform_stack.specs.Systems.{played_on};
 
-use crate::refusing::fault_at;
-use crate::{Explores, Ran, RunFault, Runs};
+use crate::{Network, Observer, Ran, Runs};
 use handler_trait::Handlers;
-use net_semantics::{Trace, World};
+use net_semantics::{StepFault, Trace};
 use std::alloc::{AllocError, Global};
-use std::marker::Model;
-use trace_maps::TraceMap;
-use vst_base::{Item, Net, Node, Step};
+use std::marker::{Model, PhantomData};
+use vst_base::Step;
 
-/// A schedule that is run one step at a time on a network that stops no node: the world so far, and the map to the image of the
-/// steps so far.
+/// A schedule that is run one step at a time: the network so far, and what observes it.
 #[derive(Drop)]
-pub struct Running<H: Handlers, T: TraceMap<H>> {
+pub struct Running<H: Handlers, W: Network<H>, F: Observer<H, W>> {
     alloc: Global,
-    net: Net,
-    world: World<H>,
-    map: T,
+    network: W,
+    image: F,
+    of: PhantomData<H>,
 }
 
-impl<H: Handlers, T: TraceMap<H>> Model for Running<H, T> {
-    ghost use Rattle.xform_stack.specs.Running.{RunView};
+impl<H: Handlers, W: Network<H>, F: Observer<H, W>> Model for Running<H, W, F> {
+    ghost use Rattle.xform_stack.specs.RunViews.{RunView};
 
-    ghost Value = { RunView H H.State H.Input H.Output H.Msg T };
+    ghost Value = { RunView W F };
 
-    ghost view = { λ r. record { world = r.world; map = r.map } };
-
-    ghost use Rattle.std.specs.Prelude.{◌≡◌};
-
-    ghost invariant = { λ r. r.net ≡ r.world.net };
+    ghost view = { λ r. record { network = r.network; image = r.image } };
 }
 
-/// Follows a step that was taken, of which clients saw what stands after the first `before` items. After an `Err` the map is given up.
-pub fn follow_map<H: Handlers, T: TraceMap<H>>(
-    alloc: Global,
-    handlers: &H,
-    map: &mut T,
-    step: &Step<H::Input>,
-    items: &[Item<H::Input, H::Output>],
-    before: usize,
-) -> Result<(), AllocError>
-    requires { before ≤ length items.now }
-    ensures { OnOk result ((ss : List (Step H.Input)) → T.has_followed map.old (H.meaning handlers.now) ss
-        → drop before items.now ≡ items_of (H.meaning handlers.now) (run (H.meaning handlers.now) (no_recovery {S = H.State}) ss) step.now
-        → T.has_followed map.new (H.meaning handlers.now) (ss ++ step.now ∷ [])) }
-{
-    map.follow(alloc, handlers, step, &items[before..])
-}
-
-impl<H: Handlers, T: TraceMap<H>> Running<H, T> {
-    /// No step yet of these handlers, on a network that stops no node. Where a network has inputs alone there is one node.
-    pub fn new(alloc: Global, handlers: H, net: Net) -> Result<Self, AllocError>
-        requires net { IsTrue (stops_no_node net) }
-        requires alone { net ≡ Net.One → (H.meaning handlers).nodes ≡ 1 }
-        ensures handlers { IfOk result (λ running. running.world.handlers ≡ handlers) }
-        ensures net { IfOk result (λ running. running.world.net ≡ net) }
-        ensures started { IfOk result (λ running. HasFollowed (H.meaning handlers) T.has_followed running []) }
-        ensures trace { IfOk result (λ running. running.world.trace ≡ []) }
-        ensures taken { IfOk result (λ running. running.world.taken ≡ 0) }
-        ensures sound { IfOk result (λ running. IsSoundBy H.Handlers running.world) }
+impl<H: Handlers, W: Network<H>, F: Observer<H, W>> Running<H, W, F> {
+    /// No step yet on this network, which has taken none. It takes no memory.
+    pub fn new(alloc: Global, network: W) -> Self
+        requires started { HasTaken (W.system network) W.follows W.progress [] network }
+        requires trace { (W.progress network).trace ≡ [] }
+        requires sound { W.sound network }
+        requires fits { F.fits (W.within network) (W.system network) }
+        ensures network { result.network ≡ network }
+        ensures started { HasRun (⟦<Running<H, W, F> as Runs>⟧.played result) ⟦<Running<H, W, F> as Runs>⟧.follows
+            ⟦<Running<H, W, F> as Runs>⟧.progress [] [] result }
+        ensures sound { ⟦<Running<H, W, F> as Runs>⟧.sound result }
     {
-        let world = World::new(alloc, handlers, net)?;
-        Ok(Running {
+        Running {
             alloc,
-            net,
-            world,
-            map: T::start(alloc),
-        })
+            network,
+            image: F::start(alloc),
+            of: PhantomData,
+        }
+    }
+
+    /// The network so far.
+    pub fn network(&self) -> &W
+        ensures { result.now ≡ self.now.network }
+    {
+        &self.network
     }
 }
 
-impl<H: Handlers, T: TraceMap<H>> Runs for Running<H, T> {
-    type State = H::State;
-
-    type Kept = H::State;
-
+impl<H: Handlers, W: Network<H>, F: Observer<H, W>> Runs for Running<H, W, F> {
     type Input = H::Input;
 
     type Output = H::Output;
 
-    type Msg = H::Msg;
+    type Line = F::Line;
 
-    type Line = Step<H::Input>;
+    ghost played = { λ r. played_on (W.system r.network) (F.image_of (W.within r.network) (W.system r.network).recovery) };
 
-    ghost system = { λ r. system_of r.world.net (H.meaning r.world.handlers) (T.image_of (H.meaning r.world.handlers)) };
+    ghost progress = { λ r. W.progress r.network };
 
-    ghost progress = { λ r. record { trace = r.world.trace; taken = r.world.taken } };
+    ghost follows = { λ r ss. W.follows r.network ss
+        × F.has_followed r.image (W.within r.network) (W.system r.network).recovery ss };
 
-    ghost follows = { λ r ss. HasFollowed (H.meaning r.world.handlers) T.has_followed r ss };
+    ghost sound = { λ r. W.sound r.network × F.fits (W.within r.network) (W.system r.network) };
 
-    ghost sound = { λ r. IsSoundBy H.Handlers r.world };
-
-    fn step(&mut self, step: &Step<H::Input>) -> Result<(), RunFault> {
-        let place = self.world.taken();
-        let before = self.world.trace().items().len();
-        match self.world.step(step) {
-            Ok(()) => {}
-            Err(why) => return Err(fault_at(why, place)),
-        }
-        let items = self.world.trace().items();
-        let followed = follow_map(
-            self.alloc,
-            self.world.handlers(),
-            &mut self.map,
-            step,
-            items,
-            before,
-        );
-        let Ok(()) = followed else {
-            return Err(RunFault::Memory);
-        };
+    fn step(&mut self, step: &Step<H::Input>) -> Result<(), StepFault> {
+        let before = self.network.trace().items().len();
+        let look = self.image.look(&self.network, step);
+        self.network.step(step)?;
+        self.image
+            .follow(self.alloc, look, &self.network, step, before)?;
         Ok(())
     }
 
     fn trace(&self) -> &Trace<H::Input, H::Output> {
-        self.world.trace()
+        self.network.trace()
     }
 
     fn forget_trace(&mut self) {
-        self.world.forget_trace();
+        self.network.forget_trace();
     }
 
     fn taken(&self) -> u32 {
-        self.world.taken()
+        self.network.taken()
     }
 
-    fn image(&self) -> &[Step<H::Input>] {
-        self.map.steps()
+    fn finish(self) -> Result<Ran<H::Input, H::Output, F::Line>, AllocError> {
+        let image = self.image.finish(self.alloc)?;
+        Ok(Ran {
+            trace: self.network.into_trace(),
+            image,
+        })
     }
 
-    fn finish(self) -> Ran<H::Input, H::Output, Step<H::Input>> {
-        Ran {
-            trace: self.world.into_trace(),
-            image: self.map.into_image(),
-        }
-    }
-}
-
-impl<H: Handlers, T: TraceMap<H>> Explores for Running<H, T> {
-    fn net(&self) -> Net {
-        self.net
-    }
-
-    fn nodes(&self) -> u8 {
-        self.world.handlers().nodes()
-    }
-
-    fn takes_input(&self, n: Node) -> bool {
-        self.world.handlers().takes_input(n)
-    }
-
-    fn is_up(&self, n: Node) -> bool {
-        self.world.is_up(n)
-    }
-
-    fn sent(&self) -> u32 {
-        self.world.sent()
-    }
-
-    fn copies(&self, k: u32) -> u32 {
-        self.world.copies(k)
-    }
-
-    fn ends(&self, k: u32) -> Option<(Node, Node)> {
-        self.world.ends(k)
-    }
+    ghost causal = { λ r. played_on-causal (W.system r.network) (F.image_of (W.within r.network) (W.system r.network).recovery) };
 }

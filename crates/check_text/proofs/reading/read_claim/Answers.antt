@@ -42,7 +42,7 @@ returns-in-Some-clause-told g c = if_some _ _ (λ bytes has.
     let s = inv.told bytes has in
     let reads = c.in-Ok.ensures.told s.uses.rest' s.uses.left in
     let takes = rw (c.in-Some.is, c.line.ensures) at c.in_ok-why.ensures.takes in
-    rw c.refuse.ensures (line-refused f c.loop-fault.reader c.next_line.new.reader c.loop-fault.draft c.take_line.new.draft (g.S.Source.left c.loop-fault.source) (g.S.Source.left c.next_line.new.source) bytes s
+    rw c.number.ensures (line-refused f c.loop-fault.reader c.next_line.new.reader c.loop-fault.draft c.take_line.new.draft (g.S.Source.left c.loop-fault.source) (g.S.Source.left c.next_line.new.source) bytes s
     reads.0 reads.1 reads.3 reads.4 (c.next_line.ensures.kept.0 ∙ inv.most) c.in-Some.why takes))
 
 pub loop-fault-preserved : goal.loop-fault-preserved
@@ -76,5 +76,5 @@ returns-in-Some-clause-ahead g c = if_some _ _ (λ bytes has.
     let f = form_of c.args.nodes g.A.AppText.input_of g.A.AppText.output_of c.args.below g.G.ImageText.says in
     let s = c.loop-fault.invariant.told bytes has in
     let reads = c.in-Ok.ensures.told s.uses.rest' s.uses.left in
-    rw c.refuse.ensures (ahead-refused f c.loop-fault.reader c.next_line.new.reader c.loop-fault.draft c.take_line.new.draft (g.S.Source.left c.loop-fault.source) (g.S.Source.left c.next_line.new.source) bytes s
+    rw c.number.ensures (ahead-refused f c.loop-fault.reader c.next_line.new.reader c.loop-fault.draft c.take_line.new.draft (g.S.Source.left c.loop-fault.source) (g.S.Source.left c.next_line.new.source) bytes s
     c.in-Some.why reads.2))

@@ -1,4 +1,4 @@
-use Rattle.std.proofs.Common.{◌+◌, ◌++◌, ap, ◌∙◌, arith, drop, map}
+use Rattle.std.proofs.Common.{◌++◌, ap, ◌∙◌, arith, drop, map}
 use Rattle.std.proofs.lemmas.List.{drop-map}
 use Rattle.claim_verdicts.specs.Places.{first_difference}
 use Rattle.claim_verdicts.proofs.Comparing.{lines-same}

@@ -5,7 +5,7 @@ use Rattle.std.specs.Fmt.{digits}
 use Rattle.line_reader.specs.declared.why.Why.{Why}
 use Rattle.line_reader.specs.declared.why.Why.TheVariants as why
 use Rattle.schedule_text.specs.Printing.{refusal_line}
-use Rattle.text_commands.specs.Examples.{quiet_run}
+use Rattle.commands.specs.Examples.{quiet_run}
 use Rattle.drawn_schedules.specs.Endings.{EndsAs}
 use Rattle.drawn_schedules.specs.Examples.{refused_text}
 use Rattle.drawn_schedules.proofs.examples.worked_endings.Goals as goal

@@ -1,6 +1,6 @@
 use Rattle.std.proofs.Common.{◌≡◌, ℕ, zero, suc, false, [], ◌∷◌, drop, refl, sym, ◌∙◌, arith}
 use Rattle.std.proofs.lemmas.Bool.{le-ltb}
-use Rattle.line_reader.specs.Cuts.{has_cut, LastEnds}
+use Rattle.line_reader.specs.Lines.{has_cut, LastEnds}
 use Rattle.line_reader.proofs.examples.worked_ends.Goals as goal
 
 -- past the last byte there is none

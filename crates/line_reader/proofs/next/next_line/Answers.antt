@@ -1,7 +1,7 @@
 use Rattle.std.proofs.Common.{◌≡◌, ◌≢◌, ◌==◌, ◌<◌, ◌∷◌, ◌++◌, ℕ, List, [], Option, None, Some, is_some, Result, Ok, Err, OnOk, true, false, length, refl, ap, ◌∙◌, sym, arith}
 use Rattle.std.proofs.lemmas.Result.{err_from_is_err_and}
 use Rattle.std.proofs.lemmas.Bool.Decides.{nat_tests}
-use Rattle.line_reader.specs.Cuts.{cut_at}
+use Rattle.line_reader.specs.Lines.{cut_at}
 use Rattle.line_reader.specs.Readers.{ReaderView}
 use Rattle.line_reader.specs.Outcomes.{EndsLine}
 use Rattle.line_reader.specs.declared.read_fault.ReadFault.{ReadFault}

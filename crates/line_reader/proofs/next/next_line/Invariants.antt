@@ -1,5 +1,5 @@
 use Rattle.std.proofs.Common.{◌≡◌, ◌-◌, ◌≤◌, ℕ, List, [], length, None, Some}
-use Rattle.line_reader.specs.Cuts.{cut_at}
+use Rattle.line_reader.specs.Lines.{cut_at}
 use Rattle.line_reader.specs.Readers.{HasRest}
 use Rattle.line_reader.proofs.Taking.{Begun}
 use Rattle.line_reader.proofs.next.next_line.Given as goal

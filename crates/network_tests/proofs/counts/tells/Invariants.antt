@@ -3,8 +3,8 @@ use Rattle.network_tests.proofs.counts.tells.Given as goal
 
 abbrev pub invariant-loop-step : goal.invariant-loop-step
 invariant-loop-step g l =
-    let r = g.R.Runs in
+    let w = g.W.Network in
     record {
-      sound : r.sound l.running;
-      taken : (r.progress l.running).taken ≡ (r.progress l.fn.running).taken + l.step-index;
+      sound : w.sound l.network;
+      taken : (w.progress l.network).taken ≡ (w.progress l.fn.network).taken + l.step-index;
     }

@@ -4,7 +4,7 @@ use Rattle.disk.specs.Acts.{Act, StoreFailed, Sync, Wrote}
 use Rattle.disk.specs.Disk.{Image, contents, may_leave}
 use Rattle.disk.specs.DiskLaws.{IsCutShort}
 use Rattle.disk.proofs.CutShort.{fronts_are_cut_short}
-use Rattle.raft_types.specs.Keeping.{KeptView}
+use Rattle.raft_types.specs.Messages.{KeptView}
 use Rattle.slots.specs.Opening.{OpensAs}
 use Rattle.vst_base.specs.declared.stack.StackId.TheVariants as stack
 use Rattle.wire_fields.specs.Bytes.{has_bytes, number_bytes, number_in, read_number}

@@ -2,8 +2,7 @@ use Rattle.std.proofs.Common.{◌≡◌, true, false, [], ◌++◌, Some, ap, sy
 use Rattle.std.specs.FinMap.{get}
 use Rattle.raft_clients.proofs.Found.{found_kept, found_noop, found_passed}
 use Rattle.raft_clients.proofs.Known.{Knows, knows_none}
-use Rattle.raft_clients.specs.Executed.{executed_places}
-use Rattle.raft_clients.specs.Requests.{asked_by, request_of}
+use Rattle.raft_clients.specs.Executed.{executed_places, asked_by, request_of}
 use Rattle.raft_clients.specs.Sessions.{is_new}
 use Rattle.raft_types.specs.declared.client.RaftInput.{RaftInput}
 use Rattle.raft_clients.proofs.places.executed.Goals as goal

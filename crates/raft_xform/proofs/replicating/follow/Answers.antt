@@ -1,6 +1,6 @@
 use Rattle.std.proofs.Common.{◌≡◌, ap, ◌≤◌, length, rules, arith, refl, subst, sym, true, false, ltb}
 use Rattle.std.proofs.lemmas.Bool.{le-ltb}
-use Rattle.vst_base.specs.Committing.{learned_commit}
+use Rattle.vst_base.specs.Elections.{learned_commit}
 use Rattle.vst_base.specs.Logs.{accepted, has_conflict, matches}
 use Rattle.raft_xform.specs.Nodes.{RaftView, is_leader}
 use Rattle.raft_xform.specs.Replicating.{follower, last_new, may_take, taken}

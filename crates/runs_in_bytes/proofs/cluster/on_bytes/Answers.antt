@@ -9,7 +9,9 @@ returns-clause-own g c =
     let made = c.new-2.ensures in
     let within = ap (λ w. w.inner) made ∙ c.new-nodes.ensures in
     record {
-      size = rw (ap (λ w. w.inner) within ∙ c.new.ensures) c.requires;
+      packets = c.requires.packets;
+      format = c.requires.format;
+      size = rw (ap (λ w. w.inner) within ∙ c.new.ensures) c.requires.size;
       stack = ap (λ w. w.stack) made ∙ c.stack.ensures;
       same_name = ap (λ w. w.name) within ∙ sym (ap (λ w. w.name) made);
       named = ap (λ w. w.name) made ∙ c.no_name-name.ensures;

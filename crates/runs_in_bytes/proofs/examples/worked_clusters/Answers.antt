@@ -1,8 +1,30 @@
-use Rattle.std.proofs.Common.{◌≡◌, ◌≤◌, ℕ, get_or, refl, ap, arith}
+use Rattle.std.proofs.Common.{◌≡◌, ◌≤◌, ◌∷◌, [], ℕ, false, get_or, refl, ap, arith}
+use Rattle.wire_codec.specs.Bodies.{is_spelling}
+use Rattle.wire_fields.specs.Bytes.{has_bytes, read_number}
+use Rattle.wire_messages.specs.KvBytes.{kv_command}
+use Rattle.wire_messages.specs.RaftBytes.{raft_message}
 use Rattle.runs_in_bytes.proofs.examples.worked_clusters.Goals as goal
 
+-- one byte is no message of a cluster: its term alone has eight
+too_short_for_a_term : is_spelling (raft_message kv_command) (1 ∷ []) ≡ false
+unfolding has_bytes read_number
+too_short_for_a_term = refl
+
 pub returns-clause-own : goal.returns-clause-own
-returns-clause-own c = record { size = (omega arith, omega arith); stack = refl; same_name = refl; named = refl }
+returns-clause-own c = record {
+  packets = tt;
+  format = λ bytes. refl;
+  size = (omega arith, omega arith);
+  stack = refl;
+  same_name = refl;
+  named = refl;
+}
+
+pub returns-clause-not_of_another_format : goal.returns-clause-not_of_another_format
+returns-clause-not_of_another_format c = λ h. cc (h.format (1 ∷ []), too_short_for_a_term)
+
+pub returns-clause-not_of_no_packets : goal.returns-clause-not_of_no_packets
+returns-clause-not_of_no_packets c = λ h. absurd h.packets
 
 pub returns-clause-not_of_another_stack : goal.returns-clause-not_of_another_stack
 returns-clause-not_of_another_stack c = λ h. cc (h.stack)

@@ -1,4 +1,4 @@
-use Rattle.std.proofs.Common.{◌≡◌, ℕ, [], ◌∷◌, length-append, refl, arith}
+use Rattle.std.proofs.Common.{◌≡◌, ℕ, [], ◌∷◌, refl, arith}
 use Rattle.net_semantics.specs.Echo.{echo_after}
 use Rattle.vst_base.specs.declared.step.Step.TheVariants as step
 use Rattle.runs_in_bytes.proofs.examples.worked_worlds.Goals as goal
@@ -18,9 +18,3 @@ returns-clause-not_of_another_node c = λ h. let e : ◌≡◌ {A = ℕ} 3 2 = h
 
 pub returns-clause-not_without_packets : goal.returns-clause-not_without_packets
 returns-clause-not_without_packets c = λ h. let e : ◌≡◌ {A = ℕ} 0 1 = h.sent (echo_after (step.In 1 5 ∷ [])) in omega (arith, e)
-
-pub returns-clause-follows : goal.returns-clause-follows
-returns-clause-follows c = λ ss s allowed shows followed. omega (arith, length-append ss (s ∷ []), followed)
-
-pub returns-clause-not_two_at_once : goal.returns-clause-not_two_at_once
-returns-clause-not_two_at_once c = λ h. let e : ◌≡◌ {A = ℕ} 2 1 = h [] (step.Tick 0) refl refl refl in omega (arith, e)

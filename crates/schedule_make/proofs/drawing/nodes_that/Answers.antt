@@ -1,6 +1,6 @@
 use Rattle.std.proofs.Common.{◌++◌, ◌∷◌, [], Bool, true, false, ℕ, sym, ap, ◌∙◌, append-nil}
 use Rattle.std.specs.List.{filter, range_with_len}
-use Rattle.xform_stack.specs.Running.{world_of}
+use Rattle.xform_stack.specs.Systems.{world_of}
 use Rattle.schedule_make.specs.Candidates.{may_act}
 use Rattle.schedule_make.proofs.Chosen.{filter-next}
 use Rattle.schedule_make.proofs.drawing.nodes_that.Goals as goal
@@ -9,7 +9,7 @@ use Rattle.schedule_make.proofs.drawing.nodes_that.Goals.{in-Some+then-may_act+i
 pub loop-n-preserved : goal.loop-n-preserved
 loop-n-preserved g c =
     λ ss follows.
-    let sys = g.R.Runs.system c.args.running.now in
+    let sys = g.W.Network.system c.args.network.now in
     let p : ℕ → Bool = may_act sys.meaning (world_of sys ss) c.args.kind in
     let before = c.loop-n.invariant ss follows in
     let found = filter p (range_with_len 0 c.loop-n.n) in

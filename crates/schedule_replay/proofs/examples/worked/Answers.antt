@@ -4,13 +4,11 @@ use Rattle.std.specs.Cmp.Lexicographic.{nat_list_cmp_total}
 use Rattle.std.specs.Cmp.{nat_cmp_total}
 use Rattle.std.specs.FinMap.{get-empty, get-insert, get-remove}
 use Rattle.std.specs.Fmt.{digits}
-use Rattle.kv_machine.specs.Kv.{kv}
-use Rattle.lock_server.specs.Locks.{lock_server}
 use Rattle.kv_machine.specs.declared.cmd.KvCmd.{KvCmd}
 use Rattle.kv_machine.specs.declared.cmd.KvCmd.TheVariants as cmd
 use Rattle.kv_machine.specs.declared.out.KvOut.{KvOut}
 use Rattle.net_semantics.specs.BelowPb.{below_pb}
-use Rattle.trace_maps.specs.Replying.{alone}
+use Rattle.trace_maps.specs.SingleNode.{alone}
 use Rattle.vst_base.specs.declared.pb_out.PbOut.{PbOut}
 use Rattle.vst_base.specs.declared.pb_out.PbOut.TheVariants as pb
 use Rattle.vst_base.specs.declared.step.Item.{Item}
@@ -18,15 +16,14 @@ use Rattle.vst_base.specs.declared.lock.LockInput.{LockInput}
 use Rattle.vst_base.specs.declared.lock.LockInput.TheVariants as ask
 use Rattle.vst_base.specs.declared.lock.LockOutput.{LockOutput}
 use Rattle.vst_base.specs.declared.lock.LockOutput.TheVariants as told
-use Rattle.vst_base.specs.declared.stack.StackId.TheVariants as stack
 use Rattle.vst_base.specs.declared.step.Item.TheVariants as item
 use Rattle.vst_base.specs.declared.step.Step.TheVariants as step
 use Rattle.schedule_text.specs.Schedules.{Script}
-use Rattle.schedule_replay.specs.Replaying.{steps_of}
-use Rattle.schedule_make.specs.Inputs.{kv_input, lock_input}
-use Rattle.stacks.specs.Kinds.{backed_numbered, by_itself, numbered}
-use Rattle.stacks.specs.Stack.{Play}
-use Rattle.stacks.specs.Table.{kv_texts, lock_texts}
+use Rattle.schedule_replay.specs.Explained.{steps_of}
+use Rattle.transformers.specs.Numbering.{numbering}
+use Rattle.stacks.specs.Kinds.{Alone, Backed, Own, Through, service, service_play}
+use Rattle.stacks.specs.Plays.{Play}
+use Rattle.stacks.specs.Table.{locks, store}
 use Rattle.vst_base.specs.declared.step.Step.{Step}
 use Rattle.schedule_replay.proofs.Wholly.{whole-out, whole-out-by}
 use Rattle.number_set.specs.NumberSetLaws.{set_tests}
@@ -81,7 +78,7 @@ copied_script = record {
 }
 
 abbrev copied_stack : Play LockInput LockOutput (Step LockInput)
-copied_stack = (numbered stack.Lock lock_server lock_texts lock_input 2).stack.play
+copied_stack = service_play (service (Through numbering (Own locks))) 2
 
 copied-allowed : copied_stack.refused (steps_of copied_script) ≡ None
 copied-allowed = refl
@@ -93,9 +90,28 @@ pub returns-clause-copied : goal.returns-clause-copied
 unfolding digits
 returns-clause-copied c = whole-out copied_stack copied_script refl copied-allowed (item.Input 1 ask.Lock ∷ item.Output 1 told.Locked ∷ []) copied-trace
 
+-- a packet that was sent later is delivered first
+abbrev late_script : Script LockInput
+late_script = record {
+  steps =
+      (2, step.In 1 ask.Lock) ∷ (3, step.In 1 ask.Lock) ∷ (4, step.Deliver 1) ∷ (5, step.Deliver 0) ∷ (6, step.Deliver 2) ∷ (7, step.In 1 ask.Unlock)
+      ∷ (8, step.Deliver 3) ∷ (9, step.Deliver 4) ∷ [];
+  fault = None;
+}
+
+late-allowed : copied_stack.refused (steps_of late_script) ≡ None
+late-allowed = simp set_tests
+
+abbrev late_items : List (Item LockInput LockOutput)
+late_items =
+    item.Input 1 ask.Lock ∷ item.Input 1 ask.Lock ∷ item.Output 1 told.Locked ∷ item.Input 1 ask.Unlock ∷ item.Output 1 told.Locked ∷ []
+
+late-trace : copied_stack.trace (steps_of late_script) ≡ late_items
+late-trace = simp set_tests
+
 pub returns-clause-late_first_delivery : goal.returns-clause-late_first_delivery
 unfolding digits
-returns-clause-late_first_delivery c = simp set_tests
+returns-clause-late_first_delivery c = whole-out copied_stack late_script refl late-allowed late_items late-trace
 
 pub returns-clause-equal_numbers : goal.returns-clause-equal_numbers
 unfolding digits
@@ -111,7 +127,7 @@ acked_script = record {
 }
 
 abbrev acked_stack : Play KvCmd (PbOut KvOut) (Step KvCmd)
-acked_stack = (backed_numbered stack.Kv kv kv_texts kv_input).stack.play
+acked_stack = service_play (service (Through numbering (Backed store))) 2
 
 acked-allowed : acked_stack.refused (steps_of acked_script) ≡ None
 acked-allowed = refl
@@ -139,7 +155,7 @@ alone_script = record {
 }
 
 abbrev alone_stack : Play KvCmd KvOut (Step KvCmd)
-alone_stack = (by_itself stack.Kv kv kv_texts kv_input).stack.play
+alone_stack = service_play (service (Alone store)) 1
 
 alone-allowed : alone_stack.refused (steps_of alone_script) ≡ None
 alone-allowed = refl

@@ -1,9 +1,9 @@
 use Rattle.std.proofs.Common.{◌≡◌, ◌∙◌, ℕ, true, List, None, ap, refl, sym}
 use Rattle.line_reader.specs.Lines.{lines_of}
 use Rattle.schedule_text.specs.Schedules.{Opening, Opened, RefusedAt, EndedAt, opening}
-use Rattle.schedule_replay.specs.Explained.{IsReplay}
-use Rattle.schedule_replay.specs.Replays.{most_lines, replayed_opening}
-use Rattle.stacks.specs.Table.{stack_at}
+use Rattle.schedule_replay.specs.Explained.{IsReplay, most_lines}
+use Rattle.schedule_replay.specs.Replays.{replayed_opening}
+use Rattle.stacks.specs.Table.{plays_at}
 use Rattle.schedule_replay.proofs.Explained.{found-replays, found-written, header-good}
 use Rattle.schedule_replay.proofs.laws.replays_are_explained.Goals as goal
 
@@ -13,7 +13,7 @@ by-opening c bytes (Opened h number ls) is e = record {
   number = number;
   lines = ls;
   opens = is;
-  replayed = found-replays h.nodes number ls (stack_at h.net h.stack) (c.stacks_explain.ensures h (header-good most_lines 1 (lines_of bytes) h number ls is)) e;
+  replayed = found-replays number ls (plays_at h) (c.stacks_explain.ensures h (header-good most_lines 1 (lines_of bytes) h number ls is)) e;
 }
 by-opening c bytes (RefusedAt number w) is e = cc
 by-opening c bytes (EndedAt number) is e = cc
@@ -23,5 +23,5 @@ returns-clause-explained c = λ bytes e. by-opening c bytes (opening most_lines 
 
 pub returns-clause-nothing_else : goal.returns-clause-nothing_else
 returns-clause-nothing_else c = λ bytes text by.
-    let both = found-written by.header.nodes by.number by.lines (stack_at by.header.net by.header.stack) text by.replayed in
+    let both = found-written by.number by.lines (plays_at by.header) text by.replayed in
     (ap (λ (o : Opening). (replayed_opening true o).refused) by.opens ∙ both.0, both.1 ∙ sym (ap (λ (o : Opening). (replayed_opening true o).out) by.opens))

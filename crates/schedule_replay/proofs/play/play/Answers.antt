@@ -3,19 +3,20 @@ use Rattle.std.proofs.lemmas.Result.{err_from_is_err_and}
 use Rattle.vst_base.specs.declared.step.Step.{Step}
 use Rattle.vst_base.specs.declared.step.Item.{Item}
 use Rattle.line_reader.specs.Readers.{ReaderView, HasRest}
-use Rattle.schedule_text.specs.Lines.{tells_next}
+use Rattle.schedule_text.specs.Reading.{tells_next}
 use Rattle.schedule_text.specs.Streams.{StepIsNear}
 use Rattle.xform_stack.specs.Running.{HasRun, Progress}
-use Rattle.stacks.specs.Stack.{ImageTexts, Texts, play_of, texts_of}
+use Rattle.xform_stack.specs.SystemLaws.{IsCausal}
+use Rattle.stacks.specs.Plays.{ImageTexts, Texts, play_of, texts_of}
 use Rattle.schedule_replay.specs.Outcomes.{KeptUp}
-use Rattle.schedule_replay.specs.Replays.{stack_so_far}
+use Rattle.schedule_replay.specs.Rests.{stack_so_far}
 use Rattle.schedule_replay.specs.Playing.{TookStep, is_failed_read}
 use Rattle.schedule_replay.specs.declared.halt.Halt.{Halt}
 use Rattle.schedule_replay.specs.declared.halt.Halt.TheVariants as halt
 use Rattle.schedule_replay.specs.declared.tally.Tally.{Tally}
 use Rattle.schedule_replay.proofs.Counting.{all-written, as-many, has-room, of-before-reading, of-step}
 use Rattle.schedule_replay.proofs.Keeping.{kept-before-reading, kept-front, kept-more, kept-start, kept-step}
-use Rattle.schedule_replay.proofs.Plays.{Played, Standing, played-start, played-before-reading, played-more, played-halts}
+use Rattle.schedule_replay.proofs.Plays.{HasPlayed, Standing, played-start, played-before-reading, played-more, played-halts}
 use Rattle.schedule_replay.proofs.Plays.{played-front, playing-front, writes-nothing}
 use Rattle.schedule_replay.proofs.play.play.Given as given
 use Rattle.schedule_replay.proofs.play.play.Goals as goal
@@ -30,6 +31,10 @@ abbrev standing : (g : given.Over) → g.row.R.Denot → Tally → ReaderView �
 standing g running tally reader source sink =
     record { running = running; tally = tally; reader = reader; left = g.S.Source.left source; written = g.K.Sink.written sink }
 
+-- whatever steps follow
+causal : (g : given.Over) (running : g.row.R.Denot) → IsCausal (g.R.Runs.played running)
+causal g running = g.met.R.Runs.causal running
+
 only-read : (x : Halt) → is_failed_read x ≡ true → x ≡ halt.Read
 only-read halt.End e = cc
 only-read halt.Read e = refl
@@ -39,15 +44,16 @@ pub loop-running-init : goal.loop-running-init
 loop-running-init g c =
     let now = g.R.Runs.progress c.args.running.now in
     let taken : now.taken ≡ 0 = c.requires.started.counted in
-    let none : now.trace ≡ [] = c.requires.started.traced in
+    let nothing = (causal g c.args.running.now).nothing in
+    let none : now.trace ≡ [] = c.requires.started.traced ∙ nothing in
     record {
-      system = refl;
+      same = refl;
       sound = c.requires.sound;
       most = refl;
       counted = omega (arith, taken);
       within = omega (arith, taken);
       played = played-start c.requires.started c.requires.tally;
-      kept = λ few i rest has. kept-start (g.R.Runs.system c.args.running.now) (texts g) i c.args.reader.now (g.S.Source.left c.args.source.now)
+      kept = λ few i rest has. kept-start (g.R.Runs.played c.args.running.now) c.requires.started.allowed nothing (texts g) i c.args.reader.now (g.S.Source.left c.args.source.now)
           (g.K.Sink.written c.args.sink.now) rest has few;
       few = rw (none, c.requires.tally) (record { inputs = omega arith; outputs = omega arith; replies = omega arith });
       stays = λ is. is;
@@ -63,11 +69,11 @@ pub returns-in_err-write_before_reading-clause-front : goal.returns-in_err-write
 returns-in_err-write_before_reading-clause-front g c =
     let p = err_from_is_err_and c.from_residual.result c.from_residual.ensures.1 in
     let written = g.K.Sink.written c.write_before_reading.new.sink in
-    rw p.1 (λ i rest has. playing-front c.loop-running.invariant.played i rest has written c.in_err-write_before_reading.ensures.err)
+    rw p.1 (λ i rest has. playing-front c.loop-running.invariant.played (causal g c.args.running.now) i rest has written c.in_err-write_before_reading.ensures.err)
 
 -- what was played once all was written that has to be before reading
 begun : (g : given.Over) (c : In_ok-write_before_reading g)
-    → Played (g.R.Runs.system c.args.running.now) g.R.Runs.follows g.R.Runs.progress (texts g)
+    → HasPlayed (g.R.Runs.played c.args.running.now) g.R.Runs.follows g.R.Runs.progress (texts g)
     (standing g c.args.running.now c.args.tally.now c.args.reader.now c.args.source.now c.args.sink.now)
     (standing g c.write_before_reading.new.running c.write_before_reading.new.tally c.loop-running.reader c.loop-running.source
     c.write_before_reading.new.sink)
@@ -77,7 +83,7 @@ begun g c = played-before-reading c.loop-running.invariant.played c.in_ok-write_
 abbrev KeepsUp : (g : given.Over) (reader : ReaderView) (source source' : g.row.S.Denot) (sink sink' : g.row.K.Denot) (running : g.row.R.Denot) → Type 0
 KeepsUp g reader source source' sink sink' running =
     (i : ImageTexts g.row.R-Line.Denot) (rest : List ℕ) → HasRest reader (g.S.Source.left source) rest
-    → KeptUp (stack_so_far (play_of (g.R.Runs.system running) (texts g) i) reader) rest (g.S.Source.left source') (g.K.Sink.written sink) (g.K.Sink.written sink')
+    → KeptUp (stack_so_far (play_of (g.R.Runs.played running) (texts g) i) reader) rest (g.S.Source.left source') (g.K.Sink.written sink) (g.K.Sink.written sink')
 
 kept-before : (g : given.Over) (c : In_ok-write_before_reading g)
     → KeepsUp g c.args.reader.now c.args.source.now c.loop-running.source c.args.sink.now c.write_before_reading.new.sink c.args.running.now
@@ -132,18 +138,18 @@ pub returns-in_err-halt-clause-front : goal.returns-in_err-halt-clause-front
 returns-in_err-halt-clause-front g c =
     let p = err_from_is_err_and c.from_residual-in_err-halt.result c.from_residual-in_err-halt.ensures.1 in
     let here = goal.at.returns-in_err-halt-clause-front g c in
-    rw p.1 (λ i rest has. played-front (begun g here.In_ok-write_before_reading) i rest has)
+    rw p.1 (λ i rest has. played-front (begun g here.In_ok-write_before_reading) (causal g c.args.running.now) i rest has)
 
 -- what reading and taking a step came to, after any steps
 took : (g : given.Over) (c : In_ok-halt g) {ss : List (Step g.row.R-Input.Denot)}
     {gone : List (Item g.row.R-Input.Denot g.row.R-Output.Denot)}
-    → HasRun (g.R.Runs.system c.args.running.now) g.R.Runs.follows g.R.Runs.progress ss gone c.write_before_reading.new.running
-    → TookStep (g.R.Runs.system c.args.running.now) g.R.Runs.follows g.R.Runs.progress g.A.AppText.input_of c.take_step.new.running ss gone
+    → HasRun (g.R.Runs.played c.args.running.now) g.R.Runs.follows g.R.Runs.progress ss gone c.write_before_reading.new.running
+    → TookStep (g.R.Runs.played c.args.running.now) g.R.Runs.follows g.R.Runs.progress g.A.AppText.input_of c.take_step.new.running ss gone
     c.loop-running.reader c.take_step.new.reader (g.S.Source.left c.loop-running.source) (g.S.Source.left c.take_step.new.source)
     c.in_ok-halt.field-0
 took g c {ss} {gone} ran =
-    let system = c.in_ok-write_before_reading.ensures.system ∙ c.loop-running.invariant.system in
-    (rw system at c.in_ok-halt.ensures.took) ss gone ran
+    let same = c.in_ok-write_before_reading.ensures.played ∙ c.loop-running.invariant.same in
+    (rw same at c.in_ok-halt.ensures.took) ss gone ran
 
 -- where the steps end nothing was taken
 unchanged : (g : given.Over) (c : In-Some g) → c.take_step.new.running ≡ c.write_before_reading.new.running
@@ -163,13 +169,13 @@ returns-in_err-write_trace-clause-front g c =
     let same = unchanged g here.In-Some in
     let written = g.K.Sink.written c.write_trace.new.sink in
     let err = rw same at c.in_err-write_trace.ensures.err in
-    rw p.1 (λ i rest has. playing-front (begun g here.In_ok-write_before_reading) i rest has written err)
+    rw p.1 (λ i rest has. playing-front (begun g here.In_ok-write_before_reading) (causal g c.args.running.now) i rest has written err)
 
 pub returns-in_ok-write_trace-clause-halted : goal.returns-in_ok-write_trace-clause-halted
 returns-in_ok-write_trace-clause-halted g c =
     let here = goal.at.returns-in_ok-write_trace-clause-halted g c in
     let p = begun g here.In_ok-write_before_reading in
-    λ i. played-halts p i (rw c.in-Some.is at (took g here.In_ok-halt p.ran)) c.in_ok-write_trace.ensures.ok
+    λ i. played-halts p (causal g c.args.running.now) i (rw c.in-Some.is at (took g here.In_ok-halt p.ran)) c.in_ok-write_trace.ensures.ok
 
 pub returns-else-not-is_failed_read-clause-halted : goal.returns-else-not-is_failed_read-clause-halted
 returns-else-not-is_failed_read-clause-halted g c =
@@ -179,7 +185,7 @@ returns-else-not-is_failed_read-clause-halted g c =
     let answered = c.in_ok-halt.was ∙ ap Ok (c.in-Some.is ∙ ap (λ x. Some x) failed) in
     let all = all-written c.in_ok-write_before_reading.ensures.ok (λ is. c.take_step.ensures.ahead is answered) in
     let none = ap (λ (x : g.row.R.Denot). (g.R.Runs.progress x).trace) (unchanged g here.In-Some) ∙ all in
-    λ i. played-halts p i (rw c.in-Some.is at (took g here.In_ok-halt p.ran)) (writes-nothing none)
+    λ i. played-halts p (causal g c.args.running.now) i (rw c.in-Some.is at (took g here.In_ok-halt p.ran)) (writes-nothing none)
 
 pub loop-running-preserved : goal.loop-running-preserved
 loop-running-preserved g c =
@@ -192,7 +198,7 @@ loop-running-preserved g c =
     let taken = c.take_step.ensures.taken none in
     let many = as-many before.ok in
     record {
-      system = c.take_step.ensures.system ∙ before.system ∙ inv.system;
+      same = c.take_step.ensures.played ∙ before.played ∙ inv.same;
       sound = c.in_ok-halt.ensures.sound;
       most = c.take_step.ensures.most ∙ inv.most;
       counted = omega (arith, events, taken, many, inv.counted);

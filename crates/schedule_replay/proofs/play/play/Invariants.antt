@@ -1,11 +1,11 @@
 use Rattle.std.proofs.Common.{◌≡◌, ◌-◌, ◌≤◌, ℕ, List, length, true}
 use Rattle.vst_base.specs.declared.step.TheConstants.{MAX_STEPS}
-use Rattle.stacks.specs.Stack.{ImageTexts, play_of, texts_of}
+use Rattle.stacks.specs.Plays.{ImageTexts, play_of, texts_of}
 use Rattle.line_reader.specs.Readers.{HasRest}
 use Rattle.schedule_replay.specs.Outcomes.{KeptUp}
-use Rattle.schedule_replay.specs.Replays.{stack_so_far}
+use Rattle.schedule_replay.specs.Rests.{stack_so_far}
 use Rattle.schedule_replay.specs.Tallying.{IsOfSteps}
-use Rattle.schedule_replay.proofs.Plays.{Played}
+use Rattle.schedule_replay.proofs.Plays.{HasPlayed}
 use Rattle.schedule_replay.proofs.play.play.Given as goal
 
 -- some steps were taken, and what is left of the text goes on from them
@@ -17,16 +17,16 @@ invariant-loop-running g l =
     let written = g.K.Sink.written in
     let fn = l.fn in
     record {
-      system : r.system l.running ≡ r.system l.fn.running;
+      same : r.played l.running ≡ r.played l.fn.running;
       sound : r.sound l.running;
       most : l.reader.most ≡ l.fn.reader.most;
       counted : (r.progress l.running).taken ≤ l.reader.events;
       within : (r.progress l.running).taken ≤ MAX_STEPS;
-      played : Played (r.system l.fn.running) r.follows r.progress (texts_of a.input_of a.input_text a.output_of a.output_text a.replies)
+      played : HasPlayed (r.played l.fn.running) r.follows r.progress (texts_of a.input_of a.input_text a.output_of a.output_text a.replies)
           (record { running = fn.running; tally = fn.tally; reader = fn.reader; left = left fn.source; written = written fn.sink })
           (record { running = l.running; tally = l.tally; reader = l.reader; left = left l.source; written = written l.sink });
       kept : length l.reader.ahead ≤ 4096 → (i : ImageTexts g.row.R-Line.Denot) (rest : List ℕ) → HasRest fn.reader (left fn.source) rest
-          → KeptUp (stack_so_far (play_of (r.system fn.running) (texts_of a.input_of a.input_text a.output_of a.output_text a.replies) i) fn.reader) rest
+          → KeptUp (stack_so_far (play_of (r.played fn.running) (texts_of a.input_of a.input_text a.output_of a.output_text a.replies) i) fn.reader) rest
           (left l.source) (written fn.sink) (written l.sink);
       few : IsOfSteps (r.progress l.running).taken (length (r.progress l.running).trace) l.tally;
       stays : l.fn.reader.ended ≡ true → l.reader.ended ≡ true;

@@ -2,8 +2,11 @@ use Rattle.std.proofs.Common.{Ok, Err, ap, ◌∙◌, subst}
 use Rattle.line_reader.specs.Readers.{ReaderView}
 use Rattle.schedule_text.specs.Streams.{HeaderIsNear, ReadsHeader}
 use Rattle.schedule_text.specs.HeaderLaws.{header_of-row}
-use Rattle.stacks.specs.Table.{stack_at}
-use Rattle.stacks.proofs.Found.{weaker-found}
+use Rattle.vst_base.specs.Stacks.{row_of}
+use Rattle.stacks.specs.Fits.{IsFit}
+use Rattle.stacks.specs.Stack.{stack}
+use Rattle.stacks.specs.Table.{kind_at}
+use Rattle.stacks.proofs.Found.{mapped-found, weaker-found}
 use Rattle.schedule_replay.proofs.Openings.{found-comes, header-comes, header-then, fresh-rest, going-of, kept-all, kept-header, kept-unread}
 use Rattle.schedule_replay.proofs.stream.replay.Goals as goal
 use Rattle.lists.specs.Options.{if_some}
@@ -12,7 +15,9 @@ pub on_stack-requires : goal.on_stack-requires
 on_stack-requires g c =
     let h = c.in-Ok.header in
     let known = header_of-row c.read_header.new.reader.line h c.in-Ok.ensures.header in
-    record { known = known; ready = weaker-found (stack_at h.net h.stack) _ _ (λ e row. tt) (c.headers_have_stacks.ensures h known) }
+    let kind = kind_at h.net h.stack in
+    let there = weaker-found kind (IsFit (row_of h.stack)) (λ _. Unit {0}) (λ k fit. tt) (c.headers_have_stacks.ensures h known) in
+    record { known = known; ready = mapped-found kind (λ k. stack k h.nodes) (λ _. Unit {0}) there }
 
 pub returns-in-Err-clause-told : goal.returns-in-Err-clause-told
 returns-in-Err-clause-told g c =
@@ -37,7 +42,7 @@ returns-clause-told g c =
     let r = c.in_ok-reader.reader in
     let h = c.in-Ok.header in
     let is = c.in_ok-reader.ensures in
-    let rests = found-comes (stack_at h.net h.stack) h.nodes new mid left' out out' _ _ _ _ _ _ c.on_stack.result c.on_stack.ensures in
+    let rests = found-comes h new mid left' out out' _ _ _ _ _ _ c.on_stack.result c.on_stack.ensures in
     if_some _ left (λ bytes told.
     let reads = subst (λ (v : ReaderView). ReadsHeader v new mid bytes (Ok h)) is (c.in-Ok.ensures.told bytes (fresh-rest r left bytes is told)) in
     header-then h new (c.read_header.ensures.kept.0 ∙ ap (λ (v : ReaderView). v.most) is) (c.read_header.ensures.kept.1 ∙ ap (λ (v : ReaderView). v.events) is) reads.0 reads.3
@@ -68,7 +73,7 @@ returns-clause-kept_up g c =
     let r = c.in_ok-reader.reader in
     let h = c.in-Ok.header in
     let is = c.in_ok-reader.ensures in
-    let rests = found-comes (stack_at h.net h.stack) h.nodes new mid left' out out' _ _ _ _ _ _ c.on_stack.result c.on_stack.ensures in
+    let rests = found-comes h new mid left' out out' _ _ _ _ _ _ c.on_stack.result c.on_stack.ensures in
     if_some _ left (λ bytes told.
     let has = fresh-rest r left bytes is told in
     let reads = subst (λ (v : ReaderView). ReadsHeader v new mid bytes (Ok h)) is (c.in-Ok.ensures.told bytes has) in

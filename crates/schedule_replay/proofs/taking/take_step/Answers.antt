@@ -19,15 +19,15 @@ returns-in-Ok-step-clause-took g c = λ ss gone ran. (c.in-Ok.step, c.in-Ok-step
 pub returns-in-Ok-clause-took : goal.returns-in-Ok-clause-took
 returns-in-Ok-clause-took g c = λ ss gone ran.
     let r = g.R.Runs in
-    let refused = rw c.in-Err-Step.field-0-is at c.in-Err-Step.ensures.refused ss gone ran in
-    let same = (rw c.in-Err-Step.field-0-is at c.in-Err-Step.ensures.unchanged) (λ e. cc) in (
-      subst (HasRun (r.system c.args.running.now) r.follows r.progress ss gone) (sym same) ran,
+    let refused = rw c.in-Err-Refused-step.field-0-is at c.in-Err-Refused-step.ensures.refused ss gone ran in
+    let same = (rw c.in-Err-Refused-step.field-0-is at c.in-Err-Refused-step.ensures.unchanged) (λ e. cc) in (
+      subst (HasRun (r.played c.args.running.now) r.follows r.progress ss gone) (sym same) ran,
       λ rest has. inr (
         c.in-Ok.step,
-        c.in-Err-Step.why,
+        c.in-Err-Refused-step.why,
         c.in-Ok.ensures.told rest has,
         c.number.ensures,
-        refused.0,
+        refused,
         c.why_of.ensures,
       ),
     )

@@ -41,6 +41,20 @@ returns-clause-uncounted c = λ x.
     let size : length (lines_of x.0) ≡ 2 = ap (λ xs. length (lines_of xs)) used in
     omega (arith, x.1.number, size)
 
+pub returns-clause-ends_before_it : goal.returns-clause-ends_before_it
+returns-clause-ends_before_it c = (
+  record {
+    rest' = [];
+    left = record { unread = []; left_is = refl; rest_is = refl; at_end = λ e. refl };
+    used = [];
+    whole = refl;
+    later = omega arith;
+    decides = refl;
+    few = omega arith;
+  },
+  refl,
+)
+
 pub returns-clause-broke_off : goal.returns-clause-broke_off
 returns-clause-broke_off c =
     (codes "#\ns", record { rest' = codes "ched"; left_is = refl; whole = refl; short = omega arith }, 2, refl)

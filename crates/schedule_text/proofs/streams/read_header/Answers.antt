@@ -1,14 +1,14 @@
 use Rattle.std.proofs.Common.{◌+◌, Err, ap, ◌∙◌, sym, arith}
-use Rattle.schedule_text.specs.Lines.{is_skipped}
+use Rattle.schedule_text.specs.Reading.{is_skipped}
 use Rattle.schedule_text.specs.Headers.{header_of}
-use Rattle.schedule_text.proofs.Streaming.{cause-before, header-cause, header-no-end, header-other, header-failed, header-read, header-missing, header-skips, near-header}
+use Rattle.schedule_text.proofs.Streaming.{cause-before, header-cause, header-other, header-failed, header-read, header-missing, header-skips, near-header}
 use Rattle.schedule_text.proofs.streams.read_header.Goals as goal
 
 pub returns-in-Err : goal.returns-in-Err
 returns-in-Err g c =
     let inv = c.loop-fault.invariant in
     let new = c.next_line.new.reader in
-    rw c.header_fault.ensures (record {
+    rw c.text_fault.ensures (record {
       told = λ rest has.
           let s = inv.told rest has in
           header-failed c.args.reader.now c.loop-fault.reader new (g.S.Source.left c.loop-fault.source) (g.S.Source.left c.next_line.new.source) rest inv.most s
@@ -20,7 +20,6 @@ returns-in-Err g c =
       few = c.next_line.ensures.few;
       header = tt;
       number = tt;
-      headed = λ e. header-no-end (new.number + 1) c.in-Err.fault cc;
       stays = λ is. c.next_line.ensures.stays (inv.stays is);
       kept = (c.next_line.ensures.kept.0 ∙ inv.most, c.next_line.ensures.kept.1 ∙ inv.events);
       fault = header-cause c.args.reader.now (new.number + 1) _ _ c.in-Err.fault (cause-before c.args.reader.now c.loop-fault.reader _ _ _ c.in-Err.fault inv.stays (omega (arith, inv.quiet)) c.in-Err.ensures.fault);
@@ -44,7 +43,7 @@ returns-in-None-clause-told g c = λ rest has.
     let s = inv.told rest has in
     let new = c.next_line.new.reader in
     let reads = c.in-Ok.ensures.told s.uses.rest' s.uses.left in
-    rw c.refuse.ensures (header-missing c.args.reader.now c.loop-fault.reader new (g.S.Source.left c.loop-fault.source) (g.S.Source.left c.next_line.new.source) rest inv.most s
+    rw c.number.ensures (header-missing c.args.reader.now c.loop-fault.reader new (g.S.Source.left c.loop-fault.source) (g.S.Source.left c.next_line.new.source) rest inv.most s
     reads.0 reads.1 reads.3 reads.2 reads.4 (c.next_line.ensures.kept.0 ∙ inv.most)
     (ap is_skipped (sym c.line.ensures) ∙ (sym c.is_skipped.ensures ∙ c.if-not-is_skipped.true)) (c.in-None.ensures ∙ ap header_of c.line-then-not-is_skipped.ensures))
 

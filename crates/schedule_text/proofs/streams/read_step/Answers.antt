@@ -1,11 +1,10 @@
 use Rattle.std.proofs.Common.{◌≡◌, ◌+◌, Err, is_some, refl, ap, ◌∙◌, arith}
-use Rattle.line_reader.specs.Cuts.{cut_at, has_cut}
+use Rattle.line_reader.specs.Lines.{cut_at, has_cut}
 use Rattle.line_reader.specs.declared.read_fault.ReadFault.TheVariants as fault
-use Rattle.schedule_text.specs.Lines.{is_skipped}
+use Rattle.schedule_text.specs.Reading.{is_skipped, step_of}
 use Rattle.std.proofs.lemmas.Result.{err_from_is_err_and}
 use Rattle.line_reader.specs.Readers.{ReaderView}
 use Rattle.schedule_text.specs.Schedules.{script}
-use Rattle.schedule_text.specs.Reading.{step_of}
 use Rattle.schedule_text.proofs.Skipping.{skipped-none}
 use Rattle.schedule_text.proofs.Streaming.{near-step, not-skips, told-cut, says-step, step-failed, step-skips, step-refused, step-read, read-counted}
 use Rattle.schedule_text.proofs.streams.read_step.Goals as goal

@@ -1,6 +1,6 @@
 use Rattle.std.proofs.Common.{◌≡◌, ◌-◌, ◌≤◌, ℕ, List, true}
 use Rattle.line_reader.specs.Readers.{HasRest}
-use Rattle.schedule_text.specs.Lines.{tells_next}
+use Rattle.schedule_text.specs.Reading.{tells_next}
 use Rattle.schedule_text.specs.Schedules.{script}
 use Rattle.schedule_text.proofs.Skipping.{Skipped}
 use Rattle.schedule_text.proofs.streams.read_step.Given as goal

@@ -1,5 +1,5 @@
 use Rattle.std.proofs.Common.{◌∷◌, [], ◌++◌, ap, arith, ◌∙◌}
-use Rattle.seqnum_xform.specs.Numbered.{with_seen}
+use Rattle.seqnum_xform.specs.Numbering.{with_seen}
 use Rattle.seqnum_xform.proofs.Senders.{with_seen-reached}
 use Rattle.seqnum_xform.proofs.seen.reach.Goals as goal
 

@@ -1,5 +1,5 @@
 use Rattle.std.proofs.Common.{◌≡◌, ℕ, ◌+◌, ◌-◌, length}
-use Rattle.seqnum_xform.specs.Numbered.{with_seen}
+use Rattle.seqnum_xform.specs.Numbering.{with_seen}
 use Rattle.seqnum_xform.proofs.seen.reach.Given as goal
 
 abbrev pub invariant-loop-alloc : goal.invariant-loop-alloc

@@ -1,7 +1,7 @@
 use Rattle.std.proofs.Common.{◌∙◌, None, Some, ap, map, refl, string_bytes, sym, arith}
-use Rattle.node_command.specs.Seen.{node_ran}
-use Rattle.run_streams.specs.Seen.{ran}
-use Rattle.text_commands.proofs.Answering.{words_refused}
+use Rattle.commands.specs.NodeSeen.{node_ran}
+use Rattle.commands.specs.Seen.{ran}
+use Rattle.commands.proofs.Answering.{words_refused}
 use Rattle.top_call.proofs.Headlines.{node_headline, none_headline, texts_headline, wanting_headline}
 use Rattle.top_call.proofs.Untaken.{answers_as, answers_unread}
 use Rattle.top_call.proofs.answers.run.Goals as goal

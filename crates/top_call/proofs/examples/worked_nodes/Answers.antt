@@ -1,14 +1,14 @@
 use Rattle.std.proofs.Common.{◌≡◌, ℕ, [], None, Option, Some, Result, Ok, Err, ap, arith, inl, inr, lit≤, refl}
 use Rattle.std.specs.Prelude.{get_or, length, unwrap_or}
-use Rattle.node_command.proofs.Answering.{node_answers}
-use Rattle.node_command.proofs.Ending.{wanted_first}
-use Rattle.node_command.specs.Examples.{words}
-use Rattle.node_command.specs.Seen.{DeviceSeen}
-use Rattle.node_command.specs.Statuses.{CameTo}
-use Rattle.node_command.specs.declared.trouble.Trouble.{Trouble}
-use Rattle.node_command.specs.declared.trouble.Trouble.TheVariants as trouble
+use Rattle.commands.proofs.NodeAnswering.{node_answers}
+use Rattle.commands.proofs.NodeEnding.{wanted_first}
+use Rattle.commands.specs.NodeExamples.{words}
+use Rattle.commands.specs.NodeSeen.{DeviceSeen}
+use Rattle.commands.specs.NodeStatuses.{CameTo}
+use Rattle.commands.specs.declared.trouble.Trouble.{Trouble}
+use Rattle.commands.specs.declared.trouble.Trouble.TheVariants as trouble
 use Rattle.node_device.specs.Telling.{Told}
-use Rattle.text_commands.specs.Examples.{quiet_run, read_failed}
+use Rattle.commands.specs.Examples.{quiet_run, read_failed}
 use Rattle.top_call.specs.Examples.{used}
 use Rattle.top_call.proofs.examples.worked_nodes.Goals as goal
 

@@ -6,7 +6,7 @@ use Rattle.disk.specs.DiskLaws.{IsCutShort}
 use Rattle.disk.proofs.CutShort.{fronts_are_cut_short}
 use Rattle.kv_machine.specs.Kv.{kv}
 use Rattle.kv_machine.specs.declared.cmd.KvCmd.{KvCmd}
-use Rattle.raft_types.specs.Keeping.{KeptView}
+use Rattle.raft_types.specs.Messages.{KeptView}
 use Rattle.vst_base.specs.declared.stack.StackId.TheVariants as stack
 use Rattle.wire_fields.specs.Bytes.{number_bytes}
 use Rattle.wire_messages.specs.KvByteLaws.{kv_command_is_format}

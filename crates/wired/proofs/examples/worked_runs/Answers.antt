@@ -19,7 +19,7 @@ its_length = refl
 
 pub returns-clause-runs_alike : goal.returns-clause-runs_alike
 returns-clause-runs_alike c =
-    c.stacks_run_the_same_as_bytes.ensures.lock 3 (omega arith) no_name net.Bag gets_the_lock (refl, refl)
+    c.runs_as_bytes.ensures 3 stack.Lock tt (λ bytes. refl) (omega arith) (omega arith) no_name net.Bag gets_the_lock (refl, refl)
     (record { few = omega arith; inputs = (tt, (tt, (tt, tt))) })
 
 pub returns-clause-runs_the_same : goal.returns-clause-runs_the_same
@@ -42,6 +42,9 @@ returns-clause-not_under_no_name c = λ h. cc (h.datagram.heading.1.1.1.1.1.0)
 
 pub returns-clause-not_of_numbered : goal.returns-clause-not_of_numbered
 returns-clause-not_of_numbered c = λ h. cc (h (1 ∷ []), too_short_for_a_number)
+
+pub returns-clause-not_of_no_packets : goal.returns-clause-not_of_no_packets
+returns-clause-not_of_no_packets c = λ h. cc (h (1 ∷ []))
 
 pub returns-clause-is_format : goal.returns-clause-is_format
 returns-clause-is_format c = λ bytes. refl

@@ -1,16 +1,8 @@
-use Rattle.std.proofs.Common.{[], refl, subst, sym}
-use Rattle.xform_stack.specs.Running.{HasFollowed}
+use Rattle.std.proofs.Common.{refl}
 use Rattle.xform_stack.proofs.run.run_mapped.Goals as goal
 
 pub run_on-requires-clause-started : goal.run_on-requires-clause-started
-run_on-requires-clause-started g c =
-    let new = c.in-Ok.ensures in
-    record {
-      followed = subst (λ (h : g.row.H.Denot). HasFollowed (g.H.Handlers.meaning h) g.T.TraceMap.has_followed c.in-Ok.running []) (sym new.handlers) new.started;
-      traced = new.trace;
-      allowed = refl;
-      counted = new.taken;
-    }
+run_on-requires-clause-started g c = record { followed = c.in-Ok.ensures.first; allowed = refl; counted = c.in-Ok.ensures.taken }
 
 pub returns-clause-allowed : goal.returns-clause-allowed
 returns-clause-allowed g c = rw (c.in-Ok.ensures.net, c.in-Ok.ensures.handlers) at c.run_on.ensures.allowed

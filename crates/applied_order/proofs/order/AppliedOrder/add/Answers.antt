@@ -1,6 +1,6 @@
 use Rattle.std.proofs.Common.{◌≡◌, OnOk}
 use Rattle.std.proofs.lemmas.Result.{on_ok_weaker}
-use Rattle.raft_clients.specs.Requests.{request_of}
+use Rattle.raft_clients.specs.Executed.{request_of}
 use Rattle.applied_order.proofs.Adding.{followed_more}
 use Rattle.applied_order.specs.Orders.{with_entry}
 use Rattle.applied_order.proofs.order.AppliedOrder.add.Goals as goal

@@ -1,5 +1,5 @@
 use Rattle.std.proofs.Common.{◌≡◌, ◌∷◌, ◌-◌, None, Ok, length, sym, ap, ◌∙◌, arith, length-append}
-use Rattle.line_reader.specs.Cuts.{cut_at}
+use Rattle.line_reader.specs.Lines.{cut_at}
 use Rattle.line_reader.proofs.Cutting.{cut-parts, none-take}
 use Rattle.line_reader.proofs.Taking.{overlong, plain-front, behind-newline}
 use Rattle.line_reader.proofs.reader.Reader.take_piece.Goals as goal

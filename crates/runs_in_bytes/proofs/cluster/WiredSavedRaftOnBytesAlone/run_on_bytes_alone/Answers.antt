@@ -9,7 +9,7 @@ use Rattle.wired.specs.Same.{RunsAlike}
 use Rattle.wired.specs.Saving.{saved, saved_recovery}
 use Rattle.wired.specs.Wiring.{wired}
 use Rattle.runs_in_bytes.specs.Clusters.{byte_world}
-use Rattle.runs_in_bytes.proofs.InBytes.{is_name}
+use Rattle.runs_in_bytes.proofs.WorldInBytes.{is_name}
 use Rattle.runs_in_bytes.proofs.cluster.WiredSavedRaftOnBytesAlone.run_on_bytes_alone.Goals as goal
 
 -- of the stack's own bytes, which have its name
@@ -20,7 +20,8 @@ returns g c = λ h ss own may.
     let nodes = h.inner.inner.nodes in
     let m = raft nodes (g.M.Machine.meaning h.inner.inner.machine) in
     let r = raft_recovery (g.M.Machine.meaning h.inner.inner.machine) in
-    let alike = c.cluster_runs_on_bytes_alone.ensures nodes (g.M.Machine.meaning h.inner.inner.machine) own.size h.name net.Fail ss (is_name h.name own.named) may in
+    let law = c.clusters_run_the_same_on_bytes_alone.ensures nodes (g.M.Machine.meaning h.inner.inner.machine) own.packets own.format own.size in
+    let alike = law h.name net.Fail ss (is_name h.name own.named) may in
     let named = subst (λ (name : List ℕ). RunsAlike net.Fail (wired (raft_message f) stack h.name (saved m)) (saved_recovery (raft_saving stack f nodes name) m r) m r (byte_world f stack h) ss)
     (sym own.same_name) alike in
     subst (λ (s : StackId). RunsAlike net.Fail (wired (raft_message f) s h.name (saved m)) (saved_recovery (raft_saving stack f nodes h.inner.name) m r) m r (byte_world f stack h) ss)

@@ -6,7 +6,7 @@ use Rattle.std.proofs.lemmas.List.Folds.{list_all-append}
 use Rattle.flight_index.specs.Flights.{is_within}
 use Rattle.net_semantics.specs.Worlds.{ends}
 use Rattle.vst_base.specs.declared.step.Step.{Step}
-use Rattle.xform_stack.specs.Running.{world_of}
+use Rattle.xform_stack.specs.Systems.{world_of}
 use Rattle.schedule_make.specs.Making.{MakingView}
 use Rattle.schedule_make.proofs.Following.{has-ends, next-flight}
 use Rattle.schedule_make.proofs.making.Making.see_sent.Goals as goal
@@ -14,24 +14,24 @@ use Rattle.schedule_make.proofs.making.Making.see_sent.Goals.{in-Some+in_ok-sent
 
 pub loop-k-preserved : goal.loop-k-preserved
 loop-k-preserved g c =
-    let r = g.R.Runs in
+    let r = g.W.Network in
     let inv = c.loop-k.invariant in
-    let run0 = c.self.inside.running in
+    let run0 = c.self.inside.network in
     let old = c.loop-k.self-inside.flights.packets in
-    let same = inv.running in
-    let here : (ss : List (Step g.row.R-Input.Denot)) → r.follows run0 ss → c.ends.result ≡ ends (world_of (r.system run0) ss) c.loop-k.k =
+    let same = inv.network in
+    let here : (ss : List (Step g.row.H-Input.Denot)) → r.follows run0 ss → c.ends.result ≡ ends (world_of (r.system run0) ss) c.loop-k.k =
     λ ss follows. c.ends.ensures.ends ss (subst (λ v. r.follows v ss) (sym same) follows)
     ∙ ap (λ v. ends (world_of (r.system v) ss) c.loop-k.k) same in
     let ss0 = c.requires.followed.steps in
-    let follows0 : r.follows run0 ss0 = subst (λ (v : MakingView g.row.R.Denot). r.follows v.running ss0) (sym c.self.view_is) c.requires.followed.followed in
-    let sound0 : r.sound run0 = subst (λ (v : MakingView g.row.R.Denot). r.sound v.running) (sym c.self.view_is) c.requires.sound in
-    let nodes0 : (r.system run0).meaning.nodes ≤ 9 = subst (λ (v : MakingView g.row.R.Denot). (r.system v.running).meaning.nodes ≤ 9) (sym c.self.view_is) c.requires.nodes in
+    let follows0 : r.follows run0 ss0 = subst (λ (v : MakingView g.row.W.Denot). r.follows v.network ss0) (sym c.self.view_is) c.requires.followed.followed in
+    let sound0 : r.sound run0 = subst (λ (v : MakingView g.row.W.Denot). r.sound v.network) (sym c.self.view_is) c.requires.sound in
+    let nodes0 : (r.system run0).meaning.nodes ≤ 9 = subst (λ (v : MakingView g.row.W.Denot). (r.system v.network).meaning.nodes ≤ 9) (sym c.self.view_is) c.requires.nodes in
     elim c.match-ends.branch [
       | in-Some+in_ok-sent w ↦
           let to : ℕ = w.in-Some.ends.1 in
           let pushed : c.match-ends.self-inside.flights.packets ≡ old ++ Some to ∷ [] = ap (λ v. v.flights.packets) w.self-inside-is ∙ w.in_ok-sent.ensures.ok in
           let below = w.in-Some.ensures.below ss0 (subst (λ v. r.follows v ss0) (sym same) follows0) (subst r.sound (sym same) sound0) in
-          let small : (r.system c.loop-k.self-inside.running).meaning.nodes ≤ 9 = subst (λ v. (r.system v).meaning.nodes ≤ 9) (sym same) nodes0 in
+          let small : (r.system c.loop-k.self-inside.network).meaning.nodes ≤ 9 = subst (λ v. (r.system v).meaning.nodes ≤ 9) (sym same) nodes0 in
           record {
             number = ap length pushed ∙ length-append old (Some to ∷ []) ∙ ap (λ n. n + 1) inv.number;
             packets = λ ss follows fly was.
@@ -42,7 +42,7 @@ loop-k-preserved g c =
                 ap (list_all is_within) pushed ∙ list_all-append is_within old (Some to ∷ [])
                 ∙ and_from (list_all is_within old) (list_all is_within (Some to ∷ [])) (inv.within was) (and_from (ltb to 9) true (lt-ltb to 9 (omega (arith, below, small))) refl);
             up = ap (λ v. v.flights.up) w.self-inside-is ∙ w.in_ok-sent.ensures.up ∙ inv.up;
-            running = ap (λ v. v.running) w.self-inside-is ∙ same;
+            network = ap (λ v. v.network) w.self-inside-is ∙ same;
             random = ap (λ v. v.random) w.self-inside-is ∙ inv.random;
           }
       | in_default w ↦

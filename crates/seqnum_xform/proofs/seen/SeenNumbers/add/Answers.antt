@@ -2,7 +2,7 @@ use Rattle.std.proofs.Common.{ap, ◌∙◌, ◌≡◌}
 use Rattle.std.proofs.Common.{set as put_at}
 use Rattle.std.proofs.lemmas.Result.{on_ok_weaker}
 use Rattle.std.specs.FinSet as set
-use Rattle.seqnum_xform.specs.Numbered.{with_seen}
+use Rattle.seqnum_xform.specs.Numbering.{with_seen}
 use Rattle.seqnum_xform.proofs.Senders.{with_seen-placed}
 use Rattle.seqnum_xform.proofs.seen.SeenNumbers.add.Goals as goal
 

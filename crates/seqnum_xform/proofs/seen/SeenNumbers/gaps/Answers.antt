@@ -2,7 +2,7 @@ use Rattle.std.proofs.Common.{◌≡◌, ◌≤◌, ap, arith, length}
 use Rattle.std.proofs.lemmas.Option.{slice_get_past}
 use Rattle.std.specs.Prelude.{None, slice_get}
 use Rattle.number_set.specs.NumberSetLaws.{nothing-marked}
-use Rattle.seqnum_xform.specs.Numbered.{Seen}
+use Rattle.seqnum_xform.specs.Numbering.{Seen}
 use Rattle.seqnum_xform.proofs.seen.SeenNumbers.gaps.Goals as goal
 
 -- a sender without a place

@@ -1,0 +1,12 @@
+pub mod Answering
+pub mod Complained
+pub mod Endings
+pub mod NodeReading
+pub mod NodeTaking
+pub mod NodeEnding
+pub mod NodeCompleting
+pub mod NodeCounting
+pub mod NodeSilent
+pub mod NodeRefuted
+pub mod NodeTold
+pub mod NodeAnswering

@@ -1,0 +1,17 @@
+pub mod Lines
+pub mod Saying
+pub mod Seen
+pub mod Answers
+pub mod Complaints
+pub mod Examples
+pub mod Runs
+pub mod Statuses
+pub mod Outcomes
+pub mod NodeLines
+pub mod NodeSeen
+pub mod NodeComing
+pub mod NodeTelling
+pub mod NodeStatuses
+pub mod NodeComplete
+pub mod NodeOutcomes
+pub mod NodeExamples

@@ -1,0 +1,36 @@
+use crate::{Says, Telling};
+use handler_trait::Handlers;
+use net_semantics::FailWorld;
+use raft_xform::Raft;
+use vst_base::{Machine, Node};
+use xform_stack::{Network, SteadyWorld};
+
+/// A network of which a node may lead.
+pub trait Leads<H: Handlers>: Network<H> {
+    /// The term in which a node leads, if it does.
+    fn leads_in(&self, node: u8) -> Option<u64>
+        requires { Self.sound self.now };
+}
+
+// Where no node stops none has to lead.
+impl<H: Handlers> Leads<H> for SteadyWorld<H> {
+    fn leads_in(&self, _node: u8) -> Option<u64> {
+        None
+    }
+}
+
+impl<M: Machine> Leads<Telling<Raft<M>>> for FailWorld<Telling<Raft<M>>>
+where
+    M::Cmd: Says,
+{
+    fn leads_in(&self, node: u8) -> Option<u64> {
+        let raft = self.handlers().inner();
+        let node = Node::new(node, raft.nodes())?;
+        let state = self.state(node);
+        if self.is_up(node) && raft.leads(state) {
+            Some(state.term())
+        } else {
+            None
+        }
+    }
+}

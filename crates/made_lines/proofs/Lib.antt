@@ -1,6 +1,0 @@
-pub mod Sends
-pub mod RaftSends
-pub mod Packets
-pub mod Numbers
-pub mod StepLines
-pub mod Texts

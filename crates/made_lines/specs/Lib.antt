@@ -1,4 +1,0 @@
-pub mod Examples
-pub mod MadeLines
-pub mod Sends
-pub mod Texts

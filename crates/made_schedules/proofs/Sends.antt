@@ -1,0 +1,68 @@
+-- An event of the lock server, of a machine alone or under primary-backup, or of numbered handlers sends few packets.
+use Rattle.std.specs.Prelude.{ℕ, ◌≤◌, Bool, true, false, [], ◌∷◌, length, cond}
+use Rattle.std.proofs.Common.{arith}
+use Rattle.handler_trait.specs.Handling.{Effect, Meaning}
+use Rattle.lock_server.specs.Locks.{lock_server}
+use Rattle.lock_server.specs.declared.state.LockState.{LockState}
+use Rattle.lock_server.specs.declared.state.LockState.TheVariants.{Server, Client}
+use Rattle.primary_backup.specs.Backup.{primary_backup}
+use Rattle.primary_backup.specs.BackupLaws as backup
+use Rattle.seqnum_xform.specs.Numbering.{Numbered, Seen, has_seen, with_seen, nothing, numbered, sequence_numbered}
+use Rattle.seqnum_xform.specs.NumberingLaws.{length-numbered_from}
+use Rattle.trace_maps.specs.SingleNode.{single_node}
+use Rattle.vst_base.specs.Machines.{MachineMeaning}
+use Rattle.vst_base.specs.declared.lock.LockInput.{LockInput}
+use Rattle.vst_base.specs.declared.lock.LockInput.TheVariants as ask
+use Rattle.vst_base.specs.declared.lock.LockMsg.{LockMsg}
+use Rattle.vst_base.specs.declared.lock.LockMsg.TheVariants as msg
+use Rattle.vst_base.specs.declared.node.TheConstants.{MAX_NODES}
+use Rattle.vst_base.specs.declared.seq.SeqMsg.{SeqMsg}
+use Rattle.made_schedules.specs.Sends.{SendsFew}
+
+lock-input : (nodes n : ℕ) (s : LockState) (i : LockInput) → length ((lock_server nodes).input n s i).sends ≤ MAX_NODES
+lock-input nodes n (Server queue) i = omega arith
+lock-input nodes n (Client held) ask.Lock = omega arith
+lock-input nodes n (Client true) ask.Unlock = omega arith
+lock-input nodes n (Client false) ask.Unlock = omega arith
+
+lock-message : (nodes n : ℕ) (s : LockState) (from : ℕ) (c : LockMsg) → length ((lock_server nodes).message n s from c).sends ≤ MAX_NODES
+lock-message nodes n (Server []) from msg.Lock = omega arith
+lock-message nodes n (Server (holder ∷ waiting)) from msg.Lock = omega arith
+lock-message nodes n (Server []) from msg.Unlock = omega arith
+lock-message nodes n (Server (holder ∷ [])) from msg.Unlock = omega arith
+lock-message nodes n (Server (holder ∷ next ∷ waiting)) from msg.Unlock = omega arith
+lock-message nodes n (Server queue) from msg.Locked = omega arith
+lock-message nodes n (Client held) from msg.Locked = omega arith
+lock-message nodes n (Client held) from msg.Lock = omega arith
+lock-message nodes n (Client held) from msg.Unlock = omega arith
+
+pub lock-few : (nodes : ℕ) → SendsFew (lock_server nodes)
+lock-few nodes = record { input = lock-input nodes; message = lock-message nodes; timeout = λ n s. omega arith }
+
+pub backup-few : {S C O : Type 0} (m : MachineMeaning S C O) → SendsFew (primary_backup m)
+backup-few m = record {
+  input = λ n s i. omega (arith, (backup.modest_input m n s i).few);
+  message = λ n s from c. omega (arith, (backup.modest_message m n s from c).few);
+  timeout = λ n s. omega (arith, (backup.modest_timeout m n s).few);
+}
+
+pub single-few : {S C O : Type 0} (m : MachineMeaning S C O) → SendsFew (single_node m)
+single-few m = record { input = λ n s i. omega arith; message = λ n s from c. omega arith; timeout = λ n s. omega arith }
+
+module _ {S I O M : Type 0} (m : Meaning S I O M) (few : SendsFew m) where
+  numbered-sends : (next : ℕ) (seen : Seen) (e : Effect S O M) → length e.sends ≤ MAX_NODES → length (numbered next seen e).sends ≤ MAX_NODES
+  numbered-sends next seen e h = omega (arith, length-numbered_from next e.sends, h)
+
+  -- a message that was seen sends nothing
+  unless-seen : (s : Numbered S) (b : Bool) (e : Effect (Numbered S) O (SeqMsg M)) → length e.sends ≤ MAX_NODES → length (cond b (nothing s) e).sends ≤ MAX_NODES
+  unless-seen s true e h = omega arith
+  unless-seen s false e h = h
+
+  pub numbered-few : SendsFew (sequence_numbered m)
+  numbered-few = record {
+    input = λ n s i. numbered-sends s.next s.seen (m.input n s.inner i) (few.input n s.inner i);
+    message = λ n s from p.
+        unless-seen s (has_seen s.seen from p.number) _
+        (numbered-sends s.next (with_seen s.seen from p.number) (m.message n s.inner from p.inner) (few.message n s.inner from p.inner));
+    timeout = λ n s. numbered-sends s.next s.seen (m.timeout n s.inner) (few.timeout n s.inner);
+  }

@@ -1,0 +1,15 @@
+use Rattle.made_schedules.proofs.RaftSends.{raft-few}
+use Rattle.made_schedules.proofs.Sends.{backup-few, lock-few, numbered-few}
+use Rattle.made_schedules.proofs.few.events_send_few.Goals as goal
+
+pub returns-clause-lock : goal.returns-clause-lock
+returns-clause-lock g c = lock-few
+
+pub returns-clause-backup : goal.returns-clause-backup
+returns-clause-backup g c = λ m. backup-few m
+
+pub returns-clause-raft : goal.returns-clause-raft
+returns-clause-raft g c = λ nodes m most. raft-few nodes m most
+
+pub returns-clause-numbered : goal.returns-clause-numbered
+returns-clause-numbered g c = λ m few. numbered-few m few

@@ -1,0 +1,55 @@
+-- The kinds of stacks that schedules are made for: what is asked of their handlers, inputs and transformers.
+use Rattle.std.specs.Prelude.{◌≡◌, ℕ, ◌≤◌, List, Option, Some}
+use Rattle.app_text.specs.Spelling.{IsSpelling}
+use Rattle.handler_trait.specs.Handling.{Meaning}
+use Rattle.schedule_make.specs.Made.{Inputs}
+use Rattle.schedule_text.specs.Spellable.{AreSpellable}
+use Rattle.stacks.specs.Kinds.{Alone, Application, Backed, Clustered, Itself, Kind, Layers, Own, OwnHandlers, Service, Steady, Through, service}
+use Rattle.stacks.specs.Made.{AnyMade}
+use Rattle.stacks.specs.Plays.{Texts}
+use Rattle.transformers.specs.Transformers.{Transformer}
+use Rattle.vst_base.specs.declared.step.TheConstants.{MAX_STEPS}
+use Rattle.made_schedules.specs.Sends.{SendsFew}
+use Rattle.made_schedules.specs.Texts.{HaveTexts}
+
+-- a value that is read back from its text
+abbrev pub IsReadBack : {V : Type 0} → (List ℕ → Option V) → (V → List ℕ) → V → Type 0
+IsReadBack value_of text_of v = value_of (text_of v) ≡ Some v
+
+-- each input has one text, of one line; and those that are made are read back, from texts of at most so many bytes
+pub record MakesTexts {I O : Type 0} (most : ℕ) (t : Texts I O) (inputs : Inputs I) : Type 0 where
+  pub spelled : IsSpelling (IsReadBack t.input_of t.input_text) t.input_of t.input_text
+  pub texts : HaveTexts most (IsReadBack t.input_of t.input_text) t.input_text inputs
+
+-- handlers have as many nodes as are asked for, their events send few packets, and their inputs have short texts
+pub record OwnMakes (h : OwnHandlers) : Type 0 where
+  pub nodes : (n : ℕ) → (h.handlers n).nodes ≡ n
+  pub sends : (n : ℕ) → SendsFew (h.handlers n)
+  pub inputs : MakesTexts 4000 h.texts h.makes
+
+-- a machine's commands leave room for a client's number and the request's
+abbrev pub MachineMakes : Application → Type 0
+MachineMakes p = MakesTexts 3900 p.texts p.makes
+
+-- transformed handlers have the nodes of those within, and their events send few packets where those within send few
+pub record KeepsFew (t : Transformer) (s : Service) : Type 0 where
+  pub nodes : (m : Meaning s.State s.Input s.Output s.Msg) → (t.transforms m).nodes ≡ m.nodes
+  pub sends : (m : Meaning s.State s.Input s.Output s.Msg) → SendsFew m → SendsFew (t.transforms m)
+
+-- schedules can be made for such layers, and for such a kind of stack
+abbrev pub LayersMake : Layers → Type 0
+LayersMake (Own h) = OwnMakes h
+LayersMake (Alone p) = MachineMakes p
+LayersMake (Backed p) = MachineMakes p
+LayersMake (Through t l) = KeepsFew t (service l) × LayersMake l
+LayersMake (Itself i l) = LayersMake l
+
+abbrev pub KindMakes : Kind → Type 0
+KindMakes (Steady l) = LayersMake l
+KindMakes (Clustered p) = MachineMakes p
+
+-- whatever the number that a schedule is made from, and however many steps it has, its steps have lines
+abbrev pub AllHaveLines : AnyMade → Type 0
+AllHaveLines a =
+    let t = a.plays.play.texts in
+    (seed steps : ℕ) → steps ≤ MAX_STEPS → AreSpellable (IsReadBack t.input_of t.input_text) t.input_text (a.made seed steps)

@@ -1,0 +1,26 @@
+ghost use Rattle.std.specs.Prelude.{ℕ, ◌*◌, ◌≤◌, List, length};
+ghost use Rattle.handler_trait.specs.Handling.{Meaning, Recovery};
+ghost use Rattle.lock_server.specs.Locks.{lock_server};
+ghost use Rattle.net_semantics.specs.Runs.{run};
+ghost use Rattle.primary_backup.specs.Backup.{primary_backup};
+ghost use Rattle.raft_xform.specs.Raft.{raft};
+ghost use Rattle.seqnum_xform.specs.Numbering.{sequence_numbered};
+ghost use Rattle.vst_base.specs.Machines.{MachineMeaning};
+ghost use Rattle.vst_base.specs.declared.node.TheConstants.{MAX_NODES};
+ghost use Rattle.vst_base.specs.declared.step.Step.{Step};
+ghost use Rattle.made_schedules.specs.Sends.{SendsFew};
+
+/// The handlers that schedules are made for send few packets in each event, whatever the machine. `S` are the machine's states, `I` its
+/// commands and `O` its outputs; of handlers that are numbered `S` are states, `I`, `O` and `M` inputs, outputs and messages.
+pub fn events_send_few<S: Drop, I: Drop, O: Drop, M: Drop>()
+    ensures lock { (nodes : ℕ) → SendsFew (lock_server nodes) }
+    ensures backup { (m : MachineMeaning S I O) → SendsFew (primary_backup m) }
+    ensures raft { (nodes : ℕ) (m : MachineMeaning S I O) → nodes ≤ MAX_NODES → SendsFew (raft nodes m) }
+    ensures numbered { (m : Meaning S I O M) → SendsFew m → SendsFew (sequence_numbered m) }
+{}
+
+/// Where events send few packets, few were sent in the end: at most MAX_NODES for each step, whether a network allows the steps or not.
+pub fn packets_are_few<S: Drop, K: Drop, I: Drop, O: Drop, M: Drop>()
+    ensures { (m : Meaning S I O M) (r : Recovery S K) (ss : List (Step I)) → SendsFew m
+        → length (run m r ss).packets ≤ MAX_NODES * length ss }
+{}

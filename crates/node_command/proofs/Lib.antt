@@ -1,9 +1,0 @@
-pub mod Reading
-pub mod Taking
-pub mod Ending
-pub mod Completing
-pub mod Counting
-pub mod Silent
-pub mod Refuted
-pub mod Told
-pub mod Answering

@@ -1,5 +1,0 @@
-use Rattle.node_command.proofs.Answering.{node_answers}
-use Rattle.node_command.proofs.command.run_node.Goals as goal
-
-pub returns : goal.returns
-returns g c = record { answers = node_answers c.args.words.now _ c.run_and_tell.result c.run_and_tell.ensures }

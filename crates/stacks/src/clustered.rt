@@ -1,0 +1,102 @@
+ghost use Rattle.std.specs.Prelude.{◌≡◌, ◌≤◌, ◌+◌, [], IfOk, length, refl};
+ghost use Rattle.linearizability.specs.Linearizable.{IsLinearizable};
+ghost use Rattle.raft_types.specs.Messages.{IsClusterSize};
+ghost use Rattle.stacks.specs.Claimed.{cluster_claimed};
+ghost use Rattle.stacks.specs.Kinds.{application, cluster_play};
+ghost use Rattle.stacks.specs.Made.{cluster_made};
+ghost use Rattle.stacks.specs.Plays.{texts_of};
+ghost use Rattle.wire_codec.specs.Headings.{HasByte};
+ghost use Rattle.wire_messages.specs.RaftBytes.{raft_message};
+ghost use Rattle.wired.specs.WiredRuns.{IsFormatOf};
+
+use crate::{Application, Judged, Plays, StackCode};
+use applied_order::AppliedOrder;
+use check_text::{Claim, Orders};
+use claim_verdicts::{Verdict, cluster_verdict};
+use node_body::Commands;
+use raft_text::RaftText;
+use raft_types::{RaftInput, RaftOut};
+use raft_xform::Raft;
+use runs_in_bytes::ClusterInBytes;
+use schedule_make::ByClients;
+use schedule_text::Header;
+use std::alloc::{AllocError, Global};
+use std::marker::PhantomData;
+use vst_base::StackId;
+use wired::AlwaysFits;
+use xform_stack::Running;
+
+/// A machine on a Raft cluster: the image is the order in which one machine takes the requests.
+pub struct Clustered<M> {
+    machine: PhantomData<M>,
+}
+
+impl<M: Application> Plays for Clustered<M>
+where
+    M::Cmd: Commands + AlwaysFits,
+{
+    type Input = RaftInput<M::Cmd>;
+
+    type Output = RaftOut<M::Out>;
+
+    type Line = RaftInput<M::Cmd>;
+
+    type Text = RaftText<M::Text>;
+
+    type Running = Running<Raft<M>, ClusterInBytes<M>, AppliedOrder<M::Cmd>>;
+
+    ghost play = { cluster_play (application M.own (M.meaning M.machine)
+        (texts_of M.Text.input_of M.Text.input_text M.Text.output_of M.Text.output_text M.Text.replies) M.Inputs.inputs) };
+
+    ghost Explains = { λ c. IsLinearizable (M.meaning M.machine) c.image c.trace };
+
+    ghost ready = { λ i n. IsClusterSize n × (M.Cmd.stack ≡ i) × HasByte M.Cmd.stack
+        × IsFormatOf M.Cmd.stack (raft_message M.Cmd.format) };
+
+    fn below(_nodes: u8) -> Option<Header> {
+        None
+    }
+
+    fn start(alloc: Global, _stack: StackId, nodes: u8) -> Result<Self::Running, AllocError> {
+        let network = ClusterInBytes::<M>::new(alloc, M::machine(), nodes)?;
+        Ok(Running::new(alloc, network))
+    }
+}
+
+impl<M: Application> Judged for Clustered<M>
+where
+    M::Cmd: Commands + AlwaysFits,
+{
+    type Lines = Orders<RaftText<M::Text>>;
+
+    ghost claimed = { cluster_claimed (application M.own (M.meaning M.machine)
+        (texts_of M.Text.input_of M.Text.input_text M.Text.output_of M.Text.output_text M.Text.replies) M.Inputs.inputs) };
+
+    fn verdict(
+        alloc: Global,
+        _nodes: u8,
+        claim: &Claim<RaftInput<M::Cmd>, RaftOut<M::Out>, RaftInput<M::Cmd>>,
+    ) -> Result<Verdict, AllocError> {
+        cluster_verdict::<M, M::Text>(alloc, &M::machine(), claim)
+    }
+
+    ghost says = { refl };
+}
+
+impl<M: Application> StackCode for Clustered<M>
+where
+    M::Cmd: Commands + AlwaysFits,
+{
+    type Handlers = Raft<M>;
+
+    type Network = ClusterInBytes<M>;
+
+    type Inputs = ByClients<M::Inputs>;
+
+    ghost made = { cluster_made (application M.own (M.meaning M.machine)
+        (texts_of M.Text.input_of M.Text.input_text M.Text.output_of M.Text.output_text M.Text.replies) M.Inputs.inputs) };
+
+    fn network(alloc: Global, _stack: StackId, nodes: u8) -> Result<Self::Network, AllocError> {
+        ClusterInBytes::<M>::new(alloc, M::machine(), nodes)
+    }
+}

@@ -1,0 +1,13 @@
+ghost use Rattle.std.specs.Prelude.{◌≡◌};
+ghost use Rattle.stacks.specs.Examples.{as_itself, delivered, over_itself, repeated, through};
+
+/// Images of layers over the lock server: through numbered packets the schedule without its repeats; where layers are a stack whose image
+/// is its own schedule, that schedule; and through numbered packets over such a stack, the schedule within.
+pub fn worked_layers()
+    ensures through { through repeated ≡ delivered }
+    ensures not_with_repeats { through repeated ≡ repeated → ⊥ }
+    ensures as_itself { as_itself repeated ≡ repeated }
+    ensures not_without_repeats { as_itself repeated ≡ delivered → ⊥ }
+    ensures over_itself { over_itself repeated ≡ delivered }
+    ensures not_as_it_runs { over_itself repeated ≡ repeated → ⊥ }
+{}

@@ -1,8 +1,0 @@
--- This prints a number, whose digits have to be computed.
-use Rattle.std.proofs.Common.{refl}
-use Rattle.std.specs.Fmt.{digits}
-use Rattle.text_commands.proofs.examples.worked_breaks.Goals as goal
-
-pub returns-clause-replayed : goal.returns-clause-replayed
-unfolding digits
-returns-clause-replayed c = refl

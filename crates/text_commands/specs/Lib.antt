@@ -1,6 +1,0 @@
-pub mod Answers
-pub mod Complaints
-pub mod Examples
-pub mod Runs
-pub mod Statuses
-pub mod Outcomes

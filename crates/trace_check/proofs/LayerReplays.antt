@@ -1,0 +1,102 @@
+-- What a replay of a stack of each kind wrote is a claim that its image explains, of any handlers and any machine that are spelled.
+use Rattle.std.specs.Prelude.{◌≡◌, ℕ, ◌≤◌, ◌<◌, List, length, None}
+use Rattle.std.proofs.Common.{◌∙◌, ap, subst, sym, arith}
+use Rattle.check_text.specs.Claims.{Claim}
+use Rattle.check_text.specs.Forms.{claim_of}
+use Rattle.check_text.specs.Reading.{Whole}
+use Rattle.line_reader.specs.Lines.{lines_of}
+use Rattle.raft_text.specs.RaftTextLaws.{raft_inputs_are_spelled}
+use Rattle.raft_text.specs.RaftTexts.{IsRaftInput, raft_input_of}
+use Rattle.schedule_replay.specs.Explained.{IsReplayOn}
+use Rattle.schedule_text.specs.Headers.{IsBy, IsHeader}
+use Rattle.schedule_text.specs.declared.header.Header.{Header}
+use Rattle.stacks.specs.Checks.{IsClaim, form_on}
+use Rattle.stacks.specs.Claimed.{AnyClaims, claims, layers_claimed}
+use Rattle.stacks.specs.ClaimTexts.{claim_by, claim_text}
+use Rattle.stacks.specs.Fits.{AreCarried, AreLayersOf, HasItsNodes, IsCarriedBy, IsFit}
+use Rattle.stacks.specs.Kinds.{Alone, Application, Backed, Clustered, Itself, Kind, Layers, Own, Service, Steady, Through, cluster_play, plays, service, service_play, through}
+use Rattle.transformers.specs.Transformers.{IsAllowedAbove, Transformer}
+use Rattle.vst_base.specs.Stacks.{row_of}
+use Rattle.vst_base.specs.declared.net.Net.TheVariants as net
+use Rattle.vst_base.specs.declared.stack.StackId.{StackId}
+use Rattle.vst_base.specs.declared.stack.StackRow.{StackRow}
+use Rattle.vst_base.specs.declared.step.Item.{Item}
+use Rattle.vst_base.specs.declared.step.Step.{Step}
+use Rattle.trace_check.specs.Spelled.{AreSpelledLayers, HasInputText, IsSpelledKind, IsSpelledMachine, StaysSpelled}
+use Rattle.trace_check.proofs.BackedReplays.{backed-read}
+use Rattle.trace_check.proofs.ClusterReplays.{cluster-read}
+use Rattle.trace_check.proofs.ItselfReplays.{itself-read}
+use Rattle.trace_check.proofs.Scripts.{AreReadSteps, steps-read}
+use Rattle.trace_check.proofs.Sights.{allowed-within, layers-seen}
+
+-- with a transformer that carries them, handlers make the claim that they make by the schedule within
+module _ (t : Transformer) (s : Service) (by : IsCarriedBy t s) (stays : StaysSpelled t s) (n : ℕ) (ss : List (Step s.Input)) (allowed : IsAllowedAbove t (s.handlers n) ss) where
+  abbrev under : List (Step s.Input)
+  under = t.within (s.handlers n) ss
+
+  abbrev claim_of_items : List (Item s.Input s.Output) → Claim s.Input s.Output s.Line
+  claim_of_items items = record { trace = items; header = (s.below n).header; image = s.image n under items }
+
+  same-claim : claim_by (service_play s n) under ≡ claim_by (service_play (through t s) n) ss
+  same-claim = ap claim_of_items (sym (by.carries (s.handlers n) ss allowed).trace)
+
+  read-within : AreReadSteps (HasInputText s.texts) ss → AreReadSteps (HasInputText s.texts) under
+  read-within read = let all = read.few in let fewer = stays.few n ss allowed in record { texts = stays.texts n ss allowed read.texts; few = omega (arith, all, fewer) }
+
+-- a stack has these rows' least and most number of nodes, and runs on so many
+module _ (each_row : (i : StackId) (h : Header) → IsBy (row_of i) h → IsHeader h) (row : StackRow) (few_nodes : row.most < 4294967296) (n : ℕ) (least : row.least ≤ n) (most : n ≤ row.most) where
+  -- the text of the claim that a schedule of layers makes is read as this claim of as many nodes as there may be
+  abbrev IsReadBack : (l : Layers) → Claim (service l).Input (service l).Output (service l).Line → Type 0
+  IsReadBack l c = claim_of (form_on row.most (service_play (service l) row.most) (layers_claimed l)) (lines_of (claim_text (service_play (service l) n) c)) ≡ Whole c
+
+  pub layers-read : (l : Layers) → HasItsNodes row l → AreCarried l → AreSpelledLayers l → (ss : List (Step (service l).Input)) → AreReadSteps (HasInputText (service l).texts) ss
+      → (service_play (service l) n).refused ss ≡ None → IsReadBack l (claim_by (service_play (service l) n) ss)
+  layers-read (Own h) nodes carried is ss read allowed =
+      itself-read (service (Own h)) (layers_claimed (Own h)).verdict row.most n few_nodes most (layers-seen row n least (Own h) nodes carried is)
+      each_row h.own n (omega (arith, nodes.least, least)) (omega (arith, nodes.most, most)) (omega (arith, most, few_nodes)) ss read allowed
+  layers-read (Alone p) nodes carried is ss read allowed =
+      itself-read (service (Alone p)) (layers_claimed (Alone p)).verdict row.most n few_nodes most (layers-seen row n least (Alone p) nodes carried is)
+      each_row p.own 1 (omega (arith, nodes.image.least)) (omega (arith, nodes.image.most)) (omega arith) ss read allowed
+  layers-read (Backed p) nodes carried is ss read allowed =
+      backed-read p row.most n few_nodes most (layers-seen row n least (Backed p) nodes carried is)
+      each_row (omega (arith, nodes.image.least)) (omega (arith, nodes.image.most)) ss read allowed
+  layers-read (Through t l) nodes carried is ss read allowed =
+      let s = service l in
+      subst (IsReadBack l) (same-claim t s carried.0 is.0 n ss allowed)
+      (layers-read l nodes carried.1 is.1 (t.within (s.handlers n) ss) (read-within t s carried.0 is.0 n ss allowed read) (allowed-within t s carried.0 n ss allowed))
+  layers-read (Itself i l) nodes carried is ss read allowed =
+      itself-read (service l) (layers_claimed (Itself i l)).verdict row.most n few_nodes most (layers-seen row n least l nodes.1 carried.1 is)
+      each_row i n (omega (arith, nodes.0.least, least)) (omega (arith, nodes.0.most, most)) (omega (arith, most, few_nodes)) ss read allowed
+
+  module _ (number : ℕ) (ls : List (List ℕ)) (text : List ℕ) where
+    -- the text is a claim of a stack of as many nodes as there may be, where a replay of one of so many wrote it
+    abbrev IsClaimOf : AnyClaims → Type 0
+    IsClaimOf a = IsClaim a row.most a.plays.Explains text
+
+    steady-claim : (l : Layers) → AreLayersOf row l → AreSpelledLayers l → IsReplayOn (plays (Steady l) n) number ls text → IsClaimOf (claims (Steady l) row.most)
+    steady-claim l fit is r =
+        let p = service_play (service l) n in
+        let texts = (layers-seen row n least l fit.nodes fit.carried is).texts in
+        let read = steps-read (service l).texts.input_of (HasInputText (service l).texts) texts.inputs.has_text number ls r.steps r.says in
+        record {
+          claim = claim_by p r.steps;
+          read = ap (λ bs. claim_of (form_on row.most (service_play (service l) row.most) (layers_claimed l)) (lines_of bs)) r.written ∙ layers-read l fit.nodes fit.carried is r.steps read r.allowed;
+          so = r.explained;
+        }
+
+    clustered-claim : (p : Application) → IsSpelledMachine p → length (lines_of text) ≤ 8000000 → IsReplayOn (plays (Clustered p) n) number ls text → IsClaimOf (claims (Clustered p) row.most)
+    clustered-claim p is within r =
+        let ran = cluster_play p n in
+        let HasIn = HasInputText p.texts in
+        let read = steps-read (raft_input_of p.texts.input_of) (IsRaftInput HasIn) (raft_inputs_are_spelled is.texts.inputs).has_text number ls r.steps r.says in
+        record {
+          claim = claim_by ran r.steps;
+          read = ap (λ bs. claim_of (form_on row.most ran (claims (Clustered p) n).claimed) (lines_of bs)) r.written
+              ∙ cluster-read p is row.most n few_nodes most r.steps read r.allowed r.explained (subst (λ bs. length (lines_of bs) ≤ 8000000) r.written within);
+          so = r.explained;
+        }
+
+    -- on a network that stops nodes there are no more lines than a check reads
+    pub kind-claim : (k : Kind) → IsFit row k → IsSpelledKind k → (row.net ≡ net.Fail → length (lines_of text) ≤ 8000000) → IsReplayOn (plays k n) number ls text → IsClaimOf (claims k row.most)
+    kind-claim (Steady l) fit is within r = steady-claim l fit.nodes is r
+    kind-claim (Clustered p) fit is within r = clustered-claim p is (within fit.net) r

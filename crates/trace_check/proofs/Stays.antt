@@ -1,0 +1,14 @@
+-- Without its repeats a schedule of steps that have texts has such steps again, and no more of them.
+use Rattle.std.specs.Prelude.{false}
+use Rattle.schedule_text.specs.Spellable.{IsSpellable}
+use Rattle.stacks.specs.Kinds.{Service}
+use Rattle.transformers.specs.Numbering.{numbering}
+use Rattle.trace_check.specs.Spelled.{HasInputText, StaysSpelled}
+use Rattle.trace_check.proofs.Counts.{once-few}
+use Rattle.trace_check.proofs.Scripts.{once-each}
+
+pub numbering-stays : (s : Service) → StaysSpelled numbering s
+numbering-stays s = record {
+  texts = λ n ss allowed steps. once-each (IsSpellable (HasInputText s.texts)) (λ _. false) ss steps;
+  few = λ n ss allowed. once-few (λ _. false) ss;
+}

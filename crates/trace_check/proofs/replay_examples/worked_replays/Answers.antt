@@ -1,0 +1,41 @@
+-- These print numbers, whose digits have to be computed.
+use Rattle.std.proofs.Common.{refl, arith}
+use Rattle.std.specs.Fmt.{digits}
+use Rattle.claim_verdicts.proofs.Lookups.{lookups}
+use Rattle.trace_check.proofs.replay_examples.worked_replays.Goals as goal
+
+pub returns-clause-few_lines : goal.returns-clause-few_lines
+returns-clause-few_lines c = λ same. omega arith
+
+pub returns-clause-any_lines : goal.returns-clause-any_lines
+returns-clause-any_lines c = λ out same. cc
+
+pub returns-clause-most_lines : goal.returns-clause-most_lines
+returns-clause-most_lines c = λ out many same. omega (arith, many)
+
+pub returns-clause-too_many_lines : goal.returns-clause-too_many_lines
+returns-clause-too_many_lines c = λ out many within. let few = within refl in omega (arith, many, few)
+
+pub returns-clause-lock : goal.returns-clause-lock
+unfolding digits
+returns-clause-lock c = refl
+
+pub returns-clause-copied : goal.returns-clause-copied
+unfolding digits
+returns-clause-copied c = refl
+
+pub returns-clause-nothing_happens : goal.returns-clause-nothing_happens
+unfolding digits
+returns-clause-nothing_happens c = refl
+
+pub returns-clause-refused_step : goal.returns-clause-refused_step
+unfolding digits
+returns-clause-refused_step c = refl
+
+pub returns-clause-another_stack : goal.returns-clause-another_stack
+unfolding digits
+returns-clause-another_stack c = refl
+
+pub returns-clause-held : goal.returns-clause-held
+unfolding digits
+returns-clause-held c = simp lookups

@@ -1,0 +1,31 @@
+-- What the messages and the states of handlers whose nodes never stop keep to, so that all that they send has bytes.
+use Rattle.std.specs.Prelude.{ℕ, ◌*◌, ◌≤◌}
+use Rattle.std.specs.List.{All}
+use Rattle.primary_backup.specs.Backup.{Backed}
+use Rattle.seqnum_xform.specs.Numbering.{Numbered}
+use Rattle.vst_base.specs.declared.lock.LockMsg.{LockMsg}
+use Rattle.vst_base.specs.declared.pb_msg.PbMsg.{PbMsg}
+use Rattle.vst_base.specs.declared.seq.SeqMsg.{SeqMsg}
+use Rattle.wire_fields.specs.Fields.{OptionFits}
+use Rattle.wire_fields.specs.Formats.{Format}
+use Rattle.wire_messages.specs.PeerBytes.{BackupFits}
+
+-- any message of a lock server
+abbrev pub Any : ℕ → ℕ → LockMsg → Type 0
+Any from to x = Unit {0}
+
+-- a message of primary-backup whose command has bytes
+abbrev pub HasBackup : {C : Type 0} → Format C → ℕ → ℕ → PbMsg C → Type 0
+HasBackup f from to x = BackupFits f x
+
+-- the commands that are out and that wait have bytes
+abbrev pub GoodBackup : {S C : Type 0} → Format C → ℕ → ℕ → Backed S C → Type 0
+GoodBackup f t n s = OptionFits f.Fits s.out × All f.Fits s.waiting
+
+-- a message that keeps to this, with a number of at most 8,000,000
+abbrev pub HasNumbered : {M : Type 0} → (ℕ → ℕ → M → Type 0) → ℕ → ℕ → SeqMsg M → Type 0
+HasNumbered Has from to x = Has from to x.inner × (x.number ≤ 8000000)
+
+-- a node has used up at most eight numbers a step
+abbrev pub GoodNumbered : {S : Type 0} → (ℕ → ℕ → S → Type 0) → ℕ → ℕ → Numbered S → Type 0
+GoodNumbered Good t n s = Good t n s.inner × (s.next ≤ 8 * t)

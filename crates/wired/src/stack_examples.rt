@@ -1,0 +1,55 @@
+ghost use Rattle.std.specs.Prelude.{ℕ, ◌≤◌};
+ghost use Rattle.kv_machine.specs.declared.cmd.KvCmd.{KvCmd as SpecKvCmd};
+ghost use Rattle.lock_server.specs.Locks.{lock_server};
+ghost use Rattle.lock_table.specs.declared.cmd.TableCmd.{TableCmd as SpecTableCmd};
+ghost use Rattle.primary_backup.specs.Backup.{primary_backup};
+ghost use Rattle.raft_types.specs.Messages.{IsClusterSize};
+ghost use Rattle.raft_xform.specs.Raft.{raft, raft_recovery};
+ghost use Rattle.seqnum_xform.specs.Numbering.{sequence_numbered};
+ghost use Rattle.vst_base.specs.Machines.{MachineMeaning};
+ghost use Rattle.vst_base.specs.declared.stack.StackId.TheVariants as stack;
+ghost use Rattle.wire_messages.specs.KvBytes.{kv_command};
+ghost use Rattle.wire_messages.specs.PeerBytes.{backup_message, lock_message, numbered};
+ghost use Rattle.wire_messages.specs.RaftBytes.{raft_message};
+ghost use Rattle.wire_messages.specs.TableBytes.{table_command};
+ghost use Rattle.wired.specs.RaftSaving.{IsAsked, raft_saving};
+ghost use Rattle.wired.specs.StackRuns.{RunsAsBytes, RunsOnBytesAlone};
+
+use crate::{clusters_run_the_same_on_bytes_alone, runs_as_bytes};
+use kv_machine::KvCmd;
+use lock_server::LockServer;
+use lock_table::TableCmd;
+use seqnum_xform::SeqNum;
+
+/// The stacks whose nodes never stop: with packets that are bytes each refuses what it refuses with messages, and clients see the
+/// same, on at most 1,000,000 steps. The commands that clients give are to have bytes, as all tokens of a schedule have.
+pub fn worked_stacks<S, O>()
+    ensures lock { (nodes : ℕ) → nodes ≤ 9 → RunsAsBytes lock_message stack.Lock (λ _. Unit {0}) (lock_server nodes) }
+    ensures lock_seq { (nodes : ℕ) → nodes ≤ 9
+        → RunsAsBytes (numbered lock_message) stack.LockSeq (λ _. Unit {0}) (sequence_numbered (lock_server nodes)) }
+    ensures kv_pb { (m : MachineMeaning S SpecKvCmd O)
+        → RunsAsBytes (backup_message kv_command) stack.KvPb kv_command.Fits (primary_backup m) }
+    ensures kv_pb_seq { (m : MachineMeaning S SpecKvCmd O)
+        → RunsAsBytes (numbered (backup_message kv_command)) stack.KvPbSeq kv_command.Fits (sequence_numbered (primary_backup m)) }
+    ensures table_pb_seq { (m : MachineMeaning S SpecTableCmd O)
+        → RunsAsBytes (numbered (backup_message table_command)) stack.TablePbSeq table_command.Fits
+        (sequence_numbered (primary_backup m)) }
+{
+    runs_as_bytes::<LockServer>();
+    runs_as_bytes::<SeqNum<LockServer>>();
+}
+
+/// The stacks whose nodes stop and start again: on bytes alone, in packets and in what is kept, each refuses what it refuses with
+/// messages and states, and clients see the same. The commands that clients give are to have bytes, and the numbers of clients and
+/// requests eight at most.
+pub fn worked_cluster_stacks<S, O>()
+    ensures kv_raft { (nodes : ℕ) (m : MachineMeaning S SpecKvCmd O) → IsClusterSize nodes
+        → RunsOnBytesAlone (raft_message kv_command) stack.KvRaft (raft_saving stack.KvRaft kv_command nodes)
+        (IsAsked kv_command) (raft nodes m) (raft_recovery m) }
+    ensures table_raft { (nodes : ℕ) (m : MachineMeaning S SpecTableCmd O) → IsClusterSize nodes
+        → RunsOnBytesAlone (raft_message table_command) stack.TableRaft (raft_saving stack.TableRaft table_command nodes)
+        (IsAsked table_command) (raft nodes m) (raft_recovery m) }
+{
+    clusters_run_the_same_on_bytes_alone::<S, O, KvCmd>();
+    clusters_run_the_same_on_bytes_alone::<S, O, TableCmd>();
+}

@@ -1,8 +1,0 @@
-use Rattle.raft_safety.specs.Runs.{world_after}
-use Rattle.xform_stack.proofs.cluster.RunningClusterExplores.sent.Goals as goal
-
-pub returns : goal.returns
-returns g c = λ ss had.
-    let has = rw (← c.self.view_is) at had in
-    let h = c.self.inside.world.handlers in
-    rw (← c.self.view_is) (c.sent.ensures (world_after (g.M.Machine.meaning h.machine) h.nodes ss) has.shows)

@@ -1,8 +1,0 @@
-use Rattle.net_semantics.specs.Runs.{no_recovery, run}
-use Rattle.xform_stack.proofs.running.RunningExplores.is_up.Goals as goal
-
-pub returns : goal.returns
-returns g c = λ ss had.
-    let has = rw (← c.self.view_is) at had in
-    let m = g.H.Handlers.meaning c.self.inside.world.handlers in
-    rw (← c.self.view_is) (c.is_up.ensures (run m (no_recovery {S = g.row.H-State.Denot}) ss) has.shows)
