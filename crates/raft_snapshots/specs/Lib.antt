@@ -1,0 +1,10 @@
+pub mod Applying
+pub mod Electing
+pub mod Examples
+pub mod Logs
+pub mod Nodes
+pub mod Raft
+pub mod Replicating
+pub mod Sending
+pub mod Snapshots
+pub mod Whole

@@ -1,0 +1,5 @@
+pub mod Applied
+pub mod Examples
+pub mod Mirrors
+pub mod Runs
+pub mod Safety
