@@ -1,5 +1,5 @@
 -- An image that is headed as a schedule of a stack names as many nodes as the stack may have.
-use Rattle.std.specs.Prelude.{◌≡◌, ◌≤◌, Option, Some, None}
+use Rattle.std.specs.Prelude.{◌≤◌, Option, Some, None}
 use Rattle.std.proofs.Common.{subst}
 use Rattle.check_text.specs.ImageLines.{IsHeaded}
 use Rattle.schedule_text.specs.Headers.{IsBy, IsHeader}

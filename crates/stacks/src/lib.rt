@@ -9,7 +9,6 @@ mod laws;
 mod layered;
 mod machine;
 mod own;
-mod rows;
 mod steady;
 mod table;
 

@@ -4,17 +4,13 @@ ghost use Rattle.stacks.specs.Plays.{IfFound};
 ghost use Rattle.stacks.specs.Stack.{stack_at};
 ghost use Rattle.vst_base.specs.declared.stack.StackId.TheVariants as id;
 
-use crate::rows::{
-    on_kv, on_kv_pb, on_kv_pb_seq, on_kv_raft, on_lock, on_lock_seq, on_table, on_table_pb_seq,
-    on_table_raft,
-};
-use crate::{Application, OnStack, OwnStack};
+use crate::{Alone, Application, Backed, Clustered, Numbered, OnStack, Own, OwnStack, Steady};
 use app_text::{KvText, LockText, TableText};
 use kv_machine::KvMachine;
 use lock_server::LockServer;
 use lock_table::TableMachine;
 use schedule_make::{KvInputs, LockInputs, TableInputs};
-use schedule_text::Header;
+use schedule_text::{Header, headers_follow_the_rows};
 use vst_base::StackId;
 
 impl OwnStack for LockServer {
@@ -83,15 +79,17 @@ pub fn on_stack<A, B, C, V: OnStack<A, B, C>>(
     requires ready { IfFound (stack_at header.now) (λ s. V.ready command s a.old b.old c.old) }
     ensures { IfFound (stack_at header.now) (λ s. V.Does command s a.old b.old c.old a.new b.new c.new result) }
 {
-    match header.stack {
-        StackId::Lock => on_lock(header, command, a, b, c),
-        StackId::LockSeq => on_lock_seq(header, command, a, b, c),
-        StackId::KvPb => on_kv_pb(header, command, a, b, c),
-        StackId::KvPbSeq => on_kv_pb_seq(header, command, a, b, c),
-        StackId::KvRaft => on_kv_raft(header, command, a, b, c),
-        StackId::TablePbSeq => on_table_pb_seq(header, command, a, b, c),
-        StackId::TableRaft => on_table_raft(header, command, a, b, c),
-        StackId::Kv => on_kv(header, command, a, b, c),
-        StackId::Table => on_table(header, command, a, b, c),
+    headers_follow_the_rows();
+    let (i, n) = (header.stack, header.nodes);
+    match i {
+        StackId::Lock => command.on::<Steady<Own<LockServer>>>(i, n, a, b, c),
+        StackId::LockSeq => command.on::<Steady<Numbered<Own<LockServer>>>>(i, n, a, b, c),
+        StackId::KvPb => command.on::<Steady<Backed<KvMachine>>>(i, n, a, b, c),
+        StackId::KvPbSeq => command.on::<Steady<Numbered<Backed<KvMachine>>>>(i, n, a, b, c),
+        StackId::KvRaft => command.on::<Clustered<KvMachine>>(i, n, a, b, c),
+        StackId::TablePbSeq => command.on::<Steady<Numbered<Backed<TableMachine>>>>(i, n, a, b, c),
+        StackId::TableRaft => command.on::<Clustered<TableMachine>>(i, n, a, b, c),
+        StackId::Kv => command.on::<Alone<KvMachine>>(i, n, a, b, c),
+        StackId::Table => command.on::<Alone<TableMachine>>(i, n, a, b, c),
     }
 }

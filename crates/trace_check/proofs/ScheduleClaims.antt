@@ -1,5 +1,5 @@
 -- Claims whose image is a schedule: where they were read, the lines of a trace tell its items.
-use Rattle.std.specs.Prelude.{◌≡◌, ◌↔◌, ℕ, ◌<◌, ◌≤◌, List, map, Option, Some, None}
+use Rattle.std.specs.Prelude.{◌≡◌, ◌↔◌, ℕ, ◌<◌, ◌≤◌, List, map, Some, None}
 use Rattle.std.proofs.Common.{ap, ◌∙◌, arith, sym}
 use Rattle.app_text.specs.Spelling.{IsSpelling}
 use Rattle.check_text.specs.Forms.{Form, claim_of, form_of}
