@@ -1,11 +1,11 @@
 ghost use Rattle.snap_safety.specs.Safety.{AppliedGrows, AppliedIsFree, EachMachineFollows, ExecutedGrows, IsFree, NoneIsDropped, NoneIsMissing, RunsAreLinearizable};
 
-use vst_base::Queries;
+use vst_base::Machine;
 
 /// A cluster with snapshots is safe, and clients see one machine: of every record of a machine over the types of `M`, every way of
 /// keeping snapshots (when a node shortens its log, and how a snapshot is spelled in bytes), any number of nodes, and
 /// every schedule that a network allows which loses, copies and reorders packets and stops and starts nodes.
-pub fn laws<M: Queries>()
+pub fn laws<M: Machine>()
     // A run is one of Raft with free choices over whole logs, from any moment of it to any later one: a snapshot that is taken
     // is all entries up to its index. So all laws of free choices hold of the whole logs.
     ensures is_free { IsFree M.State M.Cmd M.Out }
