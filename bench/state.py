@@ -17,7 +17,7 @@ SHORT, LONG = 500, 500_000
 MOST = 1.5
 
 NEEDS = (
-    "vst_base outside kv_machine lock_table raft_types wire_fields wire_messages wire_codec disk slots node_device node_body node_acts"
+    "vst_base outside kv_machine raft_types wire_fields wire_messages wire_codec disk slots node_device node_body node_acts"
     " node_state"
 )
 

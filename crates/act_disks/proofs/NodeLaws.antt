@@ -55,7 +55,7 @@ area-settled image zero = refl
 area-settled image (suc zero) = refl
 area-settled image (suc (suc n)) = refl
 
-module _ {C D : Type 0} (s : StackId) (f : Format C) (t : StackId) (g : Format D) (who : ℕ → Who) where
+module _ {C : Type 0} (s : StackId) (f : Format C) (who : ℕ → Who) where
   pub who-after : (store : StoreView) (kept : KeptView C) → (store_after s f store kept).who ≡ store.who
   who-after store kept = by (is_held store kept) (store.left == 0)
     where
@@ -78,46 +78,46 @@ module _ {C D : Type 0} (s : StackId) (f : Format C) (t : StackId) (g : Format D
   who-found w selector len Two found = refl
 
   abbrev pub KeepsNew : Crash → ℕ → StoreView → KeptView C → KeptView C → Disk → Type 0
-  KeepsNew crash n v old new disk = (selector : ℕ) × KeepsBy crash (found_by s f t g (who n)) old new selector (state_acts s f v new) disk
+  KeepsNew crash n v old new disk = (selector : ℕ) × KeepsBy crash (found_by s f (who n)) old new selector (state_acts s f v new) disk
 
   pub keeps-by : (crash : Crash) (n : ℕ) (v : StoreView) (old new : KeptView C) (disk : Disk) → v.who ≡ who n →
-      KeepsBy crash (found_by s f t g v.who) old new (store_after s f v new).selector (state_acts s f v new) disk → KeepsNew crash n v old new disk
+      KeepsBy crash (found_by s f v.who) old new (store_after s f v new).selector (state_acts s f v new) disk → KeepsNew crash n v old new disk
   keeps-by crash n v old new disk who_is keeps =
-      ((store_after s f v new).selector, subst (λ (w : Who). KeepsBy crash (found_by s f t g w) old new (store_after s f v new).selector (state_acts s f v new) disk) who_is keeps)
+      ((store_after s f v new).selector, subst (λ (w : Who). KeepsBy crash (found_by s f w) old new (store_after s f v new).selector (state_acts s f v new) disk) who_is keeps)
 
-  module _ (rests : HeldRests s f t g) (saves : SaveKeepsState s f t g) (found_held : FoundIsHeld s f t g) (fits : FoundFits s f t g who) where
-    pub saved : (n : ℕ) (v : StoreView) (old new : KeptView C) (disk : Disk) → NodeHolds s f t g who n v old disk → CanSave s f t g who n old new → StateSaved s f t g v old new disk
+  module _ (rests : HeldRests s f) (saves : SaveKeepsState s f) (found_held : FoundIsHeld s f) (fits : FoundFits s f who) where
+    pub saved : (n : ℕ) (v : StoreView) (old new : KeptView C) (disk : Disk) → NodeHolds s f who n v old disk → CanSave s f who n old new → StateSaved s f v old new disk
     saved n v old new disk h can = saves v old new disk h.holds (can.continues v h.holds.knows) (can.has v h.who_is h.holds.knows)
 
     pub reopens-slot : (n : ℕ) (image : Image) (k : KeptView C) (sel selector : ℕ) → image.selector ≡ selector ∷ [] → (r : Result (slot.Held C) Why) →
-        slot_found s f t g (who n) (area_at image (named selector)) ≡ r → opened (found_of (state_of r)) selector ≡ Held k sel →
-        NodeHolds s f t g who n (of_slot s f t g (who n) image selector r) k (after (each settled image) (opening_acts s f t g (who n) image))
+        slot_found s f (who n) (area_at image (named selector)) ≡ r → opened (found_of (state_of r)) selector ≡ Held k sel →
+        NodeHolds s f who n (of_slot s f (who n) image selector r) k (after (each settled image) (opening_acts s f (who n) image))
     reopens-slot n image k sel selector is (Err why) e opens = cc
     reopens-slot n image k sel selector is (Ok found) e opens =
         let kept : found.journal.kept ≡ k = cc in
         let bytes = area-settled image (named selector) in
-        let e2 : slot_found s f t g (who n) (area_at (each settled image) (named selector)).bytes ≡ Ok found = ap (λ (bs : List ℕ). slot_found s f t g (who n) bs) bytes ∙ e in
+        let e2 : slot_found s f (who n) (area_at (each settled image) (named selector)).bytes ≡ Ok found = ap (λ (bs : List ℕ). slot_found s f (who n) bs) bytes ∙ e in
         let held = found_held (who n) (each settled image) selector found is e2 (λ version. fits n (area_at image (named selector)) found e version) in
-        let here = subst (λ (bs : List ℕ). Holds s f t g (store_found s f (who n) selector (length bs) found.version found) found.journal.kept
-        (after (each settled image) (opening_acts s f t g (who n) image))) bytes held in
+        let here = subst (λ (bs : List ℕ). Holds s f (store_found s f (who n) selector (length bs) found.version found) found.journal.kept
+        (after (each settled image) (opening_acts s f (who n) image))) bytes held in
         record {
           who_is = who-found (who n) selector (length (area_at image (named selector))) found.version found;
-          holds = subst (λ (x : KeptView C). Holds s f t g (store_found s f (who n) selector (length (area_at image (named selector))) found.version found) x
-              (after (each settled image) (opening_acts s f t g (who n) image))) kept here;
+          holds = subst (λ (x : KeptView C). Holds s f (store_found s f (who n) selector (length (area_at image (named selector))) found.version found) x
+              (after (each settled image) (opening_acts s f (who n) image))) kept here;
         }
 
-    pub reopens-by : (n : ℕ) (image : Image) (k : KeptView C) (sel : ℕ) (bytes : List ℕ) → image.selector ≡ bytes → by_selector (found_by s f t g (who n)) image bytes ≡ Held k sel →
-        NodeHolds s f t g who n (of_areas s f t g (who n) image bytes) k (after (each settled image) (opening_acts s f t g (who n) image))
+    pub reopens-by : (n : ℕ) (image : Image) (k : KeptView C) (sel : ℕ) (bytes : List ℕ) → image.selector ≡ bytes → by_selector (found_by s f (who n)) image bytes ≡ Held k sel →
+        NodeHolds s f who n (of_areas s f (who n) image bytes) k (after (each settled image) (opening_acts s f (who n) image))
     reopens-by n image k sel [] is opens = cc
-    reopens-by n image k sel (selector ∷ []) is opens = reopens-slot n image k sel selector is (slot_found s f t g (who n) (area_at image (named selector))) refl opens
+    reopens-by n image k sel (selector ∷ []) is opens = reopens-slot n image k sel selector is (slot_found s f (who n) (area_at image (named selector))) refl opens
     reopens-by n image k sel (a ∷ b ∷ rest) is opens = cc
 
     -- by either test of what a crash may make of an area, where a save keeps by it
-    unfoldable pub node_laws : (crash : Crash) → ((n : ℕ) (v : StoreView) (old new : KeptView C) (disk : Disk) → NodeHolds s f t g who n v old disk →
-        StateSaved s f t g v old new disk → KeepsNew crash n v old new disk) → StoreLaws crash (node_stores s f t g who) (CanSave s f t g who)
+    unfoldable pub node_laws : (crash : Crash) → ((n : ℕ) (v : StoreView) (old new : KeptView C) (disk : Disk) → NodeHolds s f who n v old disk →
+        StateSaved s f v old new disk → KeepsNew crash n v old new disk) → StoreLaws crash (node_stores s f who) (CanSave s f who)
     node_laws crash keeps = record {
-      Holds = NodeHolds s f t g who;
-      rests = λ n v k disk h. (v.selector, subst (λ (w : Who). Rests (found_by s f t g w) k v.selector disk) h.who_is (rests v k disk h.holds));
+      Holds = NodeHolds s f who;
+      rests = λ n v k disk h. (v.selector, subst (λ (w : Who). Rests (found_by s f w) k v.selector disk) h.who_is (rests v k disk h.holds));
       keeps = λ n v old new disk h can. keeps n v old new disk h (saved n v old new disk h can);
       holds = λ n v old new disk h can. record { who_is = who-after v new ∙ h.who_is; holds = (saved n v old new disk h can).holds };
       nothing = λ n v old new disk h can none. held_same v old new h.holds.knows (can.continues v h.holds.knows) (none-held v new none);

@@ -14,7 +14,6 @@ use Rattle.vst_base.specs.declared.stack.StackId.TheVariants as stack
 use Rattle.vst_base.specs.declared.step.Step.{Step}
 use Rattle.vst_base.specs.declared.step.StepRefusal.{StepRefusal}
 use Rattle.wire_messages.specs.KvBytes.{kv_command}
-use Rattle.wire_messages.specs.TableBytes.{table_command}
 use Rattle.act_network.specs.ActRefusals.{act_refusal}
 use Rattle.act_network.specs.ActRuns.{IsActRun, acts_run, image_of}
 use Rattle.act_network.specs.declared.step.ActStep.{ActStep}
@@ -28,20 +27,20 @@ NodeSteps = List (ActStep (RaftInput KvCmd) Image)
 abbrev pub node_image : NodeSteps → List (Step (RaftInput KvCmd))
 node_image ss =
     image_of (raft 1 kv) (raft_recovery kv)
-    (store_disks may_become (node_stores stack.KvRaft kv_command stack.TableRaft table_command (λ n. who_as 0 1 cluster))) ss
+    (store_disks may_become (node_stores stack.KvRaft kv_command (λ n. who_as 0 1 cluster))) ss
 
 -- what reads of its areas give after these steps
 abbrev pub read_after : NodeSteps → Image
 read_after ss =
     contents
     ((acts_run (raft 1 kv) (raft_recovery kv)
-    (store_disks may_become (node_stores stack.KvRaft kv_command stack.TableRaft table_command (λ n. who_as 0 1 cluster))) ss).disk 0).1
+    (store_disks may_become (node_stores stack.KvRaft kv_command (λ n. who_as 0 1 cluster))) ss).disk 0).1
 
 abbrev pub node_refusal : NodeSteps → ActStep (RaftInput KvCmd) Image → Option StepRefusal
 node_refusal ss s =
     act_refusal (raft 1 kv)
     (acts_run (raft 1 kv) (raft_recovery kv)
-    (store_disks may_become (node_stores stack.KvRaft kv_command stack.TableRaft table_command (λ n. who_as 0 1 cluster))) ss) s
+    (store_disks may_become (node_stores stack.KvRaft kv_command (λ n. who_as 0 1 cluster))) ss) s
 
 abbrev pub puts : RaftInput KvCmd
 puts = record { client = 7; request = 1; cmd = Put a x }
@@ -60,8 +59,8 @@ three_acts = act.Act 0 ∷ act.Act 0 ∷ act.Act 0 ∷ []
 abbrev pub NodeTakes : NodeSteps → Type 0
 NodeTakes ss =
     IsActRun (raft 1 kv) (raft_recovery kv)
-    (store_disks may_become (node_stores stack.KvRaft kv_command stack.TableRaft table_command (λ n. who_as 0 1 cluster)))
-    (CanSave stack.KvRaft kv_command stack.TableRaft table_command (λ n. who_as 0 1 cluster)) ss
+    (store_disks may_become (node_stores stack.KvRaft kv_command (λ n. who_as 0 1 cluster)))
+    (CanSave stack.KvRaft kv_command (λ n. who_as 0 1 cluster)) ss
 
 abbrev pub FirstFits : List ℕ → Type 0
 FirstFits name = (body stack.KvRaft kv_command).Fits (body_of (who_as 0 1 name) (first_kept {C = KvCmd}))

@@ -17,12 +17,12 @@ use Rattle.act_raft.specs.Explained.{OneMachineExplains}
 use Rattle.act_disks.specs.NodeStores.{CanSave, FoundFits, node_stores}
 use Rattle.act_disks.specs.Stores.{store_disks}
 
-module _ {C D : Type 0} (crash : Crash) (S O : Type 0) (s : StackId) (f : Format C) (t : StackId) (g : Format D) where
+module _ {C : Type 0} (crash : Crash) (S O : Type 0) (s : StackId) (f : Format C) where
   -- Of any machine, with any names of the nodes: the first state has bytes, what is found in an old slot has, and each new state can be
   -- saved.
   abbrev pub NodesAreLinearizable : Type 0
   NodesAreLinearizable =
       (m : MachineMeaning S C O) (nodes : ℕ) (who : ℕ → Who) → IsClusterSize nodes →
-      ((n : ℕ) → (body s f).Fits (body_of (who n) (first_kept {C = C}))) → FoundFits s f t g who → (ss : List (ActStep (RaftInput C) Image)) →
-      IsActRun (raft nodes m) (raft_recovery m) (store_disks crash (node_stores s f t g who)) (CanSave s f t g who) ss →
-      OneMachineExplains m nodes (store_disks crash (node_stores s f t g who)) ss
+      ((n : ℕ) → (body s f).Fits (body_of (who n) (first_kept {C = C}))) → FoundFits s f who → (ss : List (ActStep (RaftInput C) Image)) →
+      IsActRun (raft nodes m) (raft_recovery m) (store_disks crash (node_stores s f who)) (CanSave s f who) ss →
+      OneMachineExplains m nodes (store_disks crash (node_stores s f who)) ss

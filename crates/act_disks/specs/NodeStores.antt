@@ -20,7 +20,7 @@ use Rattle.act_disks.specs.Stores.{Stores}
 abbrev pub empty_areas : Disk
 empty_areas = each settled (record { slot0 = []; slot1 = []; selector = [] })
 
-module _ {C D : Type 0} (s : StackId) (f : Format C) (t : StackId) (g : Format D) where
+module _ {C : Type 0} (s : StackId) (f : Format C) where
   -- what a node knows of areas that it has opened
   abbrev pub of_slot : Who → Image → ℕ → Result (Held C) Why → StoreView
   of_slot who image selector (Ok slot) = store_found s f who selector (length (area_at image (named selector))) slot.version slot
@@ -28,24 +28,24 @@ module _ {C D : Type 0} (s : StackId) (f : Format C) (t : StackId) (g : Format D
 
   abbrev pub of_areas : Who → Image → List ℕ → StoreView
   of_areas who image [] = store_at_base s f who 0 first_kept
-  of_areas who image (selector ∷ []) = of_slot who image selector (slot_found s f t g who (area_at image (named selector)))
+  of_areas who image (selector ∷ []) = of_slot who image selector (slot_found s f who (area_at image (named selector)))
   of_areas who image (a ∷ b ∷ rest) = store_at_base s f who 0 first_kept
 
   module _ (who : ℕ → Who) where
     abbrev pub node_stores : Stores (KeptView C) StoreView
     node_stores = record {
-      found = λ n. found_by s f t g (who n);
+      found = λ n. found_by s f (who n);
       acts = λ store kept. state_acts s f store kept;
       knows = λ store kept. store_after s f store kept;
-      at_first = λ n. (store_at_base s f (who n) 0 first_kept, after empty_areas (opening_acts s f t g (who n) (contents empty_areas)));
-      reopening = λ n image. opening_acts s f t g (who n) image;
+      at_first = λ n. (store_at_base s f (who n) 0 first_kept, after empty_areas (opening_acts s f (who n) (contents empty_areas)));
+      reopening = λ n image. opening_acts s f (who n) image;
       knows_found = λ n image. of_areas (who n) image image.selector;
       is_held = λ store kept. is_held store kept;
     }
 
     pub record NodeHolds (n : ℕ) (store : StoreView) (kept : KeptView C) (disk : Disk) : Type 0 where
       pub who_is : store.who ≡ who n
-      pub holds : Holds s f t g store kept disk
+      pub holds : Holds s f store kept disk
 
     -- the new state goes on from the held one, and what is written of it has bytes
     pub record CanSave (n : ℕ) (held kept : KeptView C) : Type 0 where
@@ -55,5 +55,5 @@ module _ {C D : Type 0} (s : StackId) (f : Format C) (t : StackId) (g : Format D
     -- a state that is found in a slot of version 1 has bytes
     abbrev pub FoundFits : Type 0
     FoundFits =
-        (n : ℕ) (bytes : List ℕ) (slot : Held C) → slot_found s f t g (who n) bytes ≡ Ok slot → slot.version ≡ One →
+        (n : ℕ) (bytes : List ℕ) (slot : Held C) → slot_found s f (who n) bytes ≡ Ok slot → slot.version ≡ One →
         (body s f).Fits (body_of (who n) slot.journal.kept)

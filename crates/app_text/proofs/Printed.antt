@@ -1,12 +1,9 @@
 -- What printing some words adds, and what it leaves of a text where it breaks off.
-use Rattle.std.proofs.Common.{◌≡◌, ℕ, ◌≤◌, List, [], ◌∷◌, ◌++◌, length, take, map, sym, ap, ◌∙◌, arith, length-append, append-nil}
+use Rattle.std.proofs.Common.{◌≡◌, ℕ, List, [], ◌∷◌, ◌++◌, map, sym, ap, append-nil}
 use Rattle.std.specs.List.{flat_map}
-use Rattle.std.proofs.Math.Seq.{take-append_seam}
-use Rattle.std.proofs.lemmas.List.{take-take}
 use Rattle.app_text.specs.declared.word.Word.{Word}
 use Rattle.app_text.specs.Printing.{word_text}
 use Rattle.app_text.specs.Words.{joined}
-use Rattle.lists.specs.Prefixes.{IsPrefix}
 
 abbrev pub spaced : List Word → List ℕ
 spaced args = flat_map (λ w. 32 ∷ word_text w) args

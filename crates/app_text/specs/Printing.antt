@@ -1,8 +1,7 @@
 -- What printing adds to a text.
-use Rattle.std.specs.Prelude.{◌≡◌, ℕ, List, ◌∷◌, length, take}
+use Rattle.std.specs.Prelude.{ℕ, List, ◌∷◌}
 use Rattle.app_text.specs.declared.word.Word.{Word}
 use Rattle.app_text.specs.declared.word.Word.TheVariants.{Plain, Marked}
-use Rattle.lists.specs.Prefixes.{IsPrefix}
 
 -- the bytes of a word
 abbrev pub word_text : Word → List ℕ

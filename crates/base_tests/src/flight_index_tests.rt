@@ -1,4 +1,4 @@
-use flight_index::FlightIndex;
+use flight_index::{FlightIndex, TurnIndex};
 use std::test::Fail;
 use vst_base::{MAX_NODES, Node};
 
@@ -52,5 +52,40 @@ fn nothing_is_in_flight_at_first(rt: HostRuntime) -> Result<(), Fail> {
     assert!(rt; index.in_flight() == 0);
     assert!(rt; index.nth_in_flight(0) == None);
     assert!(rt; index.nth_deliverable(0) == None);
+    Ok(())
+}
+
+// Of two hundred packets each even one goes from node 1 to node 0, and each odd one from node 0 to itself.
+#[test]
+fn only_the_first_packets_of_their_source_and_destination_are_found(
+    rt: HostRuntime,
+) -> Result<(), Fail> {
+    let mut index = TurnIndex::new(rt.alloc());
+    let (Some(zero), Some(one)) = (Node::new(0, MAX_NODES), Node::new(1, MAX_NODES)) else {
+        return Ok(());
+    };
+    for k in 0..200u32 {
+        index.sent(if k % 2 == 0 { one } else { zero }, zero)?;
+    }
+    assert!(rt; index.firsts() == 2);
+    for (i, k) in [(0, 0), (1, 1)] {
+        assert!(rt; index.nth_first(i) == Some(k));
+    }
+    assert!(rt; index.nth_first(2) == None);
+    Ok(())
+}
+
+#[test]
+fn the_next_packet_is_found_once_the_first_left(rt: HostRuntime) -> Result<(), Fail> {
+    let mut index = TurnIndex::new(rt.alloc());
+    let (Some(zero), Some(one)) = (Node::new(0, MAX_NODES), Node::new(1, MAX_NODES)) else {
+        return Ok(());
+    };
+    index.sent(one, zero)?;
+    index.sent(one, zero)?;
+    assert!(rt; index.nth_first(0) == Some(0));
+    index.gone(0);
+    assert!(rt; index.firsts() == 1);
+    assert!(rt; index.nth_first(0) == Some(1));
     Ok(())
 }

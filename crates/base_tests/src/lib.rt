@@ -21,9 +21,9 @@ mod number_set_tests;
 #[cfg(test)]
 mod outside_mem_tests;
 #[cfg(test)]
-mod outside_real_tests;
-#[cfg(test)]
 mod outside_tests;
+#[cfg(test)]
+mod real_stream_tests;
 #[cfg(test)]
 mod schedule_text_tests;
 #[cfg(test)]

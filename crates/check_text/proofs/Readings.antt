@@ -1,5 +1,5 @@
 -- The lines of a claim, read one after another from a source.
-use Rattle.std.specs.Prelude.{◌≡◌, ℕ, Bool, true, false, ◌+◌, ◌-◌, ◌≤◌, List, [], ◌∷◌, ◌++◌, length, Option, Some, None, IfSome, IfErr, Result, Ok, Err, refl}
+use Rattle.std.specs.Prelude.{◌≡◌, ℕ, Bool, true, false, ◌+◌, ◌-◌, ◌≤◌, List, [], ◌∷◌, ◌++◌, length, Option, Some, None, IfErr, Result, Ok, Err, refl}
 use Rattle.std.proofs.Common.{ap, ◌∙◌, sym, append_assoc, arith, length-append}
 use Rattle.vst_base.specs.Firsts.{first_of}
 use Rattle.line_reader.specs.declared.why.Why.{Why}

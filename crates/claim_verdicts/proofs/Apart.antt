@@ -1,5 +1,5 @@
 -- Texts tell the values apart that have one.
-use Rattle.std.specs.Prelude.{◌≡◌, ℕ, List, Option, Some}
+use Rattle.std.specs.Prelude.{◌≡◌, ℕ, List, Option}
 use Rattle.std.proofs.Common.{ap, ◌∙◌, sym}
 use Rattle.app_text.specs.Spelling.{IsSpelling}
 use Rattle.std.proofs.lemmas.Option.{same_Some}

@@ -1,5 +1,5 @@
 -- The verdict on a claim on a cluster, by the marks of the order and the names of its requests.
-use Rattle.std.specs.Prelude.{◌≡◌, ℕ, zero, suc, ◌+◌, ◌≤◌, Bool, true, false, not, ◌||◌, nat_lt, List, [], ◌∷◌, ◌++◌, length, map, take, drop, zip, Option, Some, None, option_map, option_and_then, cond, slice_get, refl}
+use Rattle.std.specs.Prelude.{◌≡◌, ℕ, suc, ◌+◌, ◌≤◌, Bool, true, false, not, ◌||◌, nat_lt, List, [], ◌∷◌, ◌++◌, length, map, take, drop, zip, Option, Some, None, option_map, option_and_then, cond, slice_get, refl}
 use Rattle.std.specs.List.{list_any}
 use Rattle.std.proofs.Common.{ap, ◌∙◌, sym, subst, append_assoc, arith, get_or, length-append, length-take}
 use Rattle.std.proofs.lemmas.Bool.Decides.{nat_tests}

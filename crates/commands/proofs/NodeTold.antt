@@ -8,7 +8,6 @@ use Rattle.outside.specs.declared.device.Address.{Address}
 use Rattle.vst_base.specs.declared.stack.StackId.TheVariants as stack
 use Rattle.wire_fields.specs.Bytes.{has_bytes, number_bytes, number_in, read_number}
 use Rattle.wire_messages.specs.KvBytes.{kv_command, kv_output}
-use Rattle.wire_messages.specs.TableBytes.{table_command}
 use Rattle.node_config.specs.Configs.{configured}
 use Rattle.node_config.specs.Examples.{local, sample_text, sample_with}
 use Rattle.node_config.specs.Outcomes.{Fits}
@@ -126,13 +125,13 @@ breaks_third =
         middle = booted;
         mid = after_two;
         each = (booted, after_one, (booted, started_at, (refl, refl), first_turn), second_turn);
-        last = at_most stack.KvRaft config kv kv_command kv_output stack.TableRaft table_command (Between (view_of booted)) first known 0 1
+        last = at_most stack.KvRaft config kv kv_command kv_output (Between (view_of booted)) first known 0 1
             after_two now (omega arith)
-            (heard_halts (settings_of config) kv stack.KvRaft kv_command stack.TableRaft table_command kv_output (who_of config)
+            (heard_halts (settings_of config) kv stack.KvRaft kv_command kv_output (who_of config)
             (Between (view_of booted)) Broken first known [] 0 (Now 0 ∷ ReceiveFailed 300 ∷ []) after_two hears_fault (omega arith) held refl);
       };
-      all = at_most stack.KvRaft config kv kv_command kv_output stack.TableRaft table_command (Starting first) first known 2 3 opened now
+      all = at_most stack.KvRaft config kv kv_command kv_output (Starting first) first known 2 3 opened now
           (omega arith)
-          (heard_halts (settings_of config) kv stack.KvRaft kv_command stack.TableRaft table_command kv_output (who_of config) (Starting first)
+          (heard_halts (settings_of config) kv stack.KvRaft kv_command kv_output (who_of config) (Starting first)
           Broken first known [] 2 broken_third opened hears_all (omega arith) held refl);
     }

@@ -235,3 +235,49 @@ pub total-fits : {xs : List (Option ℕ)} {n : ℕ} {counts : List ℕ} (up : Li
     → total ≡ count_by (goes_below k up) xs → get_or up k false ≡ true → total + get_or counts k 0 ≤ n
 total-fits {xs} up k total h below e is_up =
     omega (arith, total-more up k total h below e is_up, h.number, count_by-le-length (goes_below (k + 1) up) xs)
+
+-- how many are in flight to a node, after one came back
+each-back : (xs : List (Option ℕ)) (counts : List ℕ) (k to d : ℕ) → (eqb to d ≡ true) × (to ≡ d) ⊎ (eqb to d ≡ false) × (to ≢ d) → to < length counts
+    → k < length xs → get_or xs k None ≡ None
+    → get_or counts d 0 ≡ count_by (goes_to d) xs → get_or (set counts to (get_or counts to 0 + 1)) d 0 ≡ count_by (goes_to d) (set xs k (Some to))
+each-back xs counts k to d (inl w) within inside is e =
+    let a = get_or-set_at counts to d (get_or counts to 0 + 1) 0 (sym w.1) within in
+    let b = ap {B = ℕ} (λ m. get_or counts m 0) w.1 in
+    let c = sum_by-set (λ x. cond (goes_to d x) 1 0) xs k (Some to) None inside in
+    let f = ap {B = ℕ} (λ x. cond (goes_to d x) 1 0) is in
+    let g = ap {B = ℕ} (λ b. cond b 1 0) w.0 in
+    omega (arith, a, b, c, f, g, e)
+each-back xs counts k to d (inr w) within inside is e =
+    let a = get_or-set_other counts to d (get_or counts to 0 + 1) 0 (λ q. w.1 (sym q)) in
+    let c = sum_by-set (λ x. cond (goes_to d x) 1 0) xs k (Some to) None inside in
+    let f = ap {B = ℕ} (λ x. cond (goes_to d x) 1 0) is in
+    let g = ap {B = ℕ} (λ b. cond b 1 0) w.0 in
+    omega (arith, a, c, f, g, e)
+
+-- each is within where one came back
+pub within-back : (xs : List (Option ℕ)) (k to : ℕ) → to < MAX_NODES → list_all is_within xs ≡ true → list_all is_within (set xs k (Some to)) ≡ true
+within-back [] k to below h = h
+within-back (x ∷ xs) zero to below h = ap (λ b. b && list_all is_within xs) (lt-ltb to MAX_NODES below) ∙ and_rest (is_within x) (list_all is_within xs) h
+within-back (x ∷ xs) (suc k) to below h =
+    ap (λ b. b && list_all is_within (set xs k (Some to))) (and_first (is_within x) (list_all is_within xs) h)
+    ∙ within-back xs k to below (and_rest (is_within x) (list_all is_within xs) h)
+
+-- the counts after one came back
+pub counted-back : {xs : List (Option ℕ)} {n k to : ℕ} {counts : List ℕ} → IsCounted xs n counts → k < length xs → to < MAX_NODES → get_or xs k None ≡ None
+    → IsCounted (set xs k (Some to)) n (set counts to (get_or counts to 0 + 1))
+counted-back {xs} {n} {k} {to} {counts} h inside below is = record {
+  number = h.number ∙ sym (length-set xs k (Some to));
+  size = length-set counts to (get_or counts to 0 + 1) ∙ h.size;
+  within = within-back xs k to below h.within;
+  each = λ d node. each-back xs counts k to d (eqb_tells to d) (omega (arith, h.size, below)) inside is (h.each d node);
+}
+
+-- one that is not in flight is not counted yet
+pub room-back : {xs : List (Option ℕ)} {n k to : ℕ} {counts : List ℕ} → IsCounted xs n counts → k < length xs → to < MAX_NODES → get_or xs k None ≡ None
+    → get_or counts to 0 + 1 ≤ n
+room-back {xs} {n} {k} {to} {counts} h inside below is =
+    let c = sum_by-set (λ x. cond (goes_to to x) 1 0) xs k (Some to) None inside in
+    let f = ap {B = ℕ} (λ x. cond (goes_to to x) 1 0) is in
+    let g = ap {B = ℕ} (λ b. cond b 1 0) (eq-eqb to to refl) in
+    let most = count_by-le-length (goes_to to) (set xs k (Some to)) in
+    omega (arith, h.each to below, h.number, c, f, g, most, length-set xs k (Some to))

@@ -1,3 +1,5 @@
 pub mod Ranks
 pub mod Counts
 pub mod Trees
+pub mod Queueing
+pub mod Turning

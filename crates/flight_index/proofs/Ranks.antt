@@ -21,7 +21,7 @@ length_numbers_of p n (x ∷ xs) =
     ]
     in step ∙ sym (count-cons p x xs)
 
-numbers_of-append : {X : Type 0} (p : X → Bool) (n : ℕ) (xs ys : List X) → numbers_of p n (xs ++ ys) ≡ numbers_of p n xs ++ numbers_of p (n + length xs) ys
+pub numbers_of-append : {X : Type 0} (p : X → Bool) (n : ℕ) (xs ys : List X) → numbers_of p n (xs ++ ys) ≡ numbers_of p n xs ++ numbers_of p (n + length xs) ys
 numbers_of-append p n [] ys = grind arith
 numbers_of-append p n (x ∷ xs) ys =
     let e : n + 1 + length xs ≡ n + length (x ∷ xs) = omega arith in

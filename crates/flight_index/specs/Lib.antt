@@ -1,3 +1,4 @@
 pub mod Flights
 pub mod Trees
 pub mod TreeFalls
+pub mod Turns

@@ -1,4 +1,4 @@
-ghost use Rattle.std.specs.Prelude.{◌≡◌, ◌+◌, ◌-◌, ◌^◌, ◌<◌, ◌≤◌, true, [], ◌∷◌, ◌++◌, length, count_by, is_some, replicate, slice_set, slice_get, OnOk, OnErr};
+ghost use Rattle.std.specs.Prelude.{◌≡◌, ◌+◌, ◌-◌, ◌^◌, ◌<◌, ◌≤◌, true, [], ◌∷◌, ◌++◌, length, get_or, count_by, is_some, replicate, slice_set, slice_get, OnOk, OnErr};
 ghost use Rattle.std.specs.Option.{unwrap_or};
 ghost use Rattle.flight_index.specs.Flights.{goes_up, numbers_of};
 
@@ -68,6 +68,19 @@ impl FlightIndex {
     {
         if let Some(tree) = &mut self.tree {
             let _destination = tree.gone(k);
+        }
+    }
+
+    /// A copy of packet `k`, of which none was in flight, is in flight to this node.
+    pub fn back(&mut self, k: u32, to: Node)
+        requires place { k < length self.old.packets }
+        requires none { get_or self.old.packets k None ≡ None }
+        requires node { to < MAX_NODES }
+        ensures packets { self.new.packets ≡ slice_set self.old.packets k (Some to) }
+        ensures up { self.new.up ≡ self.old.up }
+    {
+        if let Some(tree) = &mut self.tree {
+            tree.back(k, to);
         }
     }
 

@@ -167,6 +167,29 @@ impl Tree {
     }
 }
 
+impl Tree {
+    /// Packet `k` of its packets, of which no copy was in flight, is in flight to this node.
+    pub fn back(&mut self, k: u32, to: Node)
+        requires place { k < length self.old }
+        requires none { get_or self.old k None ≡ None }
+        requires node { to < MAX_NODES }
+        ensures { self.new ≡ slice_set self.old k (Some to) }
+    {
+        self.counts[to.index() as usize] += 1;
+        match &mut self.branch {
+            Branch::Page(packets) => packets[k as usize] = Some(to),
+            Branch::Fork(left, right) => {
+                if k < left.len() {
+                    left.back(k, to);
+                } else {
+                    let within = k - left.len();
+                    right.back(within, to);
+                }
+            }
+        }
+    }
+}
+
 // Counts a packet that was in flight, if it was, as one that is not. It gives the packet back.
 fn uncount(counts: &mut [u32; NODES], packet: Option<Node>) -> Option<Node>
     requires { (d : ℕ) → packet ≡ Some d → (d < MAX_NODES) × (0 < get_or counts.old d 0) }

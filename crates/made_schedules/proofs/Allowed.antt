@@ -1,6 +1,6 @@
 -- Schedules that are made for a kind of stack have as many steps as were asked for, and its network allows them.
-use Rattle.std.specs.Prelude.{◌≡◌, ◌≢◌, ℕ, ◌<◌, ◌≤◌, false, None, length, refl}
-use Rattle.std.proofs.Common.{◌∙◌, ap, arith, sym}
+use Rattle.std.specs.Prelude.{◌≡◌, ◌≢◌, ℕ, ◌<◌, ◌≤◌, None, length}
+use Rattle.std.proofs.Common.{◌∙◌, arith}
 use Rattle.handler_trait.specs.Handling.{Meaning, Recovery}
 use Rattle.net_semantics.specs.Runs.{IsAllowed, no_recovery}
 use Rattle.net_semantics.specs.Worlds.{first_world}
@@ -12,7 +12,6 @@ use Rattle.stacks.specs.Fits.{IsFit, net_of}
 use Rattle.stacks.specs.Plays.{Found, Here, IfFound, Nowhere, found_map}
 use Rattle.stacks.specs.Kinds.{Clustered, Kind, Steady, service}
 use Rattle.stacks.specs.Made.{layers_make, makes}
-use Rattle.vst_base.specs.Nets.{keeps_order}
 use Rattle.vst_base.specs.Stacks.{row_of}
 use Rattle.vst_base.specs.declared.net.Net.{Net}
 use Rattle.vst_base.specs.declared.net.Net.TheVariants as net
@@ -28,20 +27,20 @@ module _ {S K I O M : Type 0} (on : Net) (m : Meaning S I O M) (r : Recovery S K
   asked : length (made on m r inputs seed steps) ≡ steps
   asked = as-many on m r inputs (first_world m) 0 (generator seed) steps
 
-  taken : on ≢ net.One → keeps_order on ≡ false → 0 < m.nodes → IsAllowed on m r (made on m r inputs seed steps)
-  taken sends free some = all-allowed on m r inputs (first_world m) 0 (generator seed) steps (first-has-steps on m r inputs sends free some)
+  taken : on ≢ net.One → 0 < m.nodes → IsAllowed on m r (made on m r inputs seed steps)
+  taken sends some = all-allowed on m r inputs (first_world m) 0 (generator seed) steps (first-has-steps on m r inputs sends some)
 
 pub kind-asked : (k : Kind) (n seed steps : ℕ) → length ((makes k n).made seed steps) ≡ steps
 kind-asked (Steady l) n = let s = service l in asked s.net (s.handlers n) (no_recovery {S = s.State}) (layers_make l)
 kind-asked (Clustered p) n = asked net.Fail (raft n p.machine) (raft_recovery p.machine) (asked_by_client p.makes)
 
-pub kind-allowed : (k : Kind) (n seed steps : ℕ) → KindMakes k → 0 < n → net_of k ≢ net.One → keeps_order (net_of k) ≡ false
+pub kind-allowed : (k : Kind) (n seed steps : ℕ) → KindMakes k → 0 < n → net_of k ≢ net.One
     → (makes k n).plays.play.refused ((makes k n).made seed steps) ≡ None
-kind-allowed (Steady l) n seed steps can some sends free =
+kind-allowed (Steady l) n seed steps can some sends =
     let s = service l in
-    taken s.net (s.handlers n) (no_recovery {S = s.State}) (layers_make l) seed steps sends free (some-nodes l n can some)
-kind-allowed (Clustered p) n seed steps can some sends free =
-    taken net.Fail (raft n p.machine) (raft_recovery p.machine) (asked_by_client p.makes) seed steps sends free some
+    taken s.net (s.handlers n) (no_recovery {S = s.State}) (layers_make l) seed steps sends (some-nodes l n can some)
+kind-allowed (Clustered p) n seed steps can some sends =
+    taken net.Fail (raft n p.machine) (raft_recovery p.machine) (asked_by_client p.makes) seed steps sends some
 
 -- what is so of each kind that is found is so of what is made for it
 pub found-asked : (found : Found Kind) (n seed steps : ℕ) → IfFound found KindMakes
@@ -50,16 +49,12 @@ found-asked Nowhere n seed steps is = absurd is
 found-asked (Here k) n seed steps is = kind-asked k n seed steps
 
 pub found-allowed : (row : StackRow) (found : Found Kind) (n seed steps : ℕ) → IfFound found (IsFit row) → IfFound found KindMakes → 0 < n → row.net ≢ net.One
-    → keeps_order row.net ≡ false → IfFound (found_map (λ k. makes k n) found) (λ a. a.plays.play.refused (a.made seed steps) ≡ None)
-found-allowed row Nowhere n seed steps fit can some sends free = absurd fit
-found-allowed row (Here k) n seed steps fit can some sends free =
-    kind-allowed k n seed steps can some (λ one. sends (fit.net ∙ one)) (ap keeps_order (sym fit.net) ∙ free)
+    → IfFound (found_map (λ k. makes k n) found) (λ a. a.plays.play.refused (a.made seed steps) ≡ None)
+found-allowed row Nowhere n seed steps fit can some sends = absurd fit
+found-allowed row (Here k) n seed steps fit can some sends =
+    kind-allowed k n seed steps can some (λ one. sends (fit.net ∙ one))
 
--- no stack's network keeps the order of packets, and each has nodes, but not too many
-pub any-order : (i : StackId) → keeps_order (row_of i).net ≡ false
-any-order stack.Lock = refl
-any-order _ = refl
-
+-- each stack has nodes, but not too many
 pub has-nodes : (i : StackId) → 0 < made_nodes (row_of i)
 has-nodes stack.Lock = omega arith
 has-nodes _ = omega arith

@@ -60,9 +60,9 @@ module _ {S K I O M : Type 0} (HasText : I → Type 0) (input_text : I → List 
       let i = inputs words.input place in
       let s = made_step net m inputs w place words in
       let here : place < MAX_STEPS = omega (arith, within) in
-      let n = chosen (candidates m w k) words.number in
+      let n = chosen (candidates net m w k) words.number in
       let packets : length w.packets ≤ 4294967296 = omega (arith, sent, here) in
-      let low : n < 4294967296 = chosen-below m w 4294967296 (omega arith) (omega (arith, nodes)) packets k words.number in (
+      let low : n < 4294967296 = chosen-below net m w 4294967296 (omega arith) (omega (arith, nodes)) packets k words.number in (
         spelled HasText input_text k i n low (texts.has_text words.input place here),
         short HasText input_text k i n low (texts.short words.input place here),
         made-lines (next m r w s) (place + 1) (after_words g) steps (omega (arith, packets-after m r few w (view_of s), sent)) (omega (arith, within)),

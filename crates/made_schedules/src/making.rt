@@ -71,13 +71,7 @@ fn write_schedule<K: Sink>(
     let line = header_line(alloc, header)?;
     made_schedules_are_allowed();
     match print_text(sink, &line) {
-        Ok(()) => on_stack(
-            &header,
-            Steps { alloc, seed, steps },
-            sink,
-            &mut (),
-            &mut (),
-        ),
+        Ok(()) => on_stack(&header, Steps { alloc, seed, steps }, sink, &mut ()),
         Err(fault) => Err(fault),
     }
 }

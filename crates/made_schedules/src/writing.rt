@@ -68,12 +68,12 @@ pub(crate) struct Steps {
     pub steps: u32,
 }
 
-impl<K: Sink> OnStack<K, (), ()> for Steps {
+impl<K: Sink> OnStack<K, ()> for Steps {
     type Said = Result<(), WriteFault>;
 
-    ghost ready = { λ s a _ _ _. (s.steps ≤ MAX_STEPS) × (a.plays.play.refused (a.made s.seed s.steps) ≡ None) };
+    ghost ready = { λ s a _ _. (s.steps ≤ MAX_STEPS) × (a.plays.play.refused (a.made s.seed s.steps) ≡ None) };
 
-    ghost Does = { λ s a k _ _ k' _ _ result. WritesText (step_lines a.plays.play a.made s.seed s.steps) (K.written k) (K.written k')
+    ghost Does = { λ s a k _ k' _ result. WritesText (step_lines a.plays.play a.made s.seed s.steps) (K.written k) (K.written k')
         (K.faults k) (K.faults k') (K.wants k) (K.wants k') result };
 
     fn on<S: StackCode>(
@@ -81,7 +81,6 @@ impl<K: Sink> OnStack<K, (), ()> for Steps {
         stack: StackId,
         nodes: u8,
         sink: &mut K,
-        _: &mut (),
         _: &mut (),
     ) -> Result<(), WriteFault> {
         let network = S::network(self.alloc, stack, nodes)?;

@@ -17,36 +17,36 @@ use Rattle.node_body.specs.declared.version.Version.TheVariants.{Two}
 use Rattle.node_acts.specs.Stores.{StoreView, Holds, Knows, Continues, found_of, found_by, terms_of, common, stays, same_vote, is_held}
 use Rattle.node_acts.proofs.Resting.{as_bytes, resting_bytes, resting_selector}
 
-module _ {C D : Type 0} (s : StackId) (f : Format C) (t : StackId) (g : Format D) where
-  pub holds_is : (store : StoreView) (kept : KeptView C) (disk : Disk) → (h : Holds s f t g store kept disk) →
-      found_by s f t g store.who (area_at disk (named store.selector)).bytes ≡ Is kept
+module _ {C : Type 0} (s : StackId) (f : Format C) where
+  pub holds_is : (store : StoreView) (kept : KeptView C) (disk : Disk) → (h : Holds s f store kept disk) →
+      found_by s f store.who (area_at disk (named store.selector)).bytes ≡ Is kept
   holds_is store kept disk h = ap (λ r. found_of (state_of r)) h.found ∙ ap Is h.kept_is
 
-  pub holds_rests : (store : StoreView) (kept : KeptView C) (disk : Disk) → Holds s f t g store kept disk → Rests (found_by s f t g store.who) kept store.selector disk
+  pub holds_rests : (store : StoreView) (kept : KeptView C) (disk : Disk) → Holds s f store kept disk → Rests (found_by s f store.who) kept store.selector disk
   holds_rests store kept disk h = record {
     pending = h.pending;
-    opens = held_from (found_by s f t g store.who) (contents disk) kept store.selector h.selector
-        (ap (found_by s f t g store.who) (contents_at disk (named store.selector)) ∙ holds_is store kept disk h);
+    opens = held_from (found_by s f store.who) (contents disk) kept store.selector h.selector
+        (ap (found_by s f store.who) (contents_at disk (named store.selector)) ∙ holds_is store kept disk h);
   }
 
   -- these bytes are found to be a slot of version 2, whose last gate stands there
   pub record IsSlot (store : StoreView) (kept : KeptView C) (bytes : List ℕ) : Type 0 where
     pub slot : Held C
-    pub found : slot_found s f t g store.who bytes ≡ Ok slot
+    pub found : slot_found s f store.who bytes ≡ Ok slot
     pub version : slot.version ≡ Two
     pub kept_is : slot.journal.kept ≡ kept
     pub left : slot.journal.left ≡ store.left
     pub gate : (store.left ≡ 0) ⊎ (length bytes ≡ suc (store.gate + slot.journal.hidden))
 
   pub holds_slot : (store : StoreView) (kept : KeptView C) (bytes : List ℕ) (disk : Disk) → Rests as_bytes bytes store.selector disk → IsSlot store kept bytes → Knows store kept →
-      Holds s f t g store kept disk
+      Holds s f store kept disk
   holds_slot store kept bytes disk r is knows =
       let same : bytes ≡ (area_at disk (named store.selector)).bytes = sym (resting_bytes bytes store.selector disk r) in
       record {
         pending = r.pending;
         selector = resting_selector bytes store.selector disk r;
         slot = is.slot;
-        found = subst (λ x. slot_found s f t g store.who x ≡ Ok is.slot) same is.found;
+        found = subst (λ x. slot_found s f store.who x ≡ Ok is.slot) same is.found;
         version = is.version;
         kept_is = is.kept_is;
         left = is.left;

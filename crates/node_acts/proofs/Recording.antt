@@ -32,13 +32,13 @@ use Rattle.node_acts.proofs.Helds.{IsSlot, holds_rests, holds_slot, kept_same, s
 use Rattle.node_acts.proofs.Overs.{over_front, over_all, take_front, take_before, drop_front}
 use Rattle.node_acts.proofs.Resting.{as_bytes, bytes_rest, resting_bytes, after_patch}
 
-module _ {C D : Type 0} (s : StackId) (f : Format C) (t : StackId) (g : Format D) (is_f : IsFormat f) (store : StoreView) (held kept : KeptView C) (disk : Disk) (spare : ℕ)
-    (h : Holds s f t g store held disk) (room : store.left ≡ suc spare) (continues : Continues store held kept) (fits : (change store.who.nodes (entry f)).Fits (record_to store kept)) where
+module _ {C : Type 0} (s : StackId) (f : Format C) (is_f : IsFormat f) (store : StoreView) (held kept : KeptView C) (disk : Disk) (spare : ℕ)
+    (h : Holds s f store held disk) (room : store.left ≡ suc spare) (continues : Continues store held kept) (fits : (change store.who.nodes (entry f)).Fits (record_to store kept)) where
   abbrev bytes : List ℕ
   bytes = (area_at disk (named store.selector)).bytes
 
-  abbrev stands : GateStands s f t g store.who bytes h.slot spare
-  stands = gate_stands s f t g is_f store.who bytes h.slot spare h.found (h.left ∙ room)
+  abbrev stands : GateStands s f store.who bytes h.slot spare
+  stands = gate_stands s f is_f store.who bytes h.slot spare h.found (h.left ∙ room)
 
   abbrev front : List ℕ
   front = stands.front
@@ -78,7 +78,7 @@ module _ {C D : Type 0} (s : StackId) (f : Format C) (t : StackId) (g : Format D
 
   follows : Follows f upto added
   follows =
-      let nodes = owner_nodes s f t g store.who bytes h.slot h.found in
+      let nodes = owner_nodes s f store.who bytes h.slot h.found in
       let few = stays_few store held kept h.knows in
       let log = ap (λ (k : KeptView C). length k.log) h.kept_is in
       record {
@@ -88,9 +88,9 @@ module _ {C D : Type 0} (s : StackId) (f : Format C) (t : StackId) (g : Format D
       }
 
   -- the bytes up to the gate alone say that the state is held
-  stays_held : (torn : List ℕ) → take (suc (length front)) torn ≡ front ++ stands.gate ∷ [] → found_by s f t g store.who torn ≡ Is held
+  stays_held : (torn : List ℕ) → take (suc (length front)) torn ≡ front ++ stands.gate ∷ [] → found_by s f store.who torn ≡ Is held
   stays_held torn e =
-      ap found_of (harmless s f t g is_f store.who front stands.gate upto spare stands.at (suc (length front)) torn e) ∙ ap Is h.kept_is
+      ap found_of (harmless s f is_f store.who front stands.gate upto spare stands.at (suc (length front)) torn e) ∙ ap Is h.kept_is
 
   -- the record is written
   recorded : overwritten bytes (suc store.gate) (record_bytes f store kept) ≡ front ++ stands.gate ∷ after_gate
@@ -103,9 +103,9 @@ module _ {C D : Type 0} (s : StackId) (f : Format C) (t : StackId) (g : Format D
       ∙ (ap (λ xs. (front ++ stands.gate ∷ []) ++ xs) (over_all (record_bytes f store kept) stands.more)
       ∙ append_assoc front (stands.gate ∷ []) after_gate))
 
-  torn_record : (crash : Crash) → IsCrash crash → TornIsEither crash (found_by s f t g store.who) held held bytes (suc store.gate) (record_bytes f store kept)
+  torn_record : (crash : Crash) → IsCrash crash → TornIsEither crash (found_by s f store.who) held held bytes (suc store.gate) (record_bytes f store kept)
   torn_record crash is_crash =
-      record_is_harmless crash is_crash (found_by s f t g store.who) held bytes (suc store.gate) (record_bytes f store kept) (suc (length front)) (omega (arith, place)) (omega (arith, size))
+      record_is_harmless crash is_crash (found_by s f store.who) held bytes (suc store.gate) (record_bytes f store kept) (suc (length front)) (omega (arith, place)) (omega (arith, size))
       (λ other e. stays_held other (e ∙ (ap (λ xs. take (suc (length front)) xs) stands.bytes ∙ take_front front stands.gate stands.more)))
 
   abbrev first : List Act
@@ -117,9 +117,9 @@ module _ {C D : Type 0} (s : StackId) (f : Format C) (t : StackId) (g : Format D
   abbrev mid : Disk
   mid = after disk first
 
-  keeps_record : (crash : Crash) → IsCrash crash → KeepsBy crash (found_by s f t g store.who) held held store.selector first disk
+  keeps_record : (crash : Crash) → IsCrash crash → KeepsBy crash (found_by s f store.who) held held store.selector first disk
   keeps_record crash is_crash =
-      patch_is_such crash is_crash (found_by s f t g store.who) disk store.selector held held (suc store.gate) (record_bytes f store kept) (holds_rests s f t g store held disk h)
+      patch_is_such crash is_crash (found_by s f store.who) disk store.selector held held (suc store.gate) (record_bytes f store kept) (holds_rests s f store held disk h)
       (torn_record crash is_crash)
       (stays_held (overwritten bytes (suc store.gate) (record_bytes f store kept)) (ap (λ xs. take (suc (length front)) xs) recorded ∙ take_front front stands.gate after_gate))
 
@@ -139,24 +139,24 @@ module _ {C D : Type 0} (s : StackId) (f : Format C) (t : StackId) (g : Format D
       ∙ (ap (λ xs. xs ++ drop (stays store kept) kept.log) continues ∙ take-append-drop (stays store kept) kept.log))
 
   -- whatever the gate's byte is
-  at_gate : (v : ℕ) → (found_by s f t g store.who (front ++ v ∷ after_gate) ≡ Is held) ⊎ (found_by s f t g store.who (front ++ v ∷ after_gate) ≡ Is kept)
-  at_gate v = by (either s f t g is_f store.who front stands.gate upto spare stands.at added follows 0 rest refl v)
+  at_gate : (v : ℕ) → (found_by s f store.who (front ++ v ∷ after_gate) ≡ Is held) ⊎ (found_by s f store.who (front ++ v ∷ after_gate) ≡ Is kept)
+  at_gate v = by (either s f is_f store.who front stands.gate upto spare stands.at added follows 0 rest refl v)
     where
       same : front ++ v ∷ after_gate ≡ front ++ v ∷ ((change_in f upto).spell added ++ 0 ∷ rest)
       same = ap (λ xs. front ++ v ∷ xs) as_record
 
-      by : (state_of (slot_found s f t g store.who (front ++ v ∷ ((change_in f upto).spell added ++ 0 ∷ rest))) ≡ Ok h.slot.journal.kept)
-          ⊎ (state_of (slot_found s f t g store.who (front ++ v ∷ ((change_in f upto).spell added ++ 0 ∷ rest))) ≡ Ok (patched added h.slot.journal.kept))
-          → (found_by s f t g store.who (front ++ v ∷ after_gate) ≡ Is held) ⊎ (found_by s f t g store.who (front ++ v ∷ after_gate) ≡ Is kept)
-      by (inl e) = inl (ap (found_by s f t g store.who) same ∙ (ap found_of e ∙ ap Is h.kept_is))
-      by (inr e) = inr (ap (found_by s f t g store.who) same ∙ (ap found_of e ∙ ap Is patched_is))
+      by : (state_of (slot_found s f store.who (front ++ v ∷ ((change_in f upto).spell added ++ 0 ∷ rest))) ≡ Ok h.slot.journal.kept)
+          ⊎ (state_of (slot_found s f store.who (front ++ v ∷ ((change_in f upto).spell added ++ 0 ∷ rest))) ≡ Ok (patched added h.slot.journal.kept))
+          → (found_by s f store.who (front ++ v ∷ after_gate) ≡ Is held) ⊎ (found_by s f store.who (front ++ v ∷ after_gate) ≡ Is kept)
+      by (inl e) = inl (ap (found_by s f store.who) same ∙ (ap found_of e ∙ ap Is h.kept_is))
+      by (inr e) = inr (ap (found_by s f store.who) same ∙ (ap found_of e ∙ ap Is patched_is))
 
-  torn_gate : (crash : Crash) → IsCrash crash → TornIsEither crash (found_by s f t g store.who) held kept (area_at mid (named store.selector)).bytes store.gate (1 ∷ [])
+  torn_gate : (crash : Crash) → IsCrash crash → TornIsEither crash (found_by s f store.who) held kept (area_at mid (named store.selector)).bytes store.gate (1 ∷ [])
   torn_gate crash is_crash =
-      subst (λ xs. TornIsEither crash (found_by s f t g store.who) held kept xs store.gate (1 ∷ [])) (sym mid_bytes)
-      (subst (λ n. TornIsEither crash (found_by s f t g store.who) held kept (front ++ stands.gate ∷ after_gate) n (1 ∷ [])) (sym place)
-      (gate_is_either crash is_crash (found_by s f t g store.who) held kept (front ++ stands.gate ∷ after_gate) (length front) 1 there
-      (λ v. subst (λ xs. (found_by s f t g store.who xs ≡ Is held) ⊎ (found_by s f t g store.who xs ≡ Is kept)) (sym (around v)) (at_gate v))))
+      subst (λ xs. TornIsEither crash (found_by s f store.who) held kept xs store.gate (1 ∷ [])) (sym mid_bytes)
+      (subst (λ n. TornIsEither crash (found_by s f store.who) held kept (front ++ stands.gate ∷ after_gate) n (1 ∷ [])) (sym place)
+      (gate_is_either crash is_crash (found_by s f store.who) held kept (front ++ stands.gate ∷ after_gate) (length front) 1 there
+      (λ v. subst (λ xs. (found_by s f store.who xs ≡ Is held) ⊎ (found_by s f store.who xs ≡ Is kept)) (sym (around v)) (at_gate v))))
     where
       there : length front < length (front ++ stands.gate ∷ after_gate)
       there = let long = length-append front (stands.gate ∷ after_gate) in omega (arith, long)
@@ -171,27 +171,27 @@ module _ {C D : Type 0} (s : StackId) (f : Format C) (t : StackId) (g : Format D
   abbrev slot_then : Held C
   slot_then = held_with upto (patched added h.slot.journal.kept) spare (length rest)
 
-  found_then : slot_found s f t g store.who (front ++ 1 ∷ after_gate) ≡ Ok slot_then
+  found_then : slot_found s f store.who (front ++ 1 ∷ after_gate) ≡ Ok slot_then
   found_then =
-      ap (λ xs. slot_found s f t g store.who (front ++ 1 ∷ xs)) as_record
-      ∙ open_adds s f t g is_f store.who front stands.gate upto spare stands.at added follows 1 0 rest refl refl
+      ap (λ xs. slot_found s f store.who (front ++ 1 ∷ xs)) as_record
+      ∙ open_adds s f is_f store.who front stands.gate upto spare stands.at added follows 1 0 rest refl refl
 
-  is_then : found_by s f t g store.who (front ++ 1 ∷ after_gate) ≡ Is kept
+  is_then : found_by s f store.who (front ++ 1 ∷ after_gate) ≡ Is kept
   is_then = ap (λ r. found_of (state_of r)) found_then ∙ ap Is patched_is
 
-  keeps_gate : (crash : Crash) → IsCrash crash → KeepsBy crash (found_by s f t g store.who) held kept store.selector second mid
+  keeps_gate : (crash : Crash) → IsCrash crash → KeepsBy crash (found_by s f store.who) held kept store.selector second mid
   keeps_gate crash is_crash =
-      patch_is_such crash is_crash (found_by s f t g store.who) mid store.selector held kept store.gate (1 ∷ []) (keeps_record crash is_crash).done (torn_gate crash is_crash)
-      (ap (λ xs. found_by s f t g store.who (overwritten xs store.gate (1 ∷ []))) mid_bytes ∙ (ap (found_by s f t g store.who) opened ∙ is_then))
+      patch_is_such crash is_crash (found_by s f store.who) mid store.selector held kept store.gate (1 ∷ []) (keeps_record crash is_crash).done (torn_gate crash is_crash)
+      (ap (λ xs. found_by s f store.who (overwritten xs store.gate (1 ∷ []))) mid_bytes ∙ (ap (found_by s f store.who) opened ∙ is_then))
 
-  pub keeps_append : (crash : Crash) → IsCrash crash → KeepsBy crash (found_by s f t g store.who) held kept store.selector (append_acts (named store.selector) store.gate (record_bytes f store kept)) disk
+  pub keeps_append : (crash : Crash) → IsCrash crash → KeepsBy crash (found_by s f store.who) held kept store.selector (append_acts (named store.selector) store.gate (record_bytes f store kept)) disk
   keeps_append crash is_crash =
-      keeps_both crash is_crash (found_by s f t g store.who) disk store.selector store.selector held kept first second (keeps_record crash is_crash) (keeps_gate crash is_crash)
+      keeps_both crash is_crash (found_by s f store.who) disk store.selector store.selector held kept first second (keeps_record crash is_crash) (keeps_gate crash is_crash)
 
   abbrev store_then : StoreView
   store_then = store_of store.who store.selector (store.gate + length (record_bytes f store kept)) (store.left - 1) kept
 
-  slot_is : IsSlot s f t g store_then kept (front ++ 1 ∷ after_gate)
+  slot_is : IsSlot s f store_then kept (front ++ 1 ∷ after_gate)
   slot_is =
       let long = length-append front (1 ∷ after_gate) in
       let both = length-append (record_bytes f store kept) rest in
@@ -210,7 +210,7 @@ module _ {C D : Type 0} (s : StackId) (f : Format C) (t : StackId) (g : Format D
       (subst (λ xs. Rests as_bytes xs store.selector (after mid second)) opened
       (after_patch mid store.selector (front ++ stands.gate ∷ after_gate) store.gate (1 ∷ []) mid_rests))
 
-  pub holds_append : Holds s f t g store_then kept (after disk (append_acts (named store.selector) store.gate (record_bytes f store kept)))
+  pub holds_append : Holds s f store_then kept (after disk (append_acts (named store.selector) store.gate (record_bytes f store kept)))
   holds_append =
-      holds_slot s f t g store_then kept (front ++ 1 ∷ after_gate) (after disk (append_acts (named store.selector) store.gate (record_bytes f store kept))) then_rests slot_is
+      holds_slot s f store_then kept (front ++ 1 ∷ after_gate) (after disk (append_acts (named store.selector) store.gate (record_bytes f store kept))) then_rests slot_is
       (record { term = refl; voted = refl; terms = refl })

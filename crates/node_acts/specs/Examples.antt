@@ -8,7 +8,6 @@ use Rattle.vst_base.specs.Entries.{EntryView}
 use Rattle.vst_base.specs.declared.stack.StackId.TheVariants as stack
 use Rattle.vst_base.specs.declared.what.What.TheVariants as what
 use Rattle.wire_messages.specs.KvBytes.{kv_command}
-use Rattle.wire_messages.specs.TableBytes.{table_command}
 use Rattle.node_body.specs.Bodies.{kept_as}
 use Rattle.node_body.specs.Examples.{cluster, who_as}
 use Rattle.node_body.specs.declared.slot.Held.{Held}
@@ -48,7 +47,7 @@ then_knows store kept = store_after stack.KvRaft kv_command store kept
 
 abbrev pub opens : List ℕ → List ℕ → List ℕ → List Act
 opens slot0 slot1 selector =
-    opening_acts stack.KvRaft kv_command stack.TableRaft table_command who (record { slot0 = slot0; slot1 = slot1; selector = selector })
+    opening_acts stack.KvRaft kv_command who (record { slot0 = slot0; slot1 = slot1; selector = selector })
 
 -- a slot that is written whole
 abbrev pub whole : ℕ → List ℕ → List Act
@@ -62,7 +61,7 @@ abbrev pub at_rest : List ℕ → List ℕ → List ℕ → Disk
 at_rest slot0 slot1 selector = record { slot0 = settled slot0; slot1 = settled slot1; selector = settled selector }
 
 abbrev pub holds : StoreView → KeptView KvCmd → Disk → Type 0
-holds store kept disk = Holds stack.KvRaft kv_command stack.TableRaft table_command store kept disk
+holds store kept disk = Holds stack.KvRaft kv_command store kept disk
 
 -- what is known of a slot of so many bytes that was found under a selector
 abbrev pub finds : ℕ → ℕ → Version → Held KvCmd → StoreView
@@ -71,5 +70,5 @@ finds selector len version slot = store_found stack.KvRaft kv_command who select
 -- whether this image is as an opening of these areas leaves them
 abbrev pub is_as_found : Disk → List ℕ → List ℕ → List ℕ → Type 0
 is_as_found disk slot0 slot1 selector =
-    IsAsFound (found_by stack.KvRaft kv_command stack.TableRaft table_command who) first_kept disk
+    IsAsFound (found_by stack.KvRaft kv_command who) first_kept disk
     (record { slot0 = slot0; slot1 = slot1; selector = selector })

@@ -66,13 +66,13 @@ abbrev pub acts_on_slot : {C : Type 0} → StackId → Format C → Who → ℕ 
 acts_on_slot s f who selector (Ok slot) = renewing_acts s f who selector slot.version slot.journal.kept
 acts_on_slot s f who selector (Err why) = []
 
-abbrev pub acts_by_selector : {C D : Type 0} → StackId → Format C → StackId → Format D → Who → Image → List ℕ → List Act
-acts_by_selector s f t g who image [] = fresh_acts (base_of s f who first_kept)
-acts_by_selector s f t g who image (selector ∷ []) = acts_on_slot s f who selector (slot_found s f t g who (area_at image (named selector)))
-acts_by_selector s f t g who image (a ∷ b ∷ rest) = []
+abbrev pub acts_by_selector : {C : Type 0} → StackId → Format C → Who → Image → List ℕ → List Act
+acts_by_selector s f who image [] = fresh_acts (base_of s f who first_kept)
+acts_by_selector s f who image (selector ∷ []) = acts_on_slot s f who selector (slot_found s f who (area_at image (named selector)))
+acts_by_selector s f who image (a ∷ b ∷ rest) = []
 
-abbrev pub opening_acts : {C D : Type 0} → StackId → Format C → StackId → Format D → Who → Image → List Act
-opening_acts s f t g who image = sync_acts ++ acts_by_selector s f t g who image image.selector
+abbrev pub opening_acts : {C : Type 0} → StackId → Format C → Who → Image → List Act
+opening_acts s f who image = sync_acts ++ acts_by_selector s f who image image.selector
 
 -- what the node knows then of a slot of so many bytes that it found
 abbrev pub store_found : {C : Type 0} → StackId → Format C → Who → ℕ → ℕ → Version → Held C → StoreView

@@ -23,9 +23,9 @@ use Rattle.node_acts.specs.Stores.{StoreView, Holds, Continues, found_by, is_hel
 use Rattle.node_acts.specs.StateActs.{first_kept, record_to, state_acts, store_after, store_at_base, store_found, opening_acts}
 
 -- What the node holds is what its areas open as, at rest.
-abbrev pub HeldRests : {C D : Type 0} → StackId → Format C → StackId → Format D → Type 0
-HeldRests {C} s f t g =
-    (store : StoreView) (kept : KeptView C) (disk : Disk) → Holds s f t g store kept disk → Rests (found_by s f t g store.who) kept store.selector disk
+abbrev pub HeldRests : {C : Type 0} → StackId → Format C → Type 0
+HeldRests {C} s f =
+    (store : StoreView) (kept : KeptView C) (disk : Disk) → Holds s f store kept disk → Rests (found_by s f store.who) kept store.selector disk
 
 -- what a save writes has bytes: a base where no record may follow, else a record
 pub record HasBytes {C : Type 0} (s : StackId) (f : Format C) (store : StoreView) (kept : KeptView C) : Type 0 where
@@ -34,31 +34,31 @@ pub record HasBytes {C : Type 0} (s : StackId) (f : Format C) (store : StoreView
 
 -- After a save: at each moment of it the areas open as the state that was held or as the one that is saved, in the end as that one,
 -- and the node knows how they are. So it is where a crash may leave lengths between, too.
-pub record StateSaved {C D : Type 0} (s : StackId) (f : Format C) (t : StackId) (g : Format D) (store : StoreView) (held kept : KeptView C) (disk : Disk) : Type 0 where
-  pub keeps : Keeps (found_by s f t g store.who) held kept (store_after s f store kept).selector (state_acts s f store kept) disk
+pub record StateSaved {C : Type 0} (s : StackId) (f : Format C) (store : StoreView) (held kept : KeptView C) (disk : Disk) : Type 0 where
+  pub keeps : Keeps (found_by s f store.who) held kept (store_after s f store kept).selector (state_acts s f store kept) disk
   pub between :
-      KeepsBy may_become_between (found_by s f t g store.who) held kept (store_after s f store kept).selector
+      KeepsBy may_become_between (found_by s f store.who) held kept (store_after s f store kept).selector
       (state_acts s f store kept) disk
-  pub holds : Holds s f t g (store_after s f store kept) kept (after disk (state_acts s f store kept))
+  pub holds : Holds s f (store_after s f store kept) kept (after disk (state_acts s f store kept))
 
-abbrev pub SaveKeepsState : {C D : Type 0} → StackId → Format C → StackId → Format D → Type 0
-SaveKeepsState {C} s f t g =
-    (store : StoreView) (held kept : KeptView C) (disk : Disk) → Holds s f t g store held disk → Continues store held kept →
-    (is_held store kept ≡ false → HasBytes s f store kept) → StateSaved s f t g store held kept disk
+abbrev pub SaveKeepsState : {C : Type 0} → StackId → Format C → Type 0
+SaveKeepsState {C} s f =
+    (store : StoreView) (held kept : KeptView C) (disk : Disk) → Holds s f store held disk → Continues store held kept →
+    (is_held store kept ≡ false → HasBytes s f store kept) → StateSaved s f store held kept disk
 
 -- After an opening the node knows how the areas are: they hold the first state where area 2 was empty, else the state that was found.
-abbrev pub FreshIsHeld : {C D : Type 0} → StackId → Format C → StackId → Format D → Type 0
-FreshIsHeld {C} s f t g =
+abbrev pub FreshIsHeld : {C : Type 0} → StackId → Format C → Type 0
+FreshIsHeld {C} s f =
     (who : Who) (disk : Disk) → disk.selector.bytes ≡ [] → (body s f).Fits (body_of who (first_kept {C = C})) →
-    Holds s f t g (store_at_base s f who 0 first_kept) first_kept (after disk (opening_acts s f t g who (contents disk)))
+    Holds s f (store_at_base s f who 0 first_kept) first_kept (after disk (opening_acts s f who (contents disk)))
 
-abbrev pub FoundIsHeld : {C D : Type 0} → StackId → Format C → StackId → Format D → Type 0
-FoundIsHeld {C} s f t g =
+abbrev pub FoundIsHeld : {C : Type 0} → StackId → Format C → Type 0
+FoundIsHeld {C} s f =
     (who : Who) (disk : Disk) (selector : ℕ) (found : slot.Held C) → disk.selector.bytes ≡ selector ∷ [] →
-    slot_found s f t g who (area_at disk (named selector)).bytes ≡ Ok found →
+    slot_found s f who (area_at disk (named selector)).bytes ≡ Ok found →
     (found.version ≡ One → (body s f).Fits (body_of who found.journal.kept)) →
-    Holds s f t g (store_found s f who selector (length (area_at disk (named selector)).bytes) found.version found) found.journal.kept
-    (after disk (opening_acts s f t g who (contents disk)))
+    Holds s f (store_found s f who selector (length (area_at disk (named selector)).bytes) found.version found) found.journal.kept
+    (after disk (opening_acts s f who (contents disk)))
 
 -- An image after the third sync of an opening: what was read, or what opens as the state that was found, or, where area 2 was empty,
 -- what is fresh or opens as the first state.
@@ -69,10 +69,10 @@ IsAsFound {K} found first disk image =
     ⊎ ((disk.selector.bytes ≡ []) × ((opening found image ≡ Fresh) ⊎ OpensAs found first image)))
 
 -- the states that an opening writes have bytes
-pub record OpeningFits {C D : Type 0} (s : StackId) (f : Format C) (t : StackId) (g : Format D) (who : Who) (disk : Disk) : Type 0 where
+pub record OpeningFits {C : Type 0} (s : StackId) (f : Format C) (who : Who) (disk : Disk) : Type 0 where
   pub first : disk.selector.bytes ≡ [] → (body s f).Fits (body_of who (first_kept {C = C}))
   pub renewed : (selector : ℕ) (found : slot.Held C) → disk.selector.bytes ≡ selector ∷ [] →
-      slot_found s f t g who (area_at disk (named selector)).bytes ≡ Ok found → found.version ≡ One → (body s f).Fits (body_of who found.journal.kept)
+      slot_found s f who (area_at disk (named selector)).bytes ≡ Ok found → found.version ≡ One → (body s f).Fits (body_of who found.journal.kept)
 
 -- After three syncs and no more a crash leaves what was read.
 abbrev pub SyncsLeave : Crash → Type 0
@@ -81,8 +81,8 @@ SyncsLeave crash =
     take 3 did ≡ sync_acts → image ≡ contents disk
 
 -- At each moment of an opening, also where a fault cuts it short: from the third sync on a crash leaves the state that was found.
-abbrev pub OpeningLeaves : Crash → {C D : Type 0} → StackId → Format C → StackId → Format D → Type 0
-OpeningLeaves crash {C} s f t g =
-    (who : Who) (disk : Disk) (did : List Act) (image : Image) → IsCutShort (opening_acts s f t g who (contents disk)) did →
-    OpeningFits s f t g who disk → leaves_by crash disk did image ≡ true → take 3 did ≡ sync_acts →
-    IsAsFound (found_by s f t g who) first_kept disk image
+abbrev pub OpeningLeaves : Crash → {C : Type 0} → StackId → Format C → Type 0
+OpeningLeaves crash {C} s f =
+    (who : Who) (disk : Disk) (did : List Act) (image : Image) → IsCutShort (opening_acts s f who (contents disk)) did →
+    OpeningFits s f who disk → leaves_by crash disk did image ≡ true → take 3 did ≡ sync_acts →
+    IsAsFound (found_by s f who) first_kept disk image

@@ -29,9 +29,9 @@ abbrev pub found_of : {K : Type 0} → Result K Why → Found K
 found_of (Ok kept) = Is kept
 found_of (Err why) = Not (why_of why)
 
--- for a node of the stack s that asks; t is the other stack
-abbrev pub found_by : {C D : Type 0} → StackId → Format C → StackId → Format D → Who → List ℕ → Found (KeptView C)
-found_by s f t g who bytes = found_of (state_of (slot_found s f t g who bytes))
+-- for a node of the stack s that asks
+abbrev pub found_by : {C : Type 0} → StackId → Format C → Who → List ℕ → Found (KeptView C)
+found_by s f who bytes = found_of (state_of (slot_found s f who bytes))
 
 -- the terms of entries
 abbrev pub terms_of : {C : Type 0} → List (EntryView C) → List ℕ
@@ -67,11 +67,11 @@ pub record Knows {C : Type 0} (store : StoreView) (kept : KeptView C) : Type 0 w
 
 -- The areas are as the node knows, and hold this state: nothing is pending, the named slot is of version 2, and its last gate stands
 -- where the node thinks.
-pub record Holds {C D : Type 0} (s : StackId) (f : Format C) (t : StackId) (g : Format D) (store : StoreView) (kept : KeptView C) (disk : Disk) : Type 0 where
+pub record Holds {C : Type 0} (s : StackId) (f : Format C) (store : StoreView) (kept : KeptView C) (disk : Disk) : Type 0 where
   pub pending : NothingPending disk
   pub selector : disk.selector.bytes ≡ store.selector ∷ []
   pub slot : Held C
-  pub found : slot_found s f t g store.who (area_at disk (named store.selector)).bytes ≡ Ok slot
+  pub found : slot_found s f store.who (area_at disk (named store.selector)).bytes ≡ Ok slot
   pub version : slot.version ≡ Two
   pub kept_is : slot.journal.kept ≡ kept
   pub left : slot.journal.left ≡ store.left

@@ -27,10 +27,10 @@ use Rattle.node_body.specs.declared.why.Why.{Why}
 use Rattle.node_body.specs.declared.why.Why.TheVariants as why
 
 -- A node that keeps a state that has a body finds it in its base, with room for all records.
-abbrev pub BaseIsFound : {C D : Type 0} → StackId → Format C → StackId → Format D → Type 0
-BaseIsFound {C} s f t g =
+abbrev pub BaseIsFound : {C : Type 0} → StackId → Format C → Type 0
+BaseIsFound {C} s f =
     (who : Who) (k : KeptView C) → (body s f).Fits (body_of who k) →
-    slot_found s f t g who (base_of s f who k) ≡ Ok (held_as Two (owner_of who) (journal_as k MAX_RECORDS 0))
+    slot_found s f who (base_of s f who k) ≡ Ok (held_as Two (owner_of who) (journal_as k MAX_RECORDS 0))
 
 vote_length : (v : Option ℕ) → length (spell_vote v) ≡ 1
 vote_length None = refl
@@ -97,13 +97,13 @@ module _ {C : Type 0} (s : StackId) (f : Format C) (short : (c : C) → f.Fits c
         entries_length f short es fits.0.1.1.1.1.1,
       )
 
-  pub base_is_found : {D : Type 0} (t : StackId) (g : Format D) (is_f : IsFormat f) → BaseIsFound s f t g
-  base_is_found t g is_f who k fits =
+  pub base_is_found : (is_f : IsFormat f) → BaseIsFound s f
+  base_is_found is_f who k fits =
       let b = (body s f).spell (body_of who k) in
       let parts : sized.read (base_of s f who k) ≡ Some (b, 0 ∷ []) = sized_is_format.reads_back b (0 ∷ []) ((omega arith, body_length who k fits), refl) in
       let own : read_whole (body s f) b ≡ Some (body_of who k) =
       ap (λ bs. read_whole (body s f) bs) (sym (append-nil b)) ∙ ap whole ((body_is_format s f is_f).reads_back (body_of who k) [] fits) in
-      agreed s f t g who (base_of s f who k) (held_as Two (owner_of who) (journal_as k MAX_RECORDS 0))
+      agreed s f who (base_of s f who k) (held_as Two (owner_of who) (journal_as k MAX_RECORDS 0))
       (ap (λ o. of_parts s f o) parts ∙ ap (λ o. of_body f o (0 ∷ [])) own
       ∙ ap (λ o. with_journal Two (owner_of who) o) (gate_closed (change who.nodes (entry f)) MAX_RECORDS k 0 [] refl))
       (same_node who)

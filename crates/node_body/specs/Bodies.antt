@@ -7,10 +7,9 @@ use Rattle.vst_base.specs.declared.stack.StackId.{StackId}
 use Rattle.wire_codec.specs.Headings.{stack_byte}
 use Rattle.wire_fields.specs.Formats.{linked}
 use Rattle.wire_fields.specs.Fields.{name, number}
-use Rattle.wire_fields.specs.Formats.{Format, keyed, listed, mapped, pair, tested}
+use Rattle.wire_fields.specs.Formats.{Format, keyed, listed, made_of, mapped, pair, tested}
 use Rattle.wire_messages.specs.EntryBytes.{entry, old_entry}
 use Rattle.wire_messages.specs.RaftBytes.{any_term, log_index}
-use Rattle.wire_messages.specs.Tagged.{read_as}
 use Rattle.wire_messages.specs.Wires.{read_whole}
 use Rattle.node_body.specs.declared.body.Body.{Body}
 use Rattle.node_body.specs.declared.version.Version.{Version}
@@ -50,16 +49,8 @@ most_nodes Two = MAX_NODES
 abbrev pub no_name : Format (Option (List ℕ))
 no_name = record { Fits = λ n. n ≡ None; spell = λ _. []; read = λ bs. Some (None, bs) }
 
-abbrev pub NameFits : Option (List ℕ) → Type 0
-NameFits None = ⊥
-NameFits (Some n) = name.Fits n
-
-abbrev pub spell_name : Option (List ℕ) → List ℕ
-spell_name None = []
-spell_name (Some n) = n
-
 abbrev pub a_name : Format (Option (List ℕ))
-a_name = record { Fits = NameFits; spell = spell_name; read = λ bs. read_as (λ n. Some n) name bs }
+a_name = made_of (λ n. Some n) (λ n. n) name
 
 abbrev pub label : Version → Format (Option (List ℕ))
 label One = no_name

@@ -11,15 +11,14 @@ use Rattle.wire_fields.specs.FormatLaws.{linked_is_format}
 use Rattle.wire_fields.specs.Formats.{linked}
 use Rattle.wire_fields.specs.FieldLaws.{by_byte, number_is_format, raw_is_format}
 use Rattle.wire_fields.specs.Fields.{name, number}
-use Rattle.wire_fields.specs.FormatLaws.{both_read, keyed_is_format, listed_is_format, mapped_is_format, pair_is_format, same_answer, tested_is_format}
+use Rattle.wire_fields.specs.FormatLaws.{keyed_is_format, listed_is_format, made_of_is_format, mapped_is_format, pair_is_format, same_answer, tested_is_format}
 use Rattle.wire_fields.specs.Formats.{Format, IsFormat, IsSpelled, listed, mapped, pair}
 use Rattle.wire_messages.specs.EntryByteLaws.{entry_is_format, old_entry_is_format}
 use Rattle.wire_messages.specs.EntryBytes.{entry}
 use Rattle.wire_messages.specs.RaftByteLaws.{any_term_is_format, log_index_is_format}
 use Rattle.wire_messages.specs.RaftBytes.{any_term, log_index}
-use Rattle.wire_messages.specs.TaggedLaws.{read_back}
 use Rattle.wire_messages.specs.Wires.{if_none_left, read_whole, whole}
-use Rattle.node_body.specs.Bodies.{version_byte, read_mark, mark, read_sign, sign, most_nodes, no_name, NameFits, a_name, label, owner_as, owner, VoteFits, spell_vote, read_vote, any_vote, is_among, VoteAmong, vote, log, entry_in, kept_as, kept, body_as, body, owner_of, body_of, who_of, with_name, if_named, read_body, IsBodyOf}
+use Rattle.node_body.specs.Bodies.{version_byte, read_mark, mark, read_sign, sign, most_nodes, no_name, a_name, label, owner_as, owner, VoteFits, spell_vote, read_vote, any_vote, is_among, VoteAmong, vote, log, entry_in, kept_as, kept, body_as, body, owner_of, body_of, who_of, with_name, if_named, read_body, IsBodyOf}
 use Rattle.node_body.specs.declared.body.Body.{Body}
 use Rattle.node_body.specs.declared.version.Version.{Version}
 use Rattle.node_body.specs.declared.version.Version.TheVariants.{One, Two}
@@ -70,20 +69,8 @@ no_name_is_format = record {
   one_spelling = λ bs n rest e. let same = same_answer None n bs rest e in record { fits = sym same.0; bytes = same.1 };
 }
 
-a_name_back : (n : Option (List ℕ)) (rest : List ℕ) → NameFits n → a_name.read (a_name.spell n ++ rest) ≡ Some (n, rest)
-a_name_back None rest fits = absurd fits
-a_name_back (Some n) rest fits = read_back name (raw_is_format 16) (λ n. Some n) n rest fits
-
-a_name_one : (bs : List ℕ) (n : Option (List ℕ)) (rest : List ℕ) → a_name.read bs ≡ Some (n, rest) → IsSpelled a_name bs n rest
-a_name_one bs n rest e =
-    let read = both_read (name.read bs) (λ a rest. Some (Some a, rest)) n rest e in
-    let same = same_answer (Some read.value) n read.between rest read.next_is in
-    let inner = (raw_is_format 16).one_spelling bs read.value read.between read.first_is in
-    let spelled : IsSpelled a_name bs (Some read.value) read.between = record { fits = inner.fits; bytes = inner.bytes } in
-    subst (λ r. IsSpelled a_name bs n r) same.1 (subst (λ u. IsSpelled a_name bs u read.between) same.0 spelled)
-
 a_name_is_format : IsFormat a_name
-a_name_is_format = record { reads_back = a_name_back; one_spelling = a_name_one }
+a_name_is_format = made_of_is_format (λ n. Some n) (λ n. n) name (λ n. refl) (λ v n is. sym is) (raw_is_format 16)
 
 label_is_format : (v : Version) → IsFormat (label v)
 label_is_format One = no_name_is_format

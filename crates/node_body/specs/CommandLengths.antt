@@ -13,9 +13,9 @@ use Rattle.wire_fields.specs.ByteLaws.{length-number_bytes}
 use Rattle.wire_fields.specs.Bytes.{number_bytes}
 use Rattle.wire_fields.specs.Fields.{key, optional, value}
 use Rattle.wire_fields.specs.Formats.{Format}
-use Rattle.wire_messages.specs.EntryBytes.{WhatFits, entry, spell_what}
-use Rattle.wire_messages.specs.KvBytes.{CommandFits, spell_command}
-use Rattle.wire_messages.specs.TableBytes.{TableCommandFits, spell_table_command}
+use Rattle.wire_messages.specs.EntryBytes.{entry, held}
+use Rattle.wire_messages.specs.KvBytes.{kv_command}
+use Rattle.wire_messages.specs.TableBytes.{table_command}
 use Rattle.node_body.specs.declared.commands.TheConstants.{MAX_COMMAND}
 
 key_length : (k : List ℕ) → key.Fits k → length (key.spell k) ≤ 65
@@ -28,7 +28,7 @@ optional_length : (v : Option (List ℕ)) → (optional value).Fits v → length
 optional_length None fits = omega arith
 optional_length (Some v) fits = omega (arith, value_length v fits)
 
-pub kv_length : (c : KvCmd) → CommandFits c → length (spell_command c) ≤ MAX_COMMAND
+pub kv_length : (c : KvCmd) → kv_command.Fits c → length (kv_command.spell c) ≤ MAX_COMMAND
 kv_length (Get k) fits = omega (arith, key_length k fits)
 kv_length (Put k v) fits = omega (arith, length-append (key.spell k) (value.spell v), key_length k fits.0, value_length v fits.1)
 kv_length (Del k) fits = omega (arith, key_length k fits)
@@ -36,13 +36,13 @@ kv_length (Cas k e v) fits =
     omega (arith, length-append (key.spell k) ((optional value).spell e ++ value.spell v), length-append ((optional value).spell e) (value.spell v), key_length k fits.0, optional_length e fits.1.0, value_length v fits.1.1)
 kv_length (Cad k v) fits = omega (arith, length-append (key.spell k) (value.spell v), key_length k fits.0, value_length v fits.1)
 
-pub table_length : (c : TableCmd) → TableCommandFits c → length (spell_table_command c) ≤ MAX_COMMAND
+pub table_length : (c : TableCmd) → table_command.Fits c → length (table_command.spell c) ≤ MAX_COMMAND
 table_length (Acquire n o) fits = omega (arith, length-append (key.spell n) (key.spell o), key_length n fits.0, key_length o fits.1)
 table_length (Release n o) fits = omega (arith, length-append (key.spell n) (key.spell o), key_length n fits.0, key_length o fits.1)
 table_length (Holder n) fits = omega (arith, key_length n fits)
 
 module _ {C : Type 0} (f : Format C) (short : (c : C) → f.Fits c → length (f.spell c) ≤ MAX_COMMAND) where
-  what_length : (w : What C) → WhatFits f w → length (spell_what f w) ≤ 18 + MAX_COMMAND
+  what_length : (w : What C) → (held f).Fits w → length ((held f).spell w) ≤ 18 + MAX_COMMAND
   what_length Noop fits = omega arith
   what_length (Request client request origin cmd) fits =
       let c = f.spell cmd in
@@ -58,7 +58,7 @@ module _ {C : Type 0} (f : Format C) (short : (c : C) → f.Fits c → length (f
       )
 
   entry_length : (e : EntryView C) → (entry f).Fits e → length ((entry f).spell e) ≤ 26 + MAX_COMMAND
-  entry_length e fits = omega (arith, length-append (number_bytes 8 e.term) (spell_what f e.what), length-number_bytes 8 e.term, what_length e.what fits.1)
+  entry_length e fits = omega (arith, length-append (number_bytes 8 e.term) ((held f).spell e.what), length-number_bytes 8 e.term, what_length e.what fits.1)
 
   pub entries_length : (es : List (EntryView C)) → All (entry f).Fits es → length (flat_map (entry f).spell es) ≤ length es * (26 + MAX_COMMAND)
   entries_length [] fits = omega arith

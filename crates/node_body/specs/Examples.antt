@@ -1,6 +1,7 @@
 -- Slots whose bytes were worked out by hand.
 use Rattle.std.specs.Prelude.{ℕ, List, [], ◌∷◌, ◌++◌, Option, Some, None, Result}
 use Rattle.kv_machine.specs.declared.cmd.KvCmd.{KvCmd}
+use Rattle.lock_table.specs.declared.cmd.TableCmd.{TableCmd}
 use Rattle.raft_types.specs.Messages.{KeptView}
 use Rattle.vst_base.specs.Entries.{EntryView}
 use Rattle.vst_base.specs.declared.stack.StackId.TheVariants as stack
@@ -112,14 +113,18 @@ abbrev pub who_as : ℕ → ℕ → List ℕ → Who
 who_as me nodes name = record { stack = stack.KvRaft; me = me; nodes = nodes; name = name }
 
 abbrev pub found_by : Who → List ℕ → Result (Held KvCmd) Why
-found_by who bs = slot_found stack.KvRaft kv_command stack.TableRaft table_command who bs
+found_by who bs = slot_found stack.KvRaft kv_command who bs
 
 abbrev pub found : List ℕ → Result (Held KvCmd) Why
 found bs = found_by (who_as 0 3 cluster) bs
 
+-- what node 0 of 3 of the lock table finds
+abbrev pub found_by_table : List ℕ → Result (Held TableCmd) Why
+found_by_table bs = slot_found stack.TableRaft table_command (record { stack = stack.TableRaft; me = 0; nodes = 3; name = cluster }) bs
+
 -- what a front decides
 abbrev pub decided : List ℕ → Option (Result (Held KvCmd) Why)
-decided front = found_in_front stack.KvRaft kv_command stack.TableRaft table_command (who_as 0 3 cluster) front
+decided front = found_in_front stack.KvRaft kv_command (who_as 0 3 cluster) front
 
 abbrev pub old_held : KeptView KvCmd → ℕ → ℕ → Held KvCmd
 old_held kept left hidden = held_as One (owner_as stack.KvRaft 0 3 None) (journal_as kept left hidden)

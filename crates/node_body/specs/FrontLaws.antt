@@ -13,8 +13,10 @@ use Rattle.node_body.specs.GatedRecordLaws.{records_alone, records_are_found}
 use Rattle.node_body.specs.GatedRecords.{patched_by, spell_gated}
 use Rattle.node_body.specs.JournalLaws.{change_is_format, format_front}
 use Rattle.node_body.specs.Journals.{change, from_gate, journal_as, read_journal}
+use Rattle.node_body.specs.Logged.{Logged, logged_stacks}
+use Rattle.node_body.specs.LoggedLaws.{AreFormats, logged_are_formats}
 use Rattle.node_body.specs.SlotLaws.{sized_is_format}
-use Rattle.node_body.specs.Slots.{difference, held_as, of_body, of_other, of_own, of_parts, sized, slot_found, unless_differs, with_journal}
+use Rattle.node_body.specs.Slots.{byte_where, difference, found_among, held_as, of_body, of_other, of_own, of_parts, or_next, read_slot, sized, slot_byte, slot_found, stack_of_slot, unless_differs, with_journal}
 use Rattle.node_body.specs.WhyLaws.{body_why, no_body}
 use Rattle.node_body.specs.declared.body.Body.{Body}
 use Rattle.node_body.specs.declared.journal.Journal.{Journal}
@@ -65,26 +67,54 @@ differs_alike : {C : Type 0} (n : ℕ) (h : Held C) (o : Option Why) → unless_
 differs_alike n h None = refl
 differs_alike n h (Some w) = refl
 
-other_grows : {C D : Type 0} (n a b : ℕ) (q q' : Result (Held D) Why) → q' ≡ with_more n q → ◌≡◌ {A = Result (Held C) Why} (of_other a b q') (with_more n (of_other a b q))
-other_grows {C} n a b (Ok h) q' e = ap (λ q. let found : Result (Held C) Why = of_other a b q in found) e
-other_grows {C} n a b (Err w) q' e = ap (λ q. let found : Result (Held C) Why = of_other a b q in found) e
+-- the same of the stack that a slot is of, which bytes more do not change
+abbrev Stays : Result ℕ Why → Result ℕ Why → Type 0
+Stays found longer = (◌≡◌ {A = Result ℕ Why} found (Err why.Journal)) ⊎ (longer ≡ found)
 
-module _ {C D : Type 0} (s : StackId) (t : StackId) (who : Who) (n : ℕ) where
+byte_alike : {C : Type 0} (s : StackId) (n : ℕ) (r : Result (Held C) Why) → byte_where s (with_more n r) ≡ byte_where s r
+byte_alike s n (Ok h) = refl
+byte_alike s n (Err w) = refl
+
+byte_stays : {C : Type 0} (s : StackId) (n : ℕ) (r r' : Result (Held C) Why) → Grows n r r' → Stays (byte_where s r) (byte_where s r')
+byte_stays s n r r' (inl is) = inl (ap (λ r. byte_where s r) is)
+byte_stays s n r r' (inr is) = inr (ap (λ r. byte_where s r) is ∙ byte_alike s n r)
+
+same_next : (a a' b b' : Result ℕ Why) → a' ≡ a → Stays b b' → Stays (or_next a b) (or_next a' b')
+same_next (Ok k) a' b b' e next = inr (ap (λ a. or_next a b') e)
+same_next (Err why.Body) a' b b' e (inl is) = inl is
+same_next (Err why.Body) a' b b' e (inr is) = inr (ap (λ a. or_next a b') e ∙ is)
+same_next (Err why.Slot) a' b b' e next = inr (ap (λ a. or_next a b') e)
+same_next (Err why.Journal) a' b b' e next = inr (ap (λ a. or_next a b') e)
+same_next (Err (why.Stack x y)) a' b b' e next = inr (ap (λ a. or_next a b') e)
+same_next (Err (why.Node x y)) a' b b' e next = inr (ap (λ a. or_next a b') e)
+same_next (Err (why.Cluster x y)) a' b b' e next = inr (ap (λ a. or_next a b') e)
+same_next (Err (why.Name x y)) a' b b' e next = inr (ap (λ a. or_next a b') e)
+
+next_stays : (a a' b b' : Result ℕ Why) → Stays a a' → Stays b b' → Stays (or_next a b) (or_next a' b')
+next_stays a a' b b' (inl is) next = inl (ap (λ a. or_next a b) is)
+next_stays a a' b b' (inr is) next = same_next a a' b b' is next
+
+other_grows : {C : Type 0} (n b : ℕ) (any : Result ℕ Why) → ◌≡◌ {A = Result (Held C) Why} (of_other b any) (with_more n (of_other b any))
+other_grows n b (Ok k) = refl
+other_grows n b (Err w) = refl
+
+module _ {C : Type 0} (s : StackId) (who : Who) (n : ℕ) where
   -- for a node that asks
-  own_grows : (r r' : Result (Held C) Why) (q q' : Result (Held D) Why) → r' ≡ with_more n r → Grows n q q' → Grows n (of_own s t who r q) (of_own s t who r' q')
-  own_grows (Ok h) r' q q' e other = inr (ap (λ r. of_own s t who r q') e ∙ differs_alike n h (difference who h.owner))
-  own_grows (Err why.Body) r' q q' e (inl is) = inl (ap (λ q. let found : Result (Held C) Why = of_other (stack_byte t) (stack_byte s) q in found) is)
-  own_grows (Err why.Body) r' q q' e (inr is) = inr (ap (λ r. of_own s t who r q') e ∙ other_grows n (stack_byte t) (stack_byte s) q q' is)
-  own_grows (Err why.Slot) r' q q' e other = inr (ap (λ r. of_own s t who r q') e)
-  own_grows (Err why.Journal) r' q q' e other = inr (ap (λ r. of_own s t who r q') e)
-  own_grows (Err (why.Stack a b)) r' q q' e other = inr (ap (λ r. of_own s t who r q') e)
-  own_grows (Err (why.Node a b)) r' q q' e other = inr (ap (λ r. of_own s t who r q') e)
-  own_grows (Err (why.Cluster a b)) r' q q' e other = inr (ap (λ r. of_own s t who r q') e)
-  own_grows (Err (why.Name a b)) r' q q' e other = inr (ap (λ r. of_own s t who r q') e)
+  own_grows : (r r' : Result (Held C) Why) (q q' : Result ℕ Why) → r' ≡ with_more n r → Stays q q' → Grows n (of_own s who r q) (of_own s who r' q')
+  own_grows (Ok h) r' q q' e any = inr (ap (λ r. of_own s who r q') e ∙ differs_alike n h (difference who h.owner))
+  own_grows (Err why.Body) r' q q' e (inl is) = inl (ap (λ q. let found : Result (Held C) Why = of_other (stack_byte s) q in found) is)
+  own_grows (Err why.Body) r' q q' e (inr is) =
+      inr (ap (λ r. of_own s who r q') e ∙ ap (λ q. let found : Result (Held C) Why = of_other (stack_byte s) q in found) is ∙ other_grows n (stack_byte s) q)
+  own_grows (Err why.Slot) r' q q' e any = inr (ap (λ r. of_own s who r q') e)
+  own_grows (Err why.Journal) r' q q' e any = inr (ap (λ r. of_own s who r q') e)
+  own_grows (Err (why.Stack a b)) r' q q' e any = inr (ap (λ r. of_own s who r q') e)
+  own_grows (Err (why.Node a b)) r' q q' e any = inr (ap (λ r. of_own s who r q') e)
+  own_grows (Err (why.Cluster a b)) r' q q' e any = inr (ap (λ r. of_own s who r q') e)
+  own_grows (Err (why.Name a b)) r' q q' e any = inr (ap (λ r. of_own s who r q') e)
 
-  both_grow : (r r' : Result (Held C) Why) (q q' : Result (Held D) Why) → Grows n r r' → Grows n q q' → Grows n (of_own s t who r q) (of_own s t who r' q')
-  both_grow r r' q q' (inl is) other = inl (ap (λ r. of_own s t who r q) is)
-  both_grow r r' q q' (inr is) other = own_grows r r' q q' is other
+  both_grow : (r r' : Result (Held C) Why) (q q' : Result ℕ Why) → Grows n r r' → Stays q q' → Grows n (of_own s who r q) (of_own s who r' q')
+  both_grow r r' q q' (inl is) any = inl (ap (λ r. of_own s who r q) is)
+  both_grow r r' q q' (inr is) any = own_grows r r' q q' is any
 
 -- a slot whose body is followed by a gate, and so it is with bytes more
 record Gated (bs more : List ℕ) : Type 0 where
@@ -140,59 +170,70 @@ decides_more n (Err (why.Node a b)) never = refl
 decides_more n (Err (why.Cluster a b)) never = refl
 decides_more n (Err (why.Name a b)) never = refl
 
-module _ {C D : Type 0} (s : StackId) (f : Format C) (t : StackId) (g : Format D) (is_f : IsFormat f) (is_g : IsFormat g) where
-  found_grows : (who : Who) (front more : List ℕ) → Gated front more → Grows (length more) (slot_found s f t g who front) (slot_found s f t g who (front ++ more))
+slot_grows : {C : Type 0} (s : StackId) (f : Format C) → IsFormat f → (front more : List ℕ) → Gated front more → Grows (length more) (read_slot s f front) (read_slot s f (front ++ more))
+slot_grows s f is_f front more is =
+    let own = body_grows f is_f (read_whole (body s f) is.bytes) is.gate is.rest more in
+    subst (λ o. Grows (length more) (read_slot s f front) (of_parts s f o)) (sym is.longer)
+    (subst (λ o. Grows (length more) (of_parts s f o) (of_parts s f (Some (is.bytes, is.gate ∷ (is.rest ++ more))))) (sym is.parts) own)
+
+among_stays : (ls : List Logged) (front more : List ℕ) (found longer : Result ℕ Why) → AreFormats ls → Gated front more → Stays found longer → Stays (found_among ls front found) (found_among ls (front ++ more) longer)
+among_stays [] front more found longer are is stays = stays
+among_stays (l ∷ ls) front more found longer are is stays =
+    let one = byte_stays l.stack (length more) (read_slot l.stack l.format front) (read_slot l.stack l.format (front ++ more)) (slot_grows l.stack l.format are.0 front more is) in
+    among_stays ls front more (or_next found (slot_byte l.stack l.format front)) (or_next longer (slot_byte l.stack l.format (front ++ more))) are.1 is
+    (next_stays found longer (slot_byte l.stack l.format front) (slot_byte l.stack l.format (front ++ more)) stays one)
+
+module _ {C : Type 0} (s : StackId) (f : Format C) (is_f : IsFormat f) where
+  found_grows : (who : Who) (front more : List ℕ) → Gated front more → Grows (length more) (slot_found s f who front) (slot_found s f who (front ++ more))
   found_grows who front more is =
-      let own = body_grows f is_f (read_whole (body s f) is.bytes) is.gate is.rest more in
-      let other = body_grows g is_g (read_whole (body t g) is.bytes) is.gate is.rest more in
-      let both = both_grow s t who (length more) _ _ _ _ own other in
-      subst (λ o. Grows (length more) (slot_found s f t g who front) (of_own s t who (of_parts s f o) (of_parts t g o))) (sym is.longer)
-      (subst (λ o. Grows (length more) (of_own s t who (of_parts s f o) (of_parts t g o)) (of_own s t who (of_parts s f (Some (is.bytes, is.gate ∷ (is.rest ++ more)))) (of_parts t g (Some (is.bytes, is.gate ∷ (is.rest ++ more)))))) (sym is.parts) both)
+      both_grow s who (length more) (read_slot s f front) (read_slot s f (front ++ more)) (stack_of_slot front) (stack_of_slot (front ++ more))
+      (slot_grows s f is_f front more is)
+      (among_stays logged_stacks front more (Err why.Body) (Err why.Body) logged_are_formats is (inr refl))
 
   -- what is no body stays so
-  no_body_yet : (who : Who) (front more : List ℕ) → slot_found s f t g who front ≡ Err why.Body → slot_found s f t g who (front ++ more) ≡ Err why.Body
+  no_body_yet : (who : Who) (front more : List ℕ) → slot_found s f who front ≡ Err why.Body → slot_found s f who (front ++ more) ≡ Err why.Body
   no_body_yet who front more e =
-      let none = body_why s f t g who front e in
-      no_body s f t g who (front ++ more)
-      (record { bytes = none.bytes; rest = none.rest ++ more; parts = longer_parts front more none.bytes none.rest none.parts; own = none.own; other = none.other })
+      let none = body_why s f who front e in
+      no_body s f who (front ++ more)
+      (record { bytes = none.bytes; rest = none.rest ++ more; parts = longer_parts front more none.bytes none.rest none.parts; own = none.own; logged = none.logged })
 
   -- what a longer slot is found to be, and decided
-  record Stays (who : Who) (front more : List ℕ) (found : Result (Held C) Why) : Type 0 where
-    pub slot : slot_found s f t g who (front ++ more) ≡ with_more (length more) found
-    pub decides : found_in_front s f t g who (front ++ more) ≡ Some (with_more (length more) found)
+  record Decides (who : Who) (front more : List ℕ) (found : Result (Held C) Why) : Type 0 where
+    pub slot : slot_found s f who (front ++ more) ≡ with_more (length more) found
+    pub decides : found_in_front s f who (front ++ more) ≡ Some (with_more (length more) found)
 
-  stays_grown : (who : Who) (front more : List ℕ) (found : Result (Held C) Why) → Gated front more → slot_found s f t g who front ≡ found → (found ≡ Err why.Journal → ⊥)
-      → Grows (length more) (slot_found s f t g who front) (slot_found s f t g who (front ++ more)) → Stays who front more found
+  stays_grown : (who : Who) (front more : List ℕ) (found : Result (Held C) Why) → Gated front more → slot_found s f who front ≡ found → (found ≡ Err why.Journal → ⊥)
+      → Grows (length more) (slot_found s f who front) (slot_found s f who (front ++ more)) → Decides who front more found
   stays_grown who front more found is there never (inl refused) = absurd (never (sym there ∙ refused))
   stays_grown who front more found is there never (inr longer) =
-      let slot : slot_found s f t g who (front ++ more) ≡ with_more (length more) found = longer ∙ ap (with_more (length more)) there in
+      let slot : slot_found s f who (front ++ more) ≡ with_more (length more) found = longer ∙ ap (with_more (length more)) there in
       record {
         slot = slot;
         decides =
-            ap (λ o. if_decided (gate_after o) (slot_found s f t g who (front ++ more))) is.longer
+            ap (λ o. if_decided (gate_after o) (slot_found s f who (front ++ more))) is.longer
             ∙ ap (if_decided true) slot ∙ decides_more (length more) found never;
       }
 
-  stays_no_body : (who : Who) (front more : List ℕ) → slot_found s f t g who front ≡ Err why.Body → Stays who front more (Err why.Body)
+  stays_no_body : (who : Who) (front more : List ℕ) → slot_found s f who front ≡ Err why.Body → Decides who front more (Err why.Body)
   stays_no_body who front more none =
       let slot = no_body_yet who front more none in
       record { slot = slot; decides = ap (if_decided (has_gate (front ++ more))) slot }
 
-  stays_by : (who : Who) (front more : List ℕ) (found : Result (Held C) Why) → slot_found s f t g who front ≡ found
-      → (slot_found s f t g who front ≡ Err why.Body) ⊎ ((has_gate front ≡ true) × (slot_found s f t g who front ≡ Err why.Journal → ⊥)) → Stays who front more found
-  stays_by who front more found there (inl none) = subst (λ found. Stays who front more found) (sym none ∙ there) (stays_no_body who front more none)
+  stays_by : (who : Who) (front more : List ℕ) (found : Result (Held C) Why) → slot_found s f who front ≡ found
+      → (slot_found s f who front ≡ Err why.Body) ⊎ ((has_gate front ≡ true) × (slot_found s f who front ≡ Err why.Journal → ⊥)) → Decides who front more found
+  stays_by who front more found there (inl none) = subst (λ found. Decides who front more found) (sym none ∙ there) (stays_no_body who front more none)
   stays_by who front more found there (inr is) =
       stays_grown who front more found (gated front more is.0) there (λ no. is.1 (there ∙ no)) (found_grows who front more (gated front more is.0))
 
-  stays : (who : Who) (front more : List ℕ) (found : Result (Held C) Why) → found_in_front s f t g who front ≡ Some found → Stays who front more found
+  stays : (who : Who) (front more : List ℕ) (found : Result (Held C) Why) → found_in_front s f who front ≡ Some found → Decides who front more found
   stays who front more found e =
-      let is = decided_by (has_gate front) (slot_found s f t g who front) found e in
+      let is = decided_by (has_gate front) (slot_found s f who front) found e in
       stays_by who front more found is.same is.by
 
-  pub fronts_decide : FrontsDecide s f t g
+  pub fronts_decide : FrontsDecide s f
   fronts_decide who front more found e = (stays who front more found e).slot
 
-  pub longer_fronts_decide : LongerFrontsDecide s f t g
+  pub longer_fronts_decide : LongerFrontsDecide s f
   longer_fronts_decide who front more found e = (stays who front more found e).decides
 
 module _ {C : Type 0} (s : StackId) (f : Format C) where
@@ -210,8 +251,8 @@ module _ {C : Type 0} (s : StackId) (f : Format C) where
   gate_by_parts None h spare e room = cc
   gate_by_parts (Some p) h spare e room = gate_by_body (read_whole (body s f) p.0) p.1 h spare e room
 
-module _ {C D : Type 0} (s : StackId) (f : Format C) (t : StackId) (g : Format D) where
-  pub last_gate_decides : LastGateDecides s f t g
+module _ {C : Type 0} (s : StackId) (f : Format C) where
+  pub last_gate_decides : LastGateDecides s f
   last_gate_decides who front h spare e room =
-      let gate = gate_by_parts s f (sized.read front) h spare (agrees s f t g who front h e).read room in
+      let gate = gate_by_parts s f (sized.read front) h spare (agrees s f who front h e).read room in
       ap (if_decided (has_gate front)) e ∙ ap (λ b. let found : Option (Result (Held C) Why) = Some (Ok h) in if b then found else None) gate

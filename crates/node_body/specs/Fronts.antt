@@ -28,9 +28,9 @@ if_decided gated (Err why.Body) = Some (Err why.Body)
 if_decided gated (Err why.Journal) = None
 if_decided gated found = if gated then Some found else None
 
--- What a front decides that a slot is, for a node of the stack s that asks; t is the other stack.
-abbrev pub found_in_front : {C D : Type 0} → StackId → Format C → StackId → Format D → Who → List ℕ → Option (Result (Held C) Why)
-found_in_front s f t g who front = if_decided (has_gate front) (slot_found s f t g who front)
+-- What a front decides that a slot is, for a node of the stack s that asks.
+abbrev pub found_in_front : {C : Type 0} → StackId → Format C → Who → List ℕ → Option (Result (Held C) Why)
+found_in_front s f who front = if_decided (has_gate front) (slot_found s f who front)
 
 -- what was found, with so many bytes more behind it: the closed gate hides them
 abbrev pub hides_more : {C : Type 0} → ℕ → Held C → Held C
@@ -41,19 +41,19 @@ with_more n (Ok h) = Ok (hides_more n h)
 with_more n (Err w) = Err w
 
 -- What a front decides is what each slot is that begins with it.
-abbrev pub FrontsDecide : {C D : Type 0} → StackId → Format C → StackId → Format D → Type 0
-FrontsDecide {C} s f t g =
-    (who : Who) (front more : List ℕ) (found : Result (Held C) Why) → found_in_front s f t g who front ≡ Some found →
-    slot_found s f t g who (front ++ more) ≡ with_more (length more) found
+abbrev pub FrontsDecide : {C : Type 0} → StackId → Format C → Type 0
+FrontsDecide {C} s f =
+    (who : Who) (front more : List ℕ) (found : Result (Held C) Why) → found_in_front s f who front ≡ Some found →
+    slot_found s f who (front ++ more) ≡ with_more (length more) found
 
 -- A longer front decides the same.
-abbrev pub LongerFrontsDecide : {C D : Type 0} → StackId → Format C → StackId → Format D → Type 0
-LongerFrontsDecide {C} s f t g =
-    (who : Who) (front more : List ℕ) (found : Result (Held C) Why) → found_in_front s f t g who front ≡ Some found →
-    found_in_front s f t g who (front ++ more) ≡ Some (with_more (length more) found)
+abbrev pub LongerFrontsDecide : {C : Type 0} → StackId → Format C → Type 0
+LongerFrontsDecide {C} s f =
+    (who : Who) (front more : List ℕ) (found : Result (Held C) Why) → found_in_front s f who front ≡ Some found →
+    found_in_front s f who (front ++ more) ≡ Some (with_more (length more) found)
 
 -- A front in which a slot to which a record may be added has its last gate decides it.
-abbrev pub LastGateDecides : {C D : Type 0} → StackId → Format C → StackId → Format D → Type 0
-LastGateDecides {C} s f t g =
-    (who : Who) (front : List ℕ) (h : Held C) (spare : ℕ) → slot_found s f t g who front ≡ Ok h → h.journal.left ≡ suc spare →
-    found_in_front s f t g who front ≡ Some (Ok h)
+abbrev pub LastGateDecides : {C : Type 0} → StackId → Format C → Type 0
+LastGateDecides {C} s f =
+    (who : Who) (front : List ℕ) (h : Held C) (spare : ℕ) → slot_found s f who front ≡ Ok h → h.journal.left ≡ suc spare →
+    found_in_front s f who front ≡ Some (Ok h)

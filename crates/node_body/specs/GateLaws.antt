@@ -37,17 +37,17 @@ pub record SlotGate {C : Type 0} (s : StackId) (f : Format C) (bs : List ℕ) (h
   pub alone : read_slot s f (front ++ gate ∷ []) ≡ Ok (held_with h h.journal.kept h.journal.left 0)
 
 -- and for a node that asks
-pub record GateStands {C D : Type 0} (s : StackId) (f : Format C) (t : StackId) (g : Format D) (who : Who) (bs : List ℕ) (h : Held C) (spare : ℕ) : Type 0 where
+pub record GateStands {C : Type 0} (s : StackId) (f : Format C) (who : Who) (bs : List ℕ) (h : Held C) (spare : ℕ) : Type 0 where
   pub front : List ℕ
   pub gate : ℕ
   pub more : List ℕ
   pub bytes : bs ≡ front ++ gate ∷ more
   pub size : length more ≡ h.journal.hidden
-  pub at : StandsAtGate s f t g who front gate (held_with h h.journal.kept h.journal.left 0) spare
+  pub at : StandsAtGate s f who front gate (held_with h h.journal.kept h.journal.left 0) spare
 
-abbrev pub LastGateStands : {C D : Type 0} → StackId → Format C → StackId → Format D → Type 0
-LastGateStands {C} s f t g =
-    (who : Who) (bs : List ℕ) (h : Held C) (spare : ℕ) → slot_found s f t g who bs ≡ Ok h → h.journal.left ≡ suc spare → GateStands s f t g who bs h spare
+abbrev pub LastGateStands : {C : Type 0} → StackId → Format C → Type 0
+LastGateStands {C} s f =
+    (who : Who) (bs : List ℕ) (h : Held C) (spare : ℕ) → slot_found s f who bs ≡ Ok h → h.journal.left ≡ suc spare → GateStands s f who bs h spare
 
 module _ {C : Type 0} (f : Format (Record C)) (is_f : IsFormat f) where
   -- the gate that stands first is the last one
@@ -145,10 +145,10 @@ module _ {C : Type 0} (s : StackId) (f : Format C) (is_f : IsFormat f) where
   pub slot_gate : (bs : List ℕ) (h : Held C) (spare : ℕ) → read_slot s f bs ≡ Ok h → h.journal.left ≡ suc spare → SlotGate s f bs h
   slot_gate bs h spare e room = of_sized bs h spare (sized.read bs) refl e room
 
-module _ {C D : Type 0} (s : StackId) (f : Format C) (t : StackId) (g : Format D) (is_f : IsFormat f) where
-  pub gate_stands : LastGateStands s f t g
+module _ {C : Type 0} (s : StackId) (f : Format C) (is_f : IsFormat f) where
+  pub gate_stands : LastGateStands s f
   gate_stands who bs h spare e room =
-      let is = agrees s f t g who bs h e in
+      let is = agrees s f who bs h e in
       let there = slot_gate s f is_f bs h spare is.read room in
       record {
         front = there.front;
@@ -157,7 +157,7 @@ module _ {C D : Type 0} (s : StackId) (f : Format C) (t : StackId) (g : Format D
         bytes = there.bytes;
         size = there.size;
         at = record {
-          found = agreed s f t g who (there.front ++ there.gate ∷ []) (held_with h h.journal.kept h.journal.left 0) there.alone is.same;
+          found = agreed s f who (there.front ++ there.gate ∷ []) (held_with h h.journal.kept h.journal.left 0) there.alone is.same;
           ends = record { hidden = refl; room = room };
         };
       }

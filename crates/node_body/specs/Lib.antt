@@ -3,7 +3,9 @@ pub mod BodyLaws
 pub mod Journals
 pub mod JournalLaws
 pub mod Steps
+pub mod Logged
 pub mod Slots
+pub mod LoggedLaws
 pub mod SlotLaws
 pub mod FoundLaws
 pub mod GateLaws

@@ -1,5 +1,5 @@
 -- What a node finds that asks with the commands of its own stack: a state of its own, or the why `Stack` with the bytes of the two.
-use Rattle.std.proofs.Common.{◌≡◌, ℕ, Bool, true, false, bytes_eq, nat_eq, List, Option, None, Some, Result, Ok, Err, if◌then◌else◌, refl, sym, ap, subst, ◌∙◌}
+use Rattle.std.proofs.Common.{◌≡◌, ◌≢◌, ℕ, Bool, true, false, bytes_eq, nat_eq, List, Option, None, Some, Result, Ok, Err, if◌then◌else◌, refl, sym, ap, subst, ◌∙◌, ◌⊎◌, inl, inr}
 use Rattle.std.proofs.lemmas.Bool.{eqb-true}
 use Rattle.std.proofs.lemmas.Slice.Eq.{bytes_eq-Decides}
 use Rattle.vst_base.specs.declared.stack.StackId.{StackId}
@@ -10,7 +10,9 @@ use Rattle.node_body.specs.Bodies.{body, entry_in, label, owner_as}
 use Rattle.node_body.specs.BodyLaws.{body_is_format, whole_one}
 use Rattle.node_body.specs.FoundLaws.{agrees}
 use Rattle.node_body.specs.Journals.{change, read_journal}
-use Rattle.node_body.specs.Slots.{difference, held_as, of_body, of_own, of_parts, other_name, read_slot, sized, slot_found, unless_differs, with_journal}
+use Rattle.node_body.specs.Logged.{logged_stacks}
+use Rattle.node_body.specs.LoggedLaws.{IsLogged, OneHasSlot, among_ok, never_stack, no_slot, own_is_another}
+use Rattle.node_body.specs.Slots.{difference, held_as, of_body, of_own, of_parts, other_name, read_slot, sized, slot_found, stack_of_slot, unless_differs, with_journal}
 use Rattle.node_body.specs.declared.body.Body.{Body}
 use Rattle.node_body.specs.declared.journal.Journal.{Journal}
 use Rattle.node_body.specs.declared.slot.Held.{Held}
@@ -30,15 +32,20 @@ abbrev pub owner_in : Version → Who → Owner
 owner_in version who = owner_as who.stack who.me who.nodes (name_in version who.name)
 
 -- What is found is a state of the node that asks.
-abbrev pub OwnIsFound : {C D : Type 0} → StackId → Format C → StackId → Format D → Type 0
-OwnIsFound {C} s f t g =
-    (who : Who) (bs : List ℕ) (h : Held C) → who.stack ≡ s → slot_found s f t g who bs ≡ Ok h → h.owner ≡ owner_in h.version who
+abbrev pub OwnIsFound : {C : Type 0} → StackId → Format C → Type 0
+OwnIsFound {C} s f =
+    (who : Who) (bs : List ℕ) (h : Held C) → who.stack ≡ s → slot_found s f who bs ≡ Ok h → h.owner ≡ owner_in h.version who
 
--- The why `Stack` has the byte of the other stack, and that of the node's own.
-abbrev pub StackIsTold : {C D : Type 0} → StackId → Format C → StackId → Format D → Type 0
-StackIsTold {C} s f t g =
-    (who : Who) (bs : List ℕ) (kept configured : ℕ) → who.stack ≡ s → slot_found s f t g who bs ≡ Err (why.Stack kept configured) →
-    (kept ≡ stack_byte t) × (configured ≡ stack_byte who.stack)
+-- These bytes are a slot of a stack whose nodes keep logs, by its byte, and this is not the stack s.
+pub record IsOfAnother (s : StackId) (bs : List ℕ) (kept : ℕ) : Type 0 where
+  pub slot : OneHasSlot kept logged_stacks bs
+  pub other : kept ≢ stack_byte s
+
+-- The why `Stack` has the byte of another stack, whose slot it is, and that of the node's own.
+abbrev pub StackIsTold : {C : Type 0} → StackId → Format C → Type 0
+StackIsTold s f =
+    (who : Who) (bs : List ℕ) (kept configured : ℕ) → who.stack ≡ s → slot_found s f who bs ≡ Err (why.Stack kept configured) →
+    IsOfAnother who.stack bs kept × (configured ≡ stack_byte who.stack)
 
 -- what a body says of its owner
 record IsOwned {C : Type 0} (s : StackId) (h : Held C) : Type 0 where
@@ -89,31 +96,15 @@ names_by Two (Some name) configured fits e =
 owner_by : (v : Version) (who : Who) (o : Owner) → o.stack ≡ who.stack → IsSame who o → o.name ≡ name_in v who.name → o ≡ owner_in v who
 owner_by v who o stack same name = λ i. owner_as (stack i) (same.me i) (same.nodes i) (name i)
 
-module _ {C D : Type 0} (s : StackId) (f : Format C) (t : StackId) (g : Format D) (is_f : IsFormat f) where
-  pub own_is_found : OwnIsFound s f t g
+module _ {C : Type 0} (s : StackId) (f : Format C) (is_f : IsFormat f) where
+  pub own_is_found : OwnIsFound s f
   own_is_found who bs h own e =
-      let is = agrees s f t g who bs h e in
+      let is = agrees s f who bs h e in
       let owned = slot_owned s f is_f bs h is.read in
       let same = same_by who h.owner (nat_eq h.owner.me who.me) (nat_eq h.owner.nodes who.nodes) refl refl is.same in
       owner_by h.version who h.owner (owned.stack ∙ sym own) same (names_by h.version h.owner.name who.name owned.name same.name)
 
--- no slot by itself, and no owner, has the why `Stack`
-module _ {C : Type 0} (s : StackId) (f : Format C) (a b : ℕ) where
-  no_journal : (v : Version) (o : Owner) (j : Option (Journal C)) → with_journal v o j ≡ Err (why.Stack a b) → ⊥
-  no_journal v o None e = cc
-  no_journal v o (Some j) e = cc
-
-  no_body : (o : Option (Body C)) (rest : List ℕ) → of_body f o rest ≡ Err (why.Stack a b) → ⊥
-  no_body None rest e = cc
-  no_body (Some y) rest e = no_journal y.version y.owner (read_journal (change y.owner.nodes (entry_in y.version f)) y.kept rest) e
-
-  no_parts : (o : Option (List ℕ × List ℕ)) → of_parts s f o ≡ Err (why.Stack a b) → ⊥
-  no_parts None e = cc
-  no_parts (Some p) e = no_body (read_whole (body s f) p.0) p.1 e
-
-  no_slot : (bs : List ℕ) → read_slot s f bs ≡ Err (why.Stack a b) → ⊥
-  no_slot bs e = no_parts (sized.read bs) e
-
+-- no owner has the why `Stack`
 no_name : (a b : ℕ) (same : Bool) (name configured : List ℕ) → ◌≡◌ {A = Option Why} (if same then None else Some (why.Name name configured)) (Some (why.Stack a b)) → ⊥
 no_name a b true name configured e = cc
 no_name a b false name configured e = cc
@@ -131,27 +122,40 @@ no_owner : {C : Type 0} (a b : ℕ) (h : Held C) (o : Option Why) → (o ≡ Som
 no_owner a b h None never e = cc
 no_owner a b h (Some w) never e = let same : w ≡ why.Stack a b = cc in never (ap (λ w. let found : Option Why = Some w in found) same)
 
-module _ {C D : Type 0} (s : StackId) (f : Format C) (t : StackId) (g : Format D) (who : Who) (a b : ℕ) where
-  told_by : (r : Result (Held C) Why) (other : Result (Held D) Why) → (r ≡ Err (why.Stack a b) → ⊥) → (other ≡ Err (why.Stack a b) → ⊥) → of_own s t who r other ≡ Err (why.Stack a b)
-      → (a ≡ stack_byte t) × (b ≡ stack_byte s)
-  told_by (Ok h) other own none e = absurd (no_owner a b h (difference who h.owner) (no_numbers a b who h.owner (nat_eq h.owner.me who.me) (nat_eq h.owner.nodes who.nodes)) e)
-  told_by (Err why.Body) (Ok h) own none e =
-      let same : why.Stack (stack_byte t) (stack_byte s) ≡ why.Stack a b = cc in
-      let kept : a ≡ stack_byte t = cc in
-      let configured : b ≡ stack_byte s = cc in
-      (kept, configured)
+-- what was found where the why is `Stack`
+record IsTold {C : Type 0} (s : StackId) (own : Result (Held C) Why) (any : Result ℕ Why) (a b : ℕ) : Type 0 where
+  pub none : own ≡ Err why.Body
+  pub kept : any ≡ Ok a
+  pub configured : b ≡ stack_byte s
+
+module _ {C : Type 0} (s : StackId) (who : Who) (a b : ℕ) where
+  told_by : (own : Result (Held C) Why) (any : Result ℕ Why) → own ≢ Err (why.Stack a b) → any ≢ Err (why.Stack a b) → of_own s who own any ≡ Err (why.Stack a b)
+      → IsTold s own any a b
+  told_by (Ok h) any own none e = absurd (no_owner a b h (difference who h.owner) (no_numbers a b who h.owner (nat_eq h.owner.me who.me) (nat_eq h.owner.nodes who.nodes)) e)
+  told_by (Err why.Body) (Ok k) own none e =
+      let same : why.Stack k (stack_byte s) ≡ why.Stack a b = cc in
+      let kept : k ≡ a = cc in
+      record { none = refl; kept = ap (λ (k : ℕ). let found : Result ℕ Why = Ok k in found) kept; configured = cc }
   told_by (Err why.Body) (Err w) own none e =
       let same : w ≡ why.Stack a b = cc in
-      absurd (none (ap (λ w. let found : Result (Held D) Why = Err w in found) same))
-  told_by (Err why.Slot) other own none e = absurd (own e)
-  told_by (Err why.Journal) other own none e = absurd (own e)
-  told_by (Err (why.Stack x y)) other own none e = absurd (own e)
-  told_by (Err (why.Node x y)) other own none e = absurd (own e)
-  told_by (Err (why.Cluster x y)) other own none e = absurd (own e)
-  told_by (Err (why.Name x y)) other own none e = absurd (own e)
+      absurd (none (ap (λ w. let found : Result ℕ Why = Err w in found) same))
+  told_by (Err why.Slot) any own none e = absurd (own e)
+  told_by (Err why.Journal) any own none e = absurd (own e)
+  told_by (Err (why.Stack x y)) any own none e = absurd (own e)
+  told_by (Err (why.Node x y)) any own none e = absurd (own e)
+  told_by (Err (why.Cluster x y)) any own none e = absurd (own e)
+  told_by (Err (why.Name x y)) any own none e = absurd (own e)
 
-module _ {C D : Type 0} (s : StackId) (f : Format C) (t : StackId) (g : Format D) where
-  pub stack_is_told : StackIsTold s f t g
+slot_by : (k : ℕ) (bs : List ℕ) → (◌≡◌ {A = Result ℕ Why} (Err why.Body) (Ok k)) ⊎ OneHasSlot k logged_stacks bs → OneHasSlot k logged_stacks bs
+slot_by k bs (inl is) = cc
+slot_by k bs (inr is) = is
+
+module _ {C : Type 0} (s : StackId) (f : Format C) (logged : IsLogged s f) where
+  pub stack_is_told : StackIsTold s f
   stack_is_told who bs kept configured own e =
-      let told = told_by s f t g who kept configured (read_slot s f bs) (read_slot t g bs) (no_slot s f kept configured bs) (no_slot t g kept configured bs) e in
-      (told.0, told.1 ∙ ap stack_byte (sym own))
+      let told = told_by s who kept configured (read_slot s f bs) (stack_of_slot bs) (no_slot s f kept configured bs) (never_stack kept configured bs) e in
+      let slot : OneHasSlot kept logged_stacks bs = slot_by kept bs (among_ok kept logged_stacks bs (Err why.Body) told.kept) in
+      let other : kept ≢ stack_byte s =
+      λ same. own_is_another s f bs logged told.none (told.kept ∙ ap (λ (k : ℕ). let found : Result ℕ Why = Ok k in found) same) in
+      let is : IsOfAnother s bs kept = record { slot = slot; other = other } in
+      (subst (λ t. IsOfAnother t bs kept) (sym own) is, told.configured ∙ ap stack_byte (sym own))

@@ -8,6 +8,7 @@ use Rattle.wire_fields.specs.Formats.{Format, keyed}
 use Rattle.wire_messages.specs.Wires.{read_whole}
 use Rattle.node_body.specs.Bodies.{body, body_of, entry_in}
 use Rattle.node_body.specs.Journals.{change, read_journal}
+use Rattle.node_body.specs.Logged.{Logged, logged_stacks}
 use Rattle.node_body.specs.declared.body.Body.{Body}
 use Rattle.node_body.specs.declared.journal.Journal.{Journal}
 use Rattle.node_body.specs.declared.slot.Held.{Held}
@@ -63,19 +64,40 @@ abbrev pub unless_differs : {C : Type 0} → Held C → Option Why → Result (H
 unless_differs h None = Ok h
 unless_differs h (Some w) = Err w
 
--- what is no body of the node's stack may be one of the other stack, with its commands
-abbrev pub of_other : {C D : Type 0} → ℕ → ℕ → Result (Held D) Why → Result (Held C) Why
-of_other kept configured (Ok h) = Err (why.Stack kept configured)
-of_other kept configured (Err w) = Err w
+-- the byte of a stack where a slot of it was read
+abbrev pub byte_where : {C : Type 0} → StackId → Result (Held C) Why → Result ℕ Why
+byte_where s (Ok h) = Ok (stack_byte s)
+byte_where s (Err w) = Err w
 
-abbrev pub of_own : {C D : Type 0} → StackId → StackId → Who → Result (Held C) Why → Result (Held D) Why → Result (Held C) Why
-of_own s t who (Ok h) other = unless_differs h (difference who h.owner)
-of_own s t who (Err why.Body) other = of_other (stack_byte t) (stack_byte s) other
-of_own s t who (Err w) other = Err w
+abbrev pub slot_byte : {C : Type 0} → StackId → Format C → List ℕ → Result ℕ Why
+slot_byte s f bs = byte_where s (read_slot s f bs)
 
--- What a slot is for a node of the stack s that asks; t is the other stack.
-abbrev pub slot_found : {C D : Type 0} → StackId → Format C → StackId → Format D → Who → List ℕ → Result (Held C) Why
-slot_found s f t g who bs = of_own s t who (read_slot s f bs) (read_slot t g bs)
+-- what was found, or the next, where no body was
+abbrev pub or_next : Result ℕ Why → Result ℕ Why → Result ℕ Why
+or_next (Err why.Body) next = next
+or_next found next = found
+
+-- The byte of the stack whose slot this is, of those whose nodes keep logs; or why it is none.
+abbrev pub found_among : List Logged → List ℕ → Result ℕ Why → Result ℕ Why
+found_among [] bs found = found
+found_among (l ∷ ls) bs found = found_among ls bs (or_next found (slot_byte l.stack l.format bs))
+
+abbrev pub stack_of_slot : List ℕ → Result ℕ Why
+stack_of_slot bs = found_among logged_stacks bs (Err why.Body)
+
+-- what is no body of the node's own stack may be a slot of another
+abbrev pub of_other : {C : Type 0} → ℕ → Result ℕ Why → Result (Held C) Why
+of_other configured (Ok kept) = Err (why.Stack kept configured)
+of_other configured (Err w) = Err w
+
+abbrev pub of_own : {C : Type 0} → StackId → Who → Result (Held C) Why → Result ℕ Why → Result (Held C) Why
+of_own s who (Ok h) any = unless_differs h (difference who h.owner)
+of_own s who (Err why.Body) any = of_other (stack_byte s) any
+of_own s who (Err w) any = Err w
+
+-- What a slot is for a node of the stack s that asks, whose commands are spelled so.
+abbrev pub slot_found : {C : Type 0} → StackId → Format C → Who → List ℕ → Result (Held C) Why
+slot_found s f who bs = of_own s who (read_slot s f bs) (stack_of_slot bs)
 
 -- the state alone
 abbrev pub state_of : {C : Type 0} → Result (Held C) Why → Result (KeptView C) Why

@@ -115,20 +115,20 @@ same_size who o true false is e = cc
 same_size who o false nodes is e = cc
 
 -- a slot that a node takes is of a cluster of as many nodes
-pub owner_nodes : {C D : Type 0} (s : StackId) (f : Format C) (t : StackId) (g : Format D) (who : Who) (bs : List ℕ) (h : Held C) → slot_found s f t g who bs ≡ Ok h → h.owner.nodes ≡ who.nodes
-owner_nodes s f t g who bs h e = same_size who h.owner (nat_eq h.owner.me who.me) (nat_eq h.owner.nodes who.nodes) refl (agrees s f t g who bs h e).same
+pub owner_nodes : {C : Type 0} (s : StackId) (f : Format C) (who : Who) (bs : List ℕ) (h : Held C) → slot_found s f who bs ≡ Ok h → h.owner.nodes ≡ who.nodes
+owner_nodes s f who bs h e = same_size who h.owner (nat_eq h.owner.me who.me) (nat_eq h.owner.nodes who.nodes) refl (agrees s f who bs h e).same
 
-module _ {C D : Type 0} (s : StackId) (f : Format C) (t : StackId) (g : Format D) (is_f : IsFormat f) where
-  pub found_vote : (who : Who) (bs : List ℕ) (h : Held C) → slot_found s f t g who bs ≡ Ok h → VoteAmong who.nodes h.journal.kept.voted
+module _ {C : Type 0} (s : StackId) (f : Format C) (is_f : IsFormat f) where
+  pub found_vote : (who : Who) (bs : List ℕ) (h : Held C) → slot_found s f who bs ≡ Ok h → VoteAmong who.nodes h.journal.kept.voted
   found_vote who bs h e =
-      subst (λ (n : ℕ). VoteAmong n h.journal.kept.voted) (owner_nodes s f t g who bs h e) (slot_vote s f is_f bs h (agrees s f t g who bs h e).read)
+      subst (λ (n : ℕ). VoteAmong n h.journal.kept.voted) (owner_nodes s f who bs h e) (slot_vote s f is_f bs h (agrees s f who bs h e).read)
 
   -- so of an answer that says what the slot is
-  found_votes : (who : Who) (bs : List ℕ) (slot : Result (Held C) Why) → slot ≡ slot_found s f t g who bs → IfOk slot (λ h. VoteAmong who.nodes h.journal.kept.voted)
+  found_votes : (who : Who) (bs : List ℕ) (slot : Result (Held C) Why) → slot ≡ slot_found s f who bs → IfOk slot (λ h. VoteAmong who.nodes h.journal.kept.voted)
   found_votes who bs (Ok h) is = found_vote who bs h (sym is)
   found_votes who bs (Err w) is = tt
 
-  pub answer_votes : {E : Type 0} (who : Who) (bs : List ℕ) (r : Result (Result (Held C) Why) E) → IfOk r (λ slot. slot ≡ slot_found s f t g who bs) → IfOk r (λ slot. IfOk slot (λ h. VoteAmong who.nodes h.journal.kept.voted))
+  pub answer_votes : {E : Type 0} (who : Who) (bs : List ℕ) (r : Result (Result (Held C) Why) E) → IfOk r (λ slot. slot ≡ slot_found s f who bs) → IfOk r (λ slot. IfOk slot (λ h. VoteAmong who.nodes h.journal.kept.voted))
   answer_votes who bs (Ok slot) is = found_votes who bs slot is
   answer_votes who bs (Err e) is = tt
 

@@ -1,5 +1,5 @@
 ghost use Rattle.std.specs.Prelude.{◌≡◌, ◌<◌, ◌∷◌, ◌++◌, IfOk, IfSome, OnErr, OnOk, Some, length};
-ghost use Rattle.node_body.specs.Bodies.{NameFits, VoteAmong, body, body_of, kept_as, label, mark, owner, owner_of, read_body};
+ghost use Rattle.node_body.specs.Bodies.{VoteAmong, a_name, body, body_of, kept_as, label, mark, owner, owner_of, read_body};
 ghost use Rattle.node_body.specs.VoteLaws.{MayKeep};
 ghost use Rattle.raft_types.specs.Messages.{IsClusterSize, IsIndex, IsTerm};
 ghost use Rattle.wire_codec.specs.Headings.{stack_byte};
@@ -138,7 +138,7 @@ pub fn take_body<C: Commands>(
 // Adds the name of a cluster at the end, or nothing.
 fn put_name(out: &mut Vec<u8>, name: &[u8; NAME_LEN]) -> Result<(), AllocError>
     ensures ok { OnOk result (out.new.items ≡ out.old.items ++ name.now) }
-    ensures fits { OnOk result (NameFits (Some name.now)) }
+    ensures fits { OnOk result (a_name.Fits (Some name.now)) }
     ensures err { OnErr result (out.new.items ≡ out.old.items) }
 {
     out.extend_from_slice(name)
@@ -161,7 +161,7 @@ fn put_node<C: Commands>(out: &mut Vec<u8>, me: u8, nodes: u8) -> Result<(), All
 fn put_owner<C: Commands>(out: &mut Vec<u8>, who: &Who) -> Result<(), AllocError>
     ensures ok { OnOk result (out.new.items ≡ out.old.items
         ++ (mark.spell Version.Two ++ (owner C.stack Version.Two).spell (owner_of who.now))) }
-    ensures fits { OnOk result (NameFits (Some who.now.name)) }
+    ensures fits { OnOk result (a_name.Fits (Some who.now.name)) }
     ensures err { OnErr result (IsPrefix out.old.items out.new.items) }
 {
     put_node::<C>(out, who.me, who.nodes)?;

@@ -1,5 +1,6 @@
 ghost use Rattle.std.specs.Prelude.{◌≡◌, ◌≤◌, length};
 ghost use Rattle.node_body.specs.CommandLengths.{kv_length, table_length};
+ghost use Rattle.node_body.specs.LoggedLaws.{IsLogged, kv_is_logged, table_is_logged};
 ghost use Rattle.node_body.specs.declared.commands.TheConstants.{MAX_COMMAND};
 ghost use Rattle.vst_base.specs.declared.stack.StackId.{StackId};
 ghost use Rattle.vst_base.specs.declared.stack.StackId.TheVariants as stack_id;
@@ -28,6 +29,9 @@ pub trait Commands: Wire {
 
     /// No command has more bytes.
     ghost short: { (c : Self) → Self.format.Fits c → length (Self.format.spell c) ≤ MAX_COMMAND };
+
+    /// The stack has its line in the table of those whose nodes keep logs.
+    ghost logged: { IsLogged stack Self.format };
 }
 
 impl Commands for KvCmd {
@@ -42,6 +46,8 @@ impl Commands for KvCmd {
     }
 
     ghost short = { kv_length };
+
+    ghost logged = { kv_is_logged };
 }
 
 impl Commands for TableCmd {
@@ -56,4 +62,6 @@ impl Commands for TableCmd {
     }
 
     ghost short = { table_length };
+
+    ghost logged = { table_is_logged };
 }

@@ -1,9 +1,10 @@
 ghost use Rattle.std.specs.Prelude.{◌≡◌, ◌∷◌, ◌++◌, [], None, Some, Ok, Err, codes, take, drop};
 ghost use Rattle.kv_machine.specs.declared.cmd.KvCmd.TheVariants as command;
 ghost use Rattle.node_body.specs.Bodies.{body, body_of, entry_in, kept_as, read_body};
-ghost use Rattle.node_body.specs.Examples.{before_greatest, cluster, decided, first_kept, first_slot, first_state, found, found_by, gated_records, greatest, journal_left, new_body, new_change, new_held, no_op, no_op_of, no_op_record, number_of_eight, number_of_four, old_body, old_first, old_held, old_put, old_voted, one_entry, other_cluster, past_greatest, record_of, slot, table_put, vote_record, voted_kept, voted_slot, voted_state, who_as};
+ghost use Rattle.node_body.specs.Examples.{before_greatest, cluster, decided, first_kept, first_slot, first_state, found, found_by, found_by_table, gated_records, greatest, journal_left, new_body, new_change, new_held, no_op, no_op_of, no_op_record, number_of_eight, number_of_four, old_body, old_first, old_held, old_put, old_voted, one_entry, other_cluster, past_greatest, record_of, slot, table_put, vote_record, voted_kept, voted_slot, voted_state, who_as};
 ghost use Rattle.node_body.specs.GatedRecords.{AreGated, patched_by, spell_gated};
 ghost use Rattle.node_body.specs.Journals.{change, change_as, journal_as, patched};
+ghost use Rattle.node_body.specs.Slots.{stack_of_slot};
 ghost use Rattle.node_body.specs.declared.version.Version.TheVariants.{One};
 ghost use Rattle.node_body.specs.declared.why.Why.TheVariants as why;
 ghost use Rattle.vst_base.specs.declared.stack.StackId.TheVariants as stack;
@@ -168,4 +169,21 @@ pub fn worked_refusals()
     ensures stack_before_node { found (slot 34 (new_body 7 1 5 first_state)) ≡ Err (why.Stack 7 5) }
     ensures node_before_size { found (slot 34 (new_body 5 1 5 first_state)) ≡ Err (why.Node 1 0) }
     ensures size_before_name { found_by (who_as 0 5 other_cluster) voted_slot ≡ Err (why.Cluster 3 5) }
+{}
+
+/// Which stack's slot bytes are, and what a node of the other stack that keeps logs finds.
+#[tactic(auto, unfolding(wire_fields::specs::Bytes::number_bytes, wire_fields::specs::Bytes::number_in, wire_fields::specs::Bytes::has_bytes, wire_fields::specs::Bytes::read_number, crate::specs::Journals::from_gate))]
+pub fn worked_stacks()
+    ensures key_value_store { stack_of_slot (first_slot ++ 0 ∷ []) ≡ Ok 5 }
+    ensures lock_table { stack_of_slot (slot 48 (old_body 7 0 3 (one_entry table_put))) ≡ Ok 7 }
+    ensures of_packets { stack_of_slot (slot 18 (old_body 4 0 3 first_state)) ≡ Err why.Body }
+    ensures with_other_commands { stack_of_slot (slot 49 (old_body 7 0 3 (one_entry old_put))) ≡ Err why.Body }
+    ensures no_record { stack_of_slot (slot 34 (new_body 7 0 3 first_state) ++ 1 ∷ []) ≡ Err why.Journal }
+    ensures no_bytes { stack_of_slot [] ≡ Err why.Slot }
+
+    // A node of the lock table.
+    ensures another_stack { found_by_table first_slot ≡ Err (why.Stack 5 7) }
+    ensures another_journal { found_by_table (first_slot ++ 1 ∷ []) ≡ Err why.Journal }
+    ensures another_node { found_by_table (slot 34 (new_body 7 1 3 first_state)) ≡ Err (why.Node 1 0) }
+    ensures no_body { found_by_table (slot 34 (new_body 7 3 3 first_state)) ≡ Err why.Body }
 {}

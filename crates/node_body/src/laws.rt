@@ -27,36 +27,36 @@ pub fn bodies_have_one_spelling<C: Commands>()
 {}
 
 /// Which bytes are no body to a node, and that it finds the state in its base.
-pub fn bodies_are_found<C: Commands, D: Commands>()
-    ensures bases { BaseIsFound C.stack C.format D.stack D.format }
-    ensures none { (who : Who) (bs : List ℕ) → HasNoBody C.stack C.format D.stack D.format bs
-        → slot_found C.stack C.format D.stack D.format who bs ≡ Err Why.Body }
-    ensures none_alone { (who : Who) (bs : List ℕ) → slot_found C.stack C.format D.stack D.format who bs ≡ Err Why.Body
-        → HasNoBody C.stack C.format D.stack D.format bs }
+pub fn bodies_are_found<C: Commands>()
+    ensures bases { BaseIsFound C.stack C.format }
+    ensures none { (who : Who) (bs : List ℕ) → HasNoBody C.stack C.format bs
+        → slot_found C.stack C.format who bs ≡ Err Why.Body }
+    ensures none_alone { (who : Who) (bs : List ℕ) → slot_found C.stack C.format who bs ≡ Err Why.Body
+        → HasNoBody C.stack C.format bs }
 {}
 
 /// What a node finds in a slot, whatever a crash makes of what is written from its last gate on.
-pub fn gates_are_exact<C: Commands, D: Commands>()
+pub fn gates_are_exact<C: Commands>()
     // Where a record may follow there is a gate, and what it hides has no part in the state.
-    ensures stands { LastGateStands C.stack C.format D.stack D.format }
+    ensures stands { LastGateStands C.stack C.format }
     // What stands after a closed gate is not read.
-    ensures hides { ClosedGateHides C.stack C.format D.stack D.format }
+    ensures hides { ClosedGateHides C.stack C.format }
     // A record counts as soon as its gate is open, and whole.
-    ensures adds { OpenGateAdds C.stack C.format D.stack D.format }
+    ensures adds { OpenGateAdds C.stack C.format }
     // A record that is torn after a closed gate changes nothing.
-    ensures harmless { RecordIsHarmless C.stack C.format D.stack D.format }
+    ensures harmless { RecordIsHarmless C.stack C.format }
     // A gate that is torn leaves the state before the record or the one after it.
-    ensures either { GateIsEither C.stack C.format D.stack D.format }
+    ensures either { GateIsEither C.stack C.format }
 {}
 
 /// The bytes of a slot up to its first closed gate decide what it is, and so do those of a body that is none.
-pub fn fronts_decide<C: Commands, D: Commands>()
+pub fn fronts_decide<C: Commands>()
     // What a front decides is what each slot is that begins with it; the gate hides what stands after the front too.
-    ensures slots { FrontsDecide C.stack C.format D.stack D.format }
+    ensures slots { FrontsDecide C.stack C.format }
     // A longer front decides the same.
-    ensures longer { LongerFrontsDecide C.stack C.format D.stack D.format }
+    ensures longer { LongerFrontsDecide C.stack C.format }
     // Bytes that have the last gate of a slot to which a record may be added decide it.
-    ensures gates { LastGateDecides C.stack C.format D.stack D.format }
+    ensures gates { LastGateDecides C.stack C.format }
 {}
 
 /// A journal is found in exactly the bytes of its records: each after an open gate, at most so many, and a closed gate after them.
@@ -65,9 +65,9 @@ pub fn journals_hold_records<C: Commands>()
     ensures alone { (version : Version) (nodes : ℕ) → RecordsAlone (change nodes (entry_in version C.format)) }
 {}
 
-/// What a node finds that names the stack of its commands: a state of its own, or the byte of the other stack beside that of
-/// its own.
-pub fn found_states_are_own<C: Commands, D: Commands>()
-    ensures own { OwnIsFound C.stack C.format D.stack D.format }
-    ensures stack { StackIsTold C.stack C.format D.stack D.format }
+/// What a node finds that names the stack of its commands: a state of its own, or, in the slot of another stack, the byte of that one
+/// beside that of its own.
+pub fn found_states_are_own<C: Commands>()
+    ensures own { OwnIsFound C.stack C.format }
+    ensures stack { StackIsTold C.stack C.format }
 {}

@@ -22,6 +22,7 @@ pub use body::{Body, put_body, put_state, take_any_body, take_body};
 pub use commands::{Commands, MAX_COMMAND};
 pub use examples::{
     worked_bodies, worked_fronts, worked_journals, worked_records, worked_refusals, worked_slots,
+    worked_stacks,
 };
 pub use journal::{Journal, MAX_RECORDS, read_journal};
 pub use laws::{
@@ -29,7 +30,7 @@ pub use laws::{
     gates_are_exact, journals_hold_records,
 };
 pub use records::{Record, put_record, take_record};
-pub use slot::{Held, find_in_front, find_slot, read_slot};
+pub use slot::{Held, find_in_front, find_slot, read_slot, stack_of_slot};
 pub use version::Version;
 pub use vote::NO_VOTE;
 pub use who::{Owner, Who};

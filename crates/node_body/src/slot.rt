@@ -1,9 +1,11 @@
 ghost use Rattle.std.specs.Prelude.{◌≡◌, IfOk, IfSome, MatchOption, Some, None};
 ghost use Rattle.node_body.specs.Bodies.{VoteAmong};
 ghost use Rattle.node_body.specs.Fronts.{found_in_front, has_gate};
-ghost use Rattle.node_body.specs.Slots.{difference, of_own, read_slot, sized, slot_found};
+ghost use Rattle.node_body.specs.Slots.{difference, of_own, or_next, read_slot, sized, slot_byte, slot_found, stack_of_slot};
 
 use crate::{Commands, Journal, Owner, Version, Who, Why, read_journal, take_any_body};
+use kv_machine::KvCmd;
+use lock_table::TableCmd;
 use std::alloc::{AllocError, Global};
 use wire_fields::Input;
 
@@ -79,22 +81,58 @@ fn difference(who: &Who, owner: &Owner) -> Option<Why>
     }
 }
 
+// The byte of the stack of these commands where the bytes are a slot of it, or the first why.
+fn slot_byte<C: Commands>(alloc: Global, bytes: &[u8]) -> Result<Result<u8, Why>, AllocError>
+    ensures { IfOk result (λ found. found ≡ slot_byte C.stack C.format bytes.now) }
+{
+    match read_slot::<C>(alloc, bytes)? {
+        Ok(_held) => Ok(Ok(C::byte())),
+        Err(why) => Ok(Err(why)),
+    }
+}
+
+// What was found, or, where no body was, what is found for the stack of these commands.
+fn or_next<C: Commands>(
+    alloc: Global,
+    bytes: &[u8],
+    found: Result<u8, Why>,
+) -> Result<Result<u8, Why>, AllocError>
+    ensures { IfOk result (λ next. next ≡ or_next found (slot_byte C.stack C.format bytes.now)) }
+{
+    match found {
+        Err(Why::Body) => slot_byte::<C>(alloc, bytes),
+        Ok(_) | Err(_) => Ok(found),
+    }
+}
+
+/// The byte of the stack whose slot the bytes are, of those whose nodes keep logs, or the first why of `Slot`, `Body` and `Journal` that
+/// applies.
+pub fn stack_of_slot(alloc: Global, bytes: &[u8]) -> Result<Result<u8, Why>, AllocError>
+    ensures { IfOk result (λ found. found ≡ stack_of_slot bytes.now) }
+{
+    let found = Err(Why::Body);
+    // A line for each stack.
+    let found = or_next::<KvCmd>(alloc, bytes, found)?;
+    let found = or_next::<TableCmd>(alloc, bytes, found)?;
+    Ok(found)
+}
+
 // What a slot is for a node that asks. That its vote is in range follows.
-fn slot_for<C: Commands, D: Commands>(
+fn slot_for<C: Commands>(
     alloc: Global,
     who: &Who,
     bytes: &[u8],
 ) -> Result<Result<Held<C>, Why>, AllocError>
-    ensures { IfOk result (λ slot. slot ≡ slot_found C.stack C.format D.stack D.format who.now bytes.now) }
+    ensures { IfOk result (λ slot. slot ≡ slot_found C.stack C.format who.now bytes.now) }
 {
     match read_slot::<C>(alloc, bytes)? {
         Ok(held) => match difference(who, &held.owner) {
             None => Ok(Ok(held)),
             Some(why) => Ok(Err(why)),
         },
-        Err(Why::Body) => match read_slot::<D>(alloc, bytes)? {
-            Ok(_other) => Ok(Err(Why::Stack {
-                kept: D::byte(),
+        Err(Why::Body) => match stack_of_slot(alloc, bytes)? {
+            Ok(kept) => Ok(Err(Why::Stack {
+                kept,
                 configured: C::byte(),
             })),
             Err(why) => Ok(Err(why)),
@@ -103,18 +141,18 @@ fn slot_for<C: Commands, D: Commands>(
     }
 }
 
-/// What a slot is for a node that asks: the state that it holds, or the first why that applies. `C` are the commands of the
-/// node's stack, and `D` those of the other. The stack that `who` names is not read: `found_states_are_own` says what is found where
+/// What a slot is for a node that asks, of the stack of `C`: the state that it holds, or the first why that applies. A slot of another
+/// stack whose nodes keep logs is `Why::Stack`. The stack that `who` names is not read: `found_states_are_own` says what is found where
 /// it is that of `C`.
-pub fn find_slot<C: Commands, D: Commands>(
+pub fn find_slot<C: Commands>(
     alloc: Global,
     who: &Who,
     bytes: &[u8],
 ) -> Result<Result<Held<C>, Why>, AllocError>
-    ensures found { IfOk result (λ slot. slot ≡ slot_found C.stack C.format D.stack D.format who.now bytes.now) }
+    ensures found { IfOk result (λ slot. slot ≡ slot_found C.stack C.format who.now bytes.now) }
     ensures voted { IfOk result (λ slot. IfOk slot (λ held. VoteAmong who.now.nodes held.journal.kept.voted)) }
 {
-    slot_for::<C, D>(alloc, who, bytes)
+    slot_for::<C>(alloc, who, bytes)
 }
 
 // Whether a gate stands after the body.
@@ -129,15 +167,15 @@ fn has_gate(bytes: &[u8]) -> bool
 
 /// What each slot that begins with these bytes is for a node that asks, as `find_slot` says. `None` comes where bytes more may change that,
 /// since there is no whole body yet, or no closed gate after one. `fronts_decide` says what is the same of the whole slot.
-pub fn find_in_front<C: Commands, D: Commands>(
+pub fn find_in_front<C: Commands>(
     alloc: Global,
     who: &Who,
     bytes: &[u8],
 ) -> Result<Option<Result<Held<C>, Why>>, AllocError>
-    ensures found { IfOk result (λ found. found ≡ found_in_front C.stack C.format D.stack D.format who.now bytes.now) }
+    ensures found { IfOk result (λ found. found ≡ found_in_front C.stack C.format who.now bytes.now) }
     ensures voted { IfOk result (λ found. IfSome found (λ slot. IfOk slot (λ held. VoteAmong who.now.nodes held.journal.kept.voted))) }
 {
-    match find_slot::<C, D>(alloc, who, bytes)? {
+    match find_slot::<C>(alloc, who, bytes)? {
         Err(Why::Body) => Ok(Some(Err(Why::Body))),
         Err(Why::Journal) => Ok(None),
         found => {

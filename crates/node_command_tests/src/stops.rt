@@ -4,7 +4,6 @@ ghost use Rattle.node_device_mem.specs.MemoryDevices.{memory_begun};
 use crate::bytes::{ASKS, NAME, VOTE};
 use crate::run::{Answer, Ran, START, Start, THREE_TURNS, arrivals, at, run};
 use kv_machine::KvCmd;
-use lock_table::TableCmd;
 use node_body::Who;
 use node_device::Device;
 use node_device_mem::{Areas, MemoryDevice, MemoryDisk};
@@ -36,7 +35,7 @@ const VOTED: Left = Left::Held(1, Some(1));
 fn opened<D: Device>(alloc: Global, device: &mut D) -> Result<Left, OpenFault>
     requires { D.begun device.old ≡ true }
 {
-    match open::<D, KvCmd, TableCmd>(alloc, device, &WHO)? {
+    match open::<D, KvCmd>(alloc, device, &WHO)? {
         Opened::Fresh(_) => Ok(Left::Fresh),
         Opened::Held(_, kept) => Ok(Left::Held(
             kept.term(),

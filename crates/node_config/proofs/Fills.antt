@@ -1,6 +1,6 @@
 -- A buffer that is filled in several reads.
 use Rattle.std.specs.Prelude.{◌≡◌, ℕ, ◌+◌, ◌-◌, ◌<◌, ◌≤◌, List, [], ◌∷◌, ◌++◌, length, take, drop, Option, Some, None, option_map, IfSome, refl}
-use Rattle.std.proofs.Common.{ap, sym, ◌∙◌, subst, arith, le_refl, drop_at, length-take-le}
+use Rattle.std.proofs.Common.{ap, sym, ◌∙◌, arith, le_refl, drop_at, length-take-le}
 use Rattle.std.proofs.lemmas.List.{drop_all, drop-drop, length-drop, length-take}
 use Rattle.outside.specs.Streams.{Gives}
 use Rattle.std.proofs.lemmas.Slice.{take-put_mid_below}

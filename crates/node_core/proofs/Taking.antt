@@ -51,10 +51,10 @@ module _ {S C O : Type 0} (config : Config) (m : MachineMeaning S C O) (f : Form
       (log_continues f g (settings_of config) m replica.state event replica.store knows)
 
 -- what the areas hold, each image of them opens as
-pub opens_held : {C D : Type 0} (s : StackId) (f : Format C) (t : StackId) (g : Format D) (store : StoreView) (held kept : KeptView C) (a : Option Told) →
-    held.term ≡ kept.term → held.voted ≡ kept.voted → held.log ≡ kept.log → IfSome a (λ told. Holds s f t g store held told.disk) →
-    IfSome a (λ told. (image : Image) → may_hold told.disk image ≡ true → OpensAs (found_by s f t g store.who) kept image)
-opens_held s f t g store held kept None term voted log h = tt
-opens_held {C} s f t g store held kept (Some told) term voted log h = λ image may.
-    rests_opens (found_by s f t g store.who) kept store.selector told.disk image
-    (holds_rests s f t g store kept told.disk (subst (λ (k : KeptView C). Holds s f t g store k told.disk) (kept_same held kept term voted log) h)) may
+pub opens_held : {C : Type 0} (s : StackId) (f : Format C) (store : StoreView) (held kept : KeptView C) (a : Option Told) →
+    held.term ≡ kept.term → held.voted ≡ kept.voted → held.log ≡ kept.log → IfSome a (λ told. Holds s f store held told.disk) →
+    IfSome a (λ told. (image : Image) → may_hold told.disk image ≡ true → OpensAs (found_by s f store.who) kept image)
+opens_held s f store held kept None term voted log h = tt
+opens_held {C} s f store held kept (Some told) term voted log h = λ image may.
+    rests_opens (found_by s f store.who) kept store.selector told.disk image
+    (holds_rests s f store kept told.disk (subst (λ (k : KeptView C). Holds s f store k told.disk) (kept_same held kept term voted log) h)) may

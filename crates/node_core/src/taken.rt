@@ -28,19 +28,18 @@ pub struct Taken<S, C, O> {
 
 impl<S: Drop, C: Commands, O: Drop> Taken<S, C, O> {
     /// Makes durable what the node keeps. It costs as much as the entries that are new, but for a base of the journal. An `Err` gives
-    /// the node up: its areas are opened again before any save. `X` are the commands of the other stack.
-    pub fn save<D: Device, X: Commands>(
+    /// the node up: its areas are opened again before any save.
+    pub fn save<D: Device>(
         self,
         alloc: Global,
         device: &mut D,
     ) -> Result<Saved<S, C, O>, StateFault>
         requires begun { D.begun device.old ≡ true }
-        requires other { X.stack ≢ C.stack }
         requires taken { IsTaken C.stack self }
 
         // The areas hold a state that this one continues.
         requires held { IfSome (D.told device.old)
-            (IsHeldBefore C.stack C.format X.stack X.format self.replica.store (kept_of self.replica.state)) }
+            (IsHeldBefore C.stack C.format self.replica.store (kept_of self.replica.state)) }
 
         ensures ready { IfOk result (λ saved. IsReady C.stack saved.replica) }
         ensures replica { IfOk result (λ saved. saved.replica ≡ record self.replica {
@@ -52,16 +51,16 @@ impl<S: Drop, C: Commands, O: Drop> Taken<S, C, O> {
         ensures stopped { OnErr result (StoppedIn (D.told device.old) (D.told device.new)
             (state_acts C.stack C.format self.replica.store (kept_of self.replica.state))) }
         ensures holds { IfOk result (λ saved. IfSome (D.told device.new) (λ told.
-            Holds C.stack C.format X.stack X.format saved.replica.store (kept_of saved.replica.state) told.disk)) }
+            Holds C.stack C.format saved.replica.store (kept_of saved.replica.state) told.disk)) }
 
         // Each image that a crash may then leave opens as what the node keeps.
         ensures opens { IfOk result (λ saved. IfSome (D.told device.new) (λ told. (image : Image) → may_hold told.disk image ≡ true
-            → OpensAs (found_by C.stack C.format X.stack X.format saved.replica.store.who) (kept_of saved.replica.state) image)) }
+            → OpensAs (found_by C.stack C.format saved.replica.store.who) (kept_of saved.replica.state) image)) }
 
         ensures keeps { OnOk result (IfSome (D.told device.old)
-            (Saves C.stack C.format X.stack X.format self.replica.store (kept_of self.replica.state))) }
+            (Saves C.stack C.format self.replica.store (kept_of self.replica.state))) }
         ensures crash { WhereTold (D.told device.old) (D.told device.new)
-            (LeavesEither C.stack C.format X.stack X.format self.replica.store (kept_of self.replica.state)) }
+            (LeavesEither C.stack C.format self.replica.store (kept_of self.replica.state)) }
         ensures causes { StateCounts (D.faults device.old) (D.faults device.new) result }
         ensures begun { D.begun device.new ≡ true }
     {
@@ -77,7 +76,7 @@ impl<S: Drop, C: Commands, O: Drop> Taken<S, C, O> {
             mut store,
         } = replica;
         let log = state.log();
-        save_change::<D, C, X>(
+        save_change::<D, C>(
             alloc,
             &mut store,
             device,

@@ -1,17 +1,12 @@
 -- What is sent and replied, as one list for each packet and each output.
-use Rattle.std.proofs.Common.{◌≡◌, ℕ, List, [], ◌∷◌, ◌++◌, slice_get, refl, ap}
+use Rattle.std.proofs.Common.{◌≡◌, ℕ, List, [], ◌∷◌, ◌++◌, refl, ap}
 use Rattle.std.specs.List.{flat_map}
 use Rattle.outside.specs.declared.device.Address.{Address}
 use Rattle.raft_types.specs.declared.client.RaftOut.{RaftOut}
 use Rattle.raft_types.specs.declared.msg.RaftMsg.{RaftMsg}
-use Rattle.wire_codec.specs.declared.kind.Kind.TheVariants as kind
 use Rattle.wire_fields.specs.Formats.{Format}
-use Rattle.wire_messages.specs.RaftBytes.{raft_message}
-use Rattle.node_run.specs.Events.{datagram_to, replied, reply_of, reply_to, sent}
+use Rattle.node_run.specs.Events.{packet_to, replied, reply_of, reply_to, sent}
 use Rattle.node_run.specs.Settings.{Settings}
-
-abbrev pub packet_to : {C : Type 0} → Settings → Format C → ℕ × RaftMsg C → List (Address × List ℕ)
-packet_to settings f p = datagram_to settings (slice_get settings.peers p.0) kind.Peer p.0 ((raft_message f).spell p.1)
 
 abbrev pub told_by : {O : Type 0} → Settings → Format O → RaftOut O → List (Address × List ℕ)
 told_by settings f o = reply_to settings f (reply_of o)

@@ -3,18 +3,19 @@ use Rattle.std.specs.Prelude.{◌≡◌, ◌≤◌, ℕ, List}
 use Rattle.disk.specs.Acts.{Act}
 use Rattle.node_device.specs.Faults.{Faults}
 use Rattle.node_device.specs.Telling.{Told, told_after}
+use Rattle.node_run.specs.Events.{own_heading}
 use Rattle.node_run.specs.Settings.{Settings}
 use Rattle.outside.specs.declared.device.Address.{Address}
 use Rattle.slots.specs.Turns.{Says, datagrams}
-use Rattle.wire_codec.specs.Datagrams.{message_of, spell_datagram}
-use Rattle.wire_codec.specs.Headings.{heading_of}
+use Rattle.wire_codec.specs.Datagrams.{spell_datagram}
 use Rattle.wire_codec.specs.declared.kind.Kind.{Kind}
+use Rattle.wire_fields.specs.Formats.{Format}
 use Rattle.lists.specs.Each.{Each}
 use Rattle.lists.specs.Prefixes.{IsPrefix}
 
--- the bytes of a datagram of the node: of which kind, to whom and with which body
-abbrev pub bytes_of : Settings → Kind → ℕ → List ℕ → List ℕ
-bytes_of settings kind to body = spell_datagram (message_of (heading_of settings.stack kind settings.me to settings.name) body)
+-- the bytes of a datagram of the node: of which kind, to whom and with which message
+abbrev pub bytes_of : {M : Type 0} → Format M → Settings → Kind → ℕ → M → List ℕ
+bytes_of f settings k to message = spell_datagram f (own_heading settings k to) message
 
 -- just these datagrams were sent, or lost in sending, and nothing else was done
 pub record HasSaid (said : List (Address × List ℕ)) (before now : Told) : Type 0 where

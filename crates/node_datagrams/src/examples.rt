@@ -4,7 +4,11 @@ ghost use Rattle.node_config.specs.Examples.{local, sample_with};
 ghost use Rattle.node_datagrams.specs.Configured.{IsEventOf, settings_of};
 ghost use Rattle.node_datagrams.specs.Examples.{before, has_begun, has_said, lost, sent, vote};
 ghost use Rattle.node_datagrams.specs.Saying.{HasSaid, bytes_of};
-ghost use Rattle.node_run.specs.Examples.{asked_put, at_port, candidate, datagram, number_of_eight, settings, votes};
+ghost use Rattle.node_run.specs.Examples.{asked_put, at_port, candidate, datagram, granted, number_of_eight, settings};
+ghost use Rattle.wire_messages.specs.ClientBytes.{client_reply};
+ghost use Rattle.wire_messages.specs.KvBytes.{kv_command, kv_output};
+ghost use Rattle.wire_messages.specs.RaftBytes.{raft_message};
+ghost use Rattle.wire_messages.specs.declared.client.Answer.TheVariants as answer;
 
 use wire_codec::Kind;
 
@@ -24,8 +28,9 @@ pub fn worked_events()
 /// The bytes of a node's datagrams.
 #[tactic(auto, unfolding(wire_fields::specs::Bytes::number_bytes))]
 pub fn worked_bytes()
-    ensures to_a_node { bytes_of settings Kind.Peer 1 (votes (number_of_eight 1) 1) ≡ vote 1 }
-    ensures to_a_client { bytes_of settings Kind.Reply 0 (number_of_eight 1 ++ 2 ∷ []) ≡ datagram 5 2 0 0 (number_of_eight 1 ++ 2 ∷ []) }
+    ensures to_a_node { bytes_of (raft_message kv_command) settings Kind.Peer 1 granted ≡ vote 1 }
+    ensures to_a_client { bytes_of (client_reply kv_output) settings Kind.Reply 0 (record { request = 1; answer = answer.NotLeader })
+        ≡ datagram 5 2 0 0 (number_of_eight 1 ++ 2 ∷ []) }
 {}
 
 /// Two datagrams that were sent, or lost in sending: not in another order, not once more or less, not to another node, and with

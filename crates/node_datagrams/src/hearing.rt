@@ -1,9 +1,10 @@
-ghost use Rattle.std.specs.Prelude.{◌≡◌, ◌==◌, ◌<◌, IfOk, IfSome};
+ghost use Rattle.std.specs.Prelude.{◌≡◌, ◌==◌, IfOk, IfSome, Some};
 ghost use Rattle.node_datagrams.specs.Configured.{IsEventOf, settings_of};
-ghost use Rattle.node_run.specs.Events.{event_by, event_of, is_for};
-ghost use Rattle.wire_codec.specs.Datagrams.{said};
-ghost use Rattle.wire_codec.specs.Headings.{HasByte, stack_byte};
-ghost use Rattle.wire_codec.specs.declared.kind.Kind.TheVariants as kind;
+ghost use Rattle.node_run.specs.Events.{event_of, is_for, peer_event, request_event};
+ghost use Rattle.wire_codec.specs.Datagrams.{said, with_message};
+ghost use Rattle.wire_codec.specs.Headings.{HasByte, heading, stack_byte};
+ghost use Rattle.wire_messages.specs.ClientBytes.{client_request};
+ghost use Rattle.wire_messages.specs.RaftBytes.{raft_message};
 
 use crate::addresses::is_at;
 use node_config::Config;
@@ -23,27 +24,32 @@ fn same_stack(a: StackId, b: StackId) -> bool
     a == b
 }
 
-// Whether a datagram is of the node's stack and cluster, and for the node.
-fn is_for(config: &Config, datagram: &Datagram<'_>) -> bool
+// Whether a datagram is of this kind, of the node's stack and cluster, and for the node.
+fn is_for(config: &Config, kind: Kind, datagram: &Datagram<'_>) -> bool
     requires { HasByte datagram.now.heading.stack }
-    ensures { result ≡ is_for (settings_of config.now) (said datagram.now) }
+    ensures { result ≡ is_for (settings_of config.now) kind datagram.now.heading }
 {
-    same_stack(datagram.heading.stack, config.stack)
+    datagram.heading.kind.byte() == kind.byte()
+        && same_stack(datagram.heading.stack, config.stack)
         && datagram.heading.to == config.me
         && datagram.heading.name == config.cluster
 }
 
-// The event of a datagram between nodes.
+// The event of a message between nodes.
 fn hear_peer<C: Wire>(
     alloc: Global,
     config: &Config,
     from: &Address,
     datagram: &Datagram<'_>,
 ) -> Result<Option<Event<C>>, AllocError>
-    requires { datagram.now.heading.from < MAX_NODES }
-    ensures event { IfOk result (λ event. event ≡ event_by (settings_of config.now) C.format from.now (said datagram.now) kind.Peer) }
+    requires { heading.Fits datagram.now.heading }
+    ensures event { IfOk result (λ event. event
+        ≡ peer_event (settings_of config.now) from.now (with_message (raft_message C.format) (Some (said datagram.now)))) }
     ensures comes { IfOk result (λ event. IfSome event (IsEventOf config.now)) }
 {
+    if !is_for(config, Kind::Peer, datagram) {
+        return Ok(None);
+    }
     let number = datagram.heading.from;
     if number == config.me || !is_at(config.peers.as_slice(), number, from) {
         return Ok(None);
@@ -67,9 +73,14 @@ fn hear_request<C: Wire>(
     from: &Address,
     datagram: &Datagram<'_>,
 ) -> Result<Option<Event<C>>, AllocError>
-    ensures event { IfOk result (λ event. event ≡ event_by (settings_of config.now) C.format from.now (said datagram.now) kind.Request) }
+    requires { heading.Fits datagram.now.heading }
+    ensures event { IfOk result (λ event. event
+        ≡ request_event (settings_of config.now) from.now (with_message (client_request C.format) (Some (said datagram.now)))) }
     ensures comes { IfOk result (λ event. IfSome event (IsEventOf config.now)) }
 {
+    if !is_for(config, Kind::Request, datagram) {
+        return Ok(None);
+    }
     let number = datagram.heading.from;
     if !is_at(config.clients.as_slice(), number, from) {
         return Ok(None);
@@ -98,12 +109,8 @@ pub fn hear<C: Wire>(
     let Some(datagram) = decode(bytes) else {
         return Ok(None);
     };
-    if !is_for(config, &datagram) {
-        return Ok(None);
-    }
-    match datagram.heading.kind {
-        Kind::Peer => hear_peer(alloc, config, &from, &datagram),
-        Kind::Request => hear_request(alloc, config, &from, &datagram),
-        Kind::Reply => Ok(None),
+    match hear_peer(alloc, config, &from, &datagram)? {
+        Some(event) => Ok(Some(event)),
+        None => hear_request(alloc, config, &from, &datagram),
     }
 }

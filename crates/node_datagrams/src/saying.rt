@@ -1,8 +1,8 @@
 ghost use Rattle.std.specs.Prelude.{◌≡◌, ◌<◌, ◌++◌, OnErr, OnOk};
+ghost use Rattle.node_config.specs.declared.limits.TheConstants.{MAX_CLIENTS};
 ghost use Rattle.node_datagrams.specs.Configured.{settings_of};
 ghost use Rattle.node_datagrams.specs.Saying.{bytes_of};
-ghost use Rattle.node_run.specs.Events.{reply_of};
-ghost use Rattle.wire_codec.specs.Headings.{heading, heading_of};
+ghost use Rattle.node_run.specs.Events.{own_heading, reply_of};
 ghost use Rattle.wire_codec.specs.declared.kind.Kind.TheVariants as kind;
 ghost use Rattle.wire_messages.specs.ClientBytes.{client_reply};
 ghost use Rattle.wire_messages.specs.RaftBytes.{raft_message};
@@ -12,28 +12,24 @@ use node_config::Config;
 use raft_types::{RaftMsg, RaftOut};
 use std::alloc::AllocError;
 use vst_base::{ClientId, Node};
-use wire_codec::{Heading, Kind};
+use wire_codec::{Heading, Kind, encode_into};
 use wire_fields::put_u64;
 use wire_messages::Wire;
 
-// Adds the heading of a datagram of the node at the end, or nothing.
-fn put_heading(out: &mut Vec<u8>, config: &Config, kind: Kind, to: u8) -> Result<(), AllocError>
-    ensures ok { OnOk result (out.new.items
-        ≡ out.old.items ++ heading.spell (heading_of config.now.stack kind config.now.me to config.now.cluster)) }
-    ensures err { OnErr result (out.new.items ≡ out.old.items) }
+// The heading of a datagram of the node.
+fn heading_to(config: &Config, kind: Kind, to: u8) -> Heading
+    ensures { result ≡ own_heading (settings_of config.now) kind to }
 {
-    let heading = Heading {
+    Heading {
         stack: config.stack,
         kind,
         from: config.me,
         to,
         name: config.cluster,
-    };
-    heading.put(out)
+    }
 }
 
-/// Adds the datagram of a message to a node at the end, or a part of it.
-#[tactic(auto, using(wire_fields::specs::Fronts::front_stays))]
+/// Adds the datagram of a message to a node at the end, or nothing.
 pub fn put_packet<C: Wire>(
     out: &mut Vec<u8>,
     config: &Config,
@@ -41,11 +37,12 @@ pub fn put_packet<C: Wire>(
     message: &RaftMsg<C>,
 ) -> Result<(), AllocError>
     ensures ok { OnOk result (out.new.items
-        ≡ out.old.items ++ bytes_of (settings_of config.now) kind.Peer to ((raft_message C.format).spell message.now)) }
-    ensures err { OnErr result (IsPrefix out.old.items out.new.items) }
+        ≡ out.old.items ++ bytes_of (raft_message C.format) (settings_of config.now) kind.Peer to message.now) }
+    ensures fits { OnOk result ((raft_message C.format).Fits message.now) }
+    ensures err { OnErr result (out.new.items ≡ out.old.items) }
 {
-    put_heading(out, config, Kind::Peer, to.index())?;
-    message.put(out)
+    let heading = heading_to(config, Kind::Peer, to.index());
+    encode_into(out, &heading, message)
 }
 
 // Whom an output is for.
@@ -63,6 +60,7 @@ pub(crate) fn client_of<O>(output: &RaftOut<O>) -> ClientId
 #[tactic(auto, using(wire_fields::specs::Fronts::front_stays))]
 fn put_output<O: Wire>(out: &mut Vec<u8>, output: &RaftOut<O>) -> Result<(), AllocError>
     ensures ok { OnOk result (out.new.items ≡ out.old.items ++ (client_reply O.format).spell (reply_of output.now).1) }
+    ensures fits { OnOk result ((client_reply O.format).Fits (reply_of output.now).1) }
     ensures err { OnErr result (IsPrefix out.old.items out.new.items) }
 {
     match output {
@@ -86,19 +84,20 @@ fn put_output<O: Wire>(out: &mut Vec<u8>, output: &RaftOut<O>) -> Result<(), All
     }
 }
 
-/// Adds the datagram of an output to its client, of a slot below 256, at the end, or a part of it.
+/// Adds the datagram of an output to its client, of a slot that there may be, at the end, or a part of it.
 #[tactic(auto, using(wire_fields::specs::Fronts::front_stays))]
 pub fn put_reply<O: Wire>(
     out: &mut Vec<u8>,
     config: &Config,
     output: &RaftOut<O>,
 ) -> Result<(), AllocError>
-    requires { (reply_of output.now).0 < 256 }
-    ensures ok { OnOk result (out.new.items ≡ out.old.items ++ bytes_of (settings_of config.now) kind.Reply (reply_of output.now).0
-        ((client_reply O.format).spell (reply_of output.now).1)) }
+    requires { (reply_of output.now).0 < MAX_CLIENTS }
+    ensures ok { OnOk result (out.new.items ≡ out.old.items
+        ++ bytes_of (client_reply O.format) (settings_of config.now) kind.Reply (reply_of output.now).0 (reply_of output.now).1) }
+    ensures fits { OnOk result ((client_reply O.format).Fits (reply_of output.now).1) }
     ensures err { OnErr result (IsPrefix out.old.items out.new.items) }
 {
     let client = client_of(output).number();
-    put_heading(out, config, Kind::Reply, client as u8)?;
+    heading_to(config, Kind::Reply, client as u8).put(out)?;
     put_output(out, output)
 }

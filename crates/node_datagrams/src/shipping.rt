@@ -1,11 +1,9 @@
-ghost use Rattle.std.specs.Prelude.{◌≡◌, ◌≤◌, ◌++◌, ◌∷◌, [], true, length, slice_get, OnErr, OnOk};
+ghost use Rattle.std.specs.Prelude.{◌≡◌, ◌≤◌, ◌++◌, ◌∷◌, [], true, length, OnErr, OnOk};
 ghost use Rattle.node_config.specs.declared.limits.TheConstants.{MAX_CLIENTS};
 ghost use Rattle.node_datagrams.specs.Configured.{settings_of};
 ghost use Rattle.node_datagrams.specs.Saying.{HasBegunToSay, HasSaid, SendsOnly};
 ghost use Rattle.node_device.specs.Telling.{WhereTold};
-ghost use Rattle.node_run.specs.Events.{datagram_to, replied, reply_of, reply_to, sent};
-ghost use Rattle.wire_codec.specs.declared.kind.Kind.TheVariants as kind;
-ghost use Rattle.wire_messages.specs.RaftBytes.{raft_message};
+ghost use Rattle.node_run.specs.Events.{packet_to, replied, reply_of, reply_to, sent};
 
 use crate::saying::client_of;
 use crate::{address_of_client, address_of_node, put_packet, put_reply};
@@ -41,7 +39,7 @@ fn ship_packet<D: Device, C: Wire>(
 ) -> Result<(), AllocError>
     requires { D.begun device.old ≡ true }
     ensures said { OnOk result (WhereTold (D.told device.old) (D.told device.new) (HasSaid
-        (datagram_to (settings_of config.now) (slice_get config.now.peers to) kind.Peer to ((raft_message C.format).spell message.now)))) }
+        (packet_to (settings_of config.now) C.format (to, message.now)))) }
     ensures nothing { OnErr result (D.told device.new ≡ D.told device.old) }
     ensures counts { SendsOnly (D.faults device.old) (D.faults device.new) }
     ensures begun { D.begun device.new ≡ true }

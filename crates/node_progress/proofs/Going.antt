@@ -45,10 +45,9 @@ who_by : {C : Type 0} (s : StackId) (f : Format C) (store : StoreView) (done : L
 who_by s f store [] = refl
 who_by s f store (d ∷ done) = who_by s f (store_after s f store d.kept) done ∙ who_after s f store d.kept
 
-module _ {S C D O : Type 0} (settings : Settings) (m : MachineMeaning S C O) (s : StackId) (f : Format C) (t : StackId) (h : Format D)
-    (g : Format O) (who : Who) where
+module _ {S C O : Type 0} (settings : Settings) (m : MachineMeaning S C O) (s : StackId) (f : Format C) (g : Format O) (who : Who) where
   abbrev found : List ℕ → Found (KeptView C)
-  found bytes = found_by s f t h who bytes
+  found bytes = found_by s f who bytes
 
   abbrev decides : Stage S C O → List Act → List (Done C)
   decides stage acts = done_in settings m f g stage acts
@@ -57,7 +56,7 @@ module _ {S C D O : Type 0} (settings : Settings) (m : MachineMeaning S C O) (s 
 
   on_record : (stage : Stage S C O) (kept kept_mid : KeptView C) (store store_mid : StoreView) (a b : ℕ) (node : NodeView S C O)
       (before mid : Told) (ys : List Act)
-      (x : Goes settings m s f t h g who stage kept store a node kept_mid store_mid before mid) →
+      (x : Goes settings m s f g who stage kept store a node kept_mid store_mid before mid) →
       AreRecord settings m f g (Between node) store_mid b ys →
       AreRecord settings m f g stage store (a + b) (x.did ++ ys)
   on_record stage kept kept_mid store store_mid a b node before mid ys x y =
@@ -68,7 +67,7 @@ module _ {S C D O : Type 0} (settings : Settings) (m : MachineMeaning S C O) (s 
 
   on_stop : (stage : Stage S C O) (kept kept_mid : KeptView C) (store store_mid : StoreView) (a b : ℕ) (node : NodeView S C O)
       (before mid : Told) (ys : List Act)
-      (x : Goes settings m s f t h g who stage kept store a node kept_mid store_mid before mid) →
+      (x : Goes settings m s f g who stage kept store a node kept_mid store_mid before mid) →
       IsStopped settings m f g (Between node) store_mid b ys →
       IsStopped settings m f g stage store (a + b) (x.did ++ ys)
   on_stop stage kept kept_mid store store_mid a b node before mid ys x y =
@@ -79,7 +78,7 @@ module _ {S C D O : Type 0} (settings : Settings) (m : MachineMeaning S C O) (s 
 
   on_leaves : (stage : Stage S C O) (kept kept_mid : KeptView C) (store store_mid : StoreView) (a : ℕ) (node : NodeView S C O)
       (before mid : Told) (ys : List Act)
-      (x : Goes settings m s f t h g who stage kept store a node kept_mid store_mid before mid) →
+      (x : Goes settings m s f g who stage kept store a node kept_mid store_mid before mid) →
       Leaves settings m f g found (Between node) kept_mid mid.disk ys →
       Leaves settings m f g found stage kept before.disk (x.did ++ ys)
   on_leaves stage kept kept_mid store store_mid a node before mid ys x y =
@@ -91,7 +90,7 @@ module _ {S C D O : Type 0} (settings : Settings) (m : MachineMeaning S C O) (s 
 
   on_saves : (stage : Stage S C O) (kept kept_mid : KeptView C) (store store_mid : StoreView) (a : ℕ) (node : NodeView S C O)
       (before mid : Told) (ys : List Act)
-      (x : Goes settings m s f t h g who stage kept store a node kept_mid store_mid before mid) →
+      (x : Goes settings m s f g who stage kept store a node kept_mid store_mid before mid) →
       LeavesSaved settings m f g found (Between node) kept_mid store_mid mid.disk ys →
       LeavesSaved settings m f g found stage kept store before.disk (x.did ++ ys)
   on_saves stage kept kept_mid store store_mid a node before mid ys x y =
@@ -105,9 +104,9 @@ module _ {S C D O : Type 0} (settings : Settings) (m : MachineMeaning S C O) (s 
 
   pub goes_on : (stage : Stage S C O) (kept kept_mid kept_now : KeptView C) (store store_mid store_now : StoreView) (a b : ℕ)
       (node next : NodeView S C O) (before mid now : Told) →
-      Goes settings m s f t h g who stage kept store a node kept_mid store_mid before mid →
-      Goes settings m s f t h g who (Between node) kept_mid store_mid b next kept_now store_now mid now →
-      Goes settings m s f t h g who stage kept store (a + b) next kept_now store_now before now
+      Goes settings m s f g who stage kept store a node kept_mid store_mid before mid →
+      Goes settings m s f g who (Between node) kept_mid store_mid b next kept_now store_now mid now →
+      Goes settings m s f g who stage kept store (a + b) next kept_now store_now before now
   goes_on stage kept kept_mid kept_now store store_mid store_now a b node next before mid now x y =
       let j = joins settings m f g stage store kept before.disk x.did y.did in
       record {
@@ -124,9 +123,9 @@ module _ {S C D O : Type 0} (settings : Settings) (m : MachineMeaning S C O) (s 
 
   pub halts_after : (stage : Stage S C O) (kept kept_mid : KeptView C) (store store_mid : StoreView) (a b : ℕ) (node : NodeView S C O)
       (before mid now : Told) →
-      Goes settings m s f t h g who stage kept store a node kept_mid store_mid before mid →
-      Halts settings m s f t h g who (Between node) kept_mid store_mid b mid now →
-      Halts settings m s f t h g who stage kept store (a + b) before now
+      Goes settings m s f g who stage kept store a node kept_mid store_mid before mid →
+      Halts settings m s f g who (Between node) kept_mid store_mid b mid now →
+      Halts settings m s f g who stage kept store (a + b) before now
   halts_after stage kept kept_mid store store_mid a b node before mid now x y = record {
     did = x.did ++ y.did;
     acts = y.acts ∙ (ap (λ (told : Told). told.acts ++ y.did) x.is ∙ append_assoc before.acts x.did y.did);
@@ -136,8 +135,8 @@ module _ {S C D O : Type 0} (settings : Settings) (m : MachineMeaning S C O) (s 
 
   pub goes_is_halts : (stage : Stage S C O) (kept kept_now : KeptView C) (store store_now : StoreView) (count : ℕ) (node : NodeView S C O)
       (before now : Told) →
-      Goes settings m s f t h g who stage kept store count node kept_now store_now before now →
-      Halts settings m s f t h g who stage kept store count before now
+      Goes settings m s f g who stage kept store count node kept_now store_now before now →
+      Halts settings m s f g who stage kept store count before now
   goes_is_halts stage kept kept_now store store_now count node before now x = record {
     did = x.did;
     acts = ap (λ (told : Told). told.acts) x.is;
@@ -147,6 +146,6 @@ module _ {S C D O : Type 0} (settings : Settings) (m : MachineMeaning S C O) (s 
 
   pub who_stays : (stage : Stage S C O) (kept kept_now : KeptView C) (store store_now : StoreView) (count : ℕ) (node : NodeView S C O)
       (before now : Told) →
-      Goes settings m s f t h g who stage kept store count node kept_now store_now before now → store_now.who ≡ store.who
+      Goes settings m s f g who stage kept store count node kept_now store_now before now → store_now.who ≡ store.who
   who_stays stage kept kept_now store store_now count node before now x =
       ap (λ (st : StoreView). st.who) (sym x.knows) ∙ who_by settings.stack f store (decides stage x.did)

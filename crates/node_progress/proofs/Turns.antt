@@ -37,29 +37,28 @@ pub told_thrice : (told : Told) (hs saves said : List Act) →
     told_after (told_after (told_after told hs) saves) said ≡ told_after told (hs ++ (saves ++ said))
 told_thrice told hs saves said = told_twice (told_after told hs) saves said ∙ told_twice told hs (saves ++ said)
 
-module _ {S C D O : Type 0} (settings : Settings) (m : MachineMeaning S C O) (s : StackId) (f : Format C) (t : StackId) (h : Format D)
-    (g : Format O) (who : Who) where
+module _ {S C O : Type 0} (settings : Settings) (m : MachineMeaning S C O) (s : StackId) (f : Format C) (g : Format O) (who : Who) where
   abbrev found : List ℕ → Found (KeptView C)
-  found bytes = found_by s f t h who bytes
+  found bytes = found_by s f who bytes
 
-  pub rests : (store : StoreView) (kept : KeptView C) (disk : Disk) → Holds s f t h store kept disk → store.who ≡ who →
+  pub rests : (store : StoreView) (kept : KeptView C) (disk : Disk) → Holds s f store kept disk → store.who ≡ who →
       Rests found kept store.selector disk
   rests store kept disk held is =
-      subst (λ (w : Who). Rests (found_by s f t h w) kept store.selector disk) is (holds_rests s f t h store kept disk held)
+      subst (λ (w : Who). Rests (found_by s f w) kept store.selector disk) is (holds_rests s f store kept disk held)
 
   -- what the areas hold, each image of them opens as
-  ends_as : (store : StoreView) (kept : KeptView C) (disk : Disk) (image : Image) → Holds s f t h store kept disk → store.who ≡ who →
+  ends_as : (store : StoreView) (kept : KeptView C) (disk : Disk) (image : Image) → Holds s f store kept disk → store.who ≡ who →
       may_hold disk image ≡ true → OpensAs found kept image
   ends_as store kept disk image held is may = rests_opens found kept store.selector disk image (rests store kept disk held is) may
 
   pub quiet_goes : (stage : Stage S C O) (kept : KeptView C) (store : StoreView) (count : ℕ) (node : NodeView S C O) (hs : List Act)
       (before : Told) →
-      HearsAs settings m f g stage hs [] count (Between node) → Holds s f t h store kept before.disk → store.who ≡ who →
-      Goes settings m s f t h g who stage kept store count node kept store before (told_after before hs)
+      HearsAs settings m f g stage hs [] count (Between node) → Holds s f store kept before.disk → store.who ≡ who →
+      Goes settings m s f g who stage kept store count node kept store before (told_after before hs)
   quiet_goes stage kept store count node hs before heard held is =
       let at_rest = rests store kept before.disk held is in
       let quiet = quiet_leaves settings m f g found stage (Between node) kept store.selector before.disk count hs heard at_rest in
-      let held_still : Holds s f t h store kept (after before.disk hs) = subst (λ (disk : Disk). Holds s f t h store kept disk) (sym quiet.1) held in
+      let held_still : Holds s f store kept (after before.disk hs) = subst (λ (disk : Disk). Holds s f store kept disk) (sym quiet.1) held in
       record {
         did = hs;
         is = refl;
@@ -72,9 +71,9 @@ module _ {S C D O : Type 0} (settings : Settings) (m : MachineMeaning S C O) (s 
         ends = λ image may. ends_as store kept (after before.disk hs) image held_still is may;
       }
 
-  pub first_goes : (kept : KeptView C) (store : StoreView) (time : ℕ) (before : Told) → Holds s f t h store kept before.disk →
+  pub first_goes : (kept : KeptView C) (store : StoreView) (time : ℕ) (before : Told) → Holds s f store kept before.disk →
       store.who ≡ who →
-      Goes settings m s f t h g who (Starting kept) kept store 0
+      Goes settings m s f g who (Starting kept) kept store 0
       (record { state = (raft_recovery m).reboot settings.me kept; deadline = later time settings.election }) kept store before
       (told_after before (Now time ∷ []))
   first_goes kept store time before held is =
@@ -83,11 +82,11 @@ module _ {S C D O : Type 0} (settings : Settings) (m : MachineMeaning S C O) (s 
       ((turns_hear settings m f g).first kept time) held is
 
   -- what is saved is of the node
-  pub saving : (store : StoreView) (kept new : KeptView C) (disk : Disk) → store.who ≡ who → StateSaved s f t h store kept new disk →
+  pub saving : (store : StoreView) (kept new : KeptView C) (disk : Disk) → store.who ≡ who → StateSaved s f store kept new disk →
       IsSaving found kept new (state_acts s f store new) disk
   saving store kept new disk is saved =
-      subst (λ (w : Who). IsSaving (found_by s f t h w) kept new (state_acts s f store new) disk) is
-      (keeps_is_saving (found_by s f t h store.who) kept new (store_after s f store new).selector (state_acts s f store new) disk
+      subst (λ (w : Who). IsSaving (found_by s f w) kept new (state_acts s f store new) disk) is
+      (keeps_is_saving (found_by s f store.who) kept new (store_after s f store new).selector (state_acts s f store new) disk
       saved.keeps)
 
   -- what was heard leaves the disk as it was
@@ -98,32 +97,32 @@ module _ {S C D O : Type 0} (settings : Settings) (m : MachineMeaning S C O) (s 
 
   pub event_moments : (stage : Stage S C O) (kept : KeptView C) (store : StoreView) (count : ℕ) (node : NodeView S C O) (d : Done C)
       (hs said : List Act) (before : Told) →
-      HearsAs settings m f g stage hs (d ∷ []) count (Between node) → Holds s f t h store kept before.disk → store.who ≡ who →
-      StateSaved s f t h store kept d.kept (told_after before hs).disk → Each Says said → IsPrefix (datagrams said) d.said →
+      HearsAs settings m f g stage hs (d ∷ []) count (Between node) → Holds s f store kept before.disk → store.who ≡ who →
+      StateSaved s f store kept d.kept (told_after before hs).disk → Each Says said → IsPrefix (datagrams said) d.said →
       Leaves settings m f g found stage kept before.disk (hs ++ (state_acts s f store d.kept ++ said))
   event_moments stage kept store count node d hs said before heard held is saved q front =
       let e = same_disk stage (Between node) (d ∷ []) count hs before heard in
       let whole = (saving store kept d.kept before.disk is
-      (subst (λ (disk : Disk). StateSaved s f t h store kept d.kept disk) e saved)).whole in
+      (subst (λ (disk : Disk). StateSaved s f store kept d.kept disk) e saved)).whole in
       (event_leaves settings m f g found stage kept store.selector before.disk count node d hs (state_acts s f store d.kept) said heard
       (rests store kept before.disk held is) whole.0 q front whole.1 (inr whole.2)).0
 
   pub event_goes : (stage : Stage S C O) (kept : KeptView C) (store : StoreView) (count : ℕ) (node : NodeView S C O) (d : Done C)
       (hs said : List Act) (before now : Told) →
-      settings.stack ≡ s → HearsAs settings m f g stage hs (d ∷ []) count (Between node) → Holds s f t h store kept before.disk →
+      settings.stack ≡ s → HearsAs settings m f g stage hs (d ∷ []) count (Between node) → Holds s f store kept before.disk →
       store.who ≡ who →
-      StateSaved s f t h store kept d.kept (told_after before hs).disk → Each Says said → datagrams said ≡ d.said →
+      StateSaved s f store kept d.kept (told_after before hs).disk → Each Says said → datagrams said ≡ d.said →
       now ≡ told_after (told_after (told_after before hs) (state_acts s f store d.kept)) said →
-      Goes settings m s f t h g who stage kept store count node d.kept (store_after s f store d.kept) before now
+      Goes settings m s f g who stage kept store count node d.kept (store_after s f store d.kept) before now
   event_goes stage kept store count node d hs said before now stack heard held is saved q all e =
       let saves = state_acts s f store d.kept in
       let whole = (saving store kept d.kept before.disk is
-      (subst (λ (disk : Disk). StateSaved s f t h store kept d.kept disk) (same_disk stage (Between node) (d ∷ []) count hs before heard) saved)).whole in
+      (subst (λ (disk : Disk). StateSaved s f store kept d.kept disk) (same_disk stage (Between node) (d ∷ []) count hs before heard) saved)).whole in
       let stored = whole.0 in
       let decided = turn settings m f g stage (d ∷ []) count node hs (saves ++ said) heard (turn_follows saves said stored q) in
-      let held_then : Holds s f t h (store_after s f store d.kept) d.kept now.disk =
-      subst (λ (told : Told). Holds s f t h (store_after s f store d.kept) d.kept told.disk) (sym e)
-      (subst (λ (disk : Disk). Holds s f t h (store_after s f store d.kept) d.kept disk)
+      let held_then : Holds s f (store_after s f store d.kept) d.kept now.disk =
+      subst (λ (told : Told). Holds s f (store_after s f store d.kept) d.kept told.disk) (sym e)
+      (subst (λ (disk : Disk). Holds s f (store_after s f store d.kept) d.kept disk)
       (sym (says_after said (after (told_after before hs).disk saves) q)) saved.holds) in
       record {
         did = hs ++ (saves ++ said);

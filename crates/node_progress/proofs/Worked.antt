@@ -7,7 +7,6 @@ use Rattle.kv_machine.specs.declared.cmd.KvCmd.{KvCmd}
 use Rattle.wire_fields.specs.Bytes.{has_bytes, number_bytes, number_in, read_number}
 use Rattle.wire_messages.specs.KvByteLaws.{kv_command_is_format}
 use Rattle.wire_messages.specs.KvBytes.{kv_command, kv_output}
-use Rattle.wire_messages.specs.TableBytes.{table_command}
 use Rattle.vst_base.specs.declared.stack.StackId.TheVariants as stack
 use Rattle.node_body.specs.CommandLengths.{kv_length}
 use Rattle.node_body.specs.Journals.{from_gate}
@@ -21,7 +20,7 @@ use Rattle.node_records.specs.Examples.{answer, first, known, save, voted}
 use Rattle.node_records.specs.Records.{HearsAs}
 use Rattle.node_progress.specs.Examples.{begun, voter}
 
-pub holds : Holds stack.KvRaft kv_command stack.TableRaft table_command known first begun.disk
+pub holds : Holds stack.KvRaft kv_command known first begun.disk
 unfolding number_bytes number_in has_bytes read_number from_gate
 holds = record {
   pending = search rules;
@@ -46,9 +45,9 @@ has : is_held known voted ≡ false → HasBytes stack.KvRaft kv_command known v
 unfolding number_bytes number_in has_bytes read_number
 has e = search rules
 
-pub saved : StateSaved stack.KvRaft kv_command stack.TableRaft table_command known first voted begun.disk
+pub saved : StateSaved stack.KvRaft kv_command known first voted begun.disk
 saved =
-    save_keeps_state stack.KvRaft kv_command stack.TableRaft table_command kv_command_is_format kv_length known first voted begun.disk holds
+    save_keeps_state stack.KvRaft kv_command kv_command_is_format kv_length known first voted begun.disk holds
     refl has
 
 -- the first write, and then the sync that failed

@@ -9,7 +9,6 @@ use Rattle.raft_types.specs.Messages.{KeptView}
 use Rattle.raft_xform.specs.Raft.{raft_recovery}
 use Rattle.vst_base.specs.declared.stack.StackId.TheVariants as stack
 use Rattle.wire_messages.specs.KvBytes.{kv_command, kv_output}
-use Rattle.wire_messages.specs.TableBytes.{table_command}
 use Rattle.node_body.specs.Examples.{first_slot}
 use Rattle.node_acts.specs.Examples.{who}
 use Rattle.node_acts.specs.Stores.{StoreView}
@@ -32,10 +31,10 @@ voter = record { state = (effect_of settings kv kv_command kv_output booted.stat
 
 abbrev pub goes : ℕ → NodeView Store KvCmd KvOut → KeptView KvCmd → StoreView → List Act → Type 0
 goes count node kept store acts =
-    Goes settings kv stack.KvRaft kv_command stack.TableRaft table_command kv_output who (Starting first) first known count node kept store
+    Goes settings kv stack.KvRaft kv_command kv_output who (Starting first) first known count node kept store
     begun (told_after begun acts)
 
 abbrev pub halts : ℕ → List Act → Type 0
 halts most acts =
-    Halts settings kv stack.KvRaft kv_command stack.TableRaft table_command kv_output who (Starting first) first known most begun
+    Halts settings kv stack.KvRaft kv_command kv_output who (Starting first) first known most begun
     (told_after begun acts)

@@ -1,18 +1,19 @@
 -- Which datagrams are events of a node, and which datagrams an event sends.
+use Rattle.std.specs.Option.{option_or}
 use Rattle.std.specs.Prelude.{ℕ, ◌==◌, Bool, false, ◌&&◌, not, List, [], ◌∷◌, ◌++◌, Option, Some, None, bytes_eq, slice_get, if◌then◌else◌}
 use Rattle.outside.specs.declared.device.Address.{Address}
 use Rattle.handler_trait.specs.Handling.{Effect}
 use Rattle.raft_types.specs.declared.client.RaftOut.{RaftOut}
 use Rattle.raft_types.specs.declared.client.RaftOut.TheVariants as out
 use Rattle.raft_types.specs.declared.msg.RaftMsg.{RaftMsg}
-use Rattle.wire_codec.specs.Datagrams.{Message, message_of, read_datagram, spell_datagram}
-use Rattle.wire_codec.specs.Headings.{heading_of, stack_byte}
+use Rattle.wire_codec.specs.Datagrams.{read_typed, spell_datagram}
+use Rattle.wire_codec.specs.Headings.{heading_of, kind_byte, stack_byte}
+use Rattle.wire_codec.specs.declared.heading.Heading.{Heading}
 use Rattle.wire_codec.specs.declared.kind.Kind.{Kind}
 use Rattle.wire_codec.specs.declared.kind.Kind.TheVariants as kind
 use Rattle.wire_fields.specs.Formats.{Format}
 use Rattle.wire_messages.specs.ClientBytes.{client_reply, client_request}
 use Rattle.wire_messages.specs.RaftBytes.{raft_message}
-use Rattle.wire_messages.specs.Wires.{read_whole}
 use Rattle.wire_messages.specs.declared.client.Answer.TheVariants as answer
 use Rattle.wire_messages.specs.declared.client.ClientReply.{ClientReply}
 use Rattle.wire_messages.specs.declared.client.ClientRequest.{ClientRequest}
@@ -28,49 +29,46 @@ abbrev pub is_at : Option Address → Address → Bool
 is_at None from = false
 is_at (Some address) from = same_address address from
 
--- a message of another node
-abbrev pub peer_event : {C : Type 0} → ℕ → Option (RaftMsg C) → Option (Event C)
-peer_event from None = None
-peer_event from (Some message) = Some (Peer from message)
+-- It is of this kind, of the node's stack and cluster, and for the node.
+abbrev pub is_for : Settings → Kind → Heading → Bool
+is_for settings k h =
+    ((kind_byte h.kind == kind_byte k && stack_byte h.stack == stack_byte settings.stack) && h.to == settings.me) && bytes_eq h.name settings.name
 
--- A request of a client, who is known to the cluster by the number of its slot.
-abbrev pub request_event : {C : Type 0} → ℕ → Option (ClientRequest C) → Option (Event C)
-request_event client None = None
-request_event client (Some r) = Some (Asked (record { client = client; request = r.request; cmd = r.cmd }))
+-- a message of another node, from that node's address
+abbrev pub peer_event : {C : Type 0} → Settings → Address → Option (Heading × RaftMsg C) → Option (Event C)
+peer_event settings from None = None
+peer_event settings from (Some p) =
+    if is_for settings kind.Peer p.0 && (not (p.0.from == settings.me) && is_at (slice_get settings.peers p.0.from) from)
+    then Some (Peer p.0.from p.1) else None
 
-abbrev pub event_by : {C : Type 0} → Settings → Format C → Address → Message → Kind → Option (Event C)
-event_by settings f from m kind.Peer =
-    if not (m.heading.from == settings.me) && is_at (slice_get settings.peers m.heading.from) from
-    then peer_event m.heading.from (read_whole (raft_message f) m.body) else None
-event_by settings f from m kind.Request =
-    if is_at (slice_get settings.clients m.heading.from) from
-    then request_event m.heading.from (read_whole (client_request f) m.body) else None
-event_by settings f from m kind.Reply = None
+-- A request from the address of a client's slot. The client is known to the cluster by the number of the slot.
+abbrev pub request_event : {C : Type 0} → Settings → Address → Option (Heading × ClientRequest C) → Option (Event C)
+request_event settings from None = None
+request_event settings from (Some p) =
+    if is_for settings kind.Request p.0 && is_at (slice_get settings.clients p.0.from) from
+    then Some (Asked (record { client = p.0.from; request = p.1.request; cmd = p.1.cmd })) else None
 
--- it is of the node's stack and cluster, and for the node
-abbrev pub is_for : Settings → Message → Bool
-is_for settings m =
-    (stack_byte m.heading.stack == stack_byte settings.stack && m.heading.to == settings.me) && bytes_eq m.heading.name settings.name
-
-abbrev pub event_in : {C : Type 0} → Settings → Format C → Address → Option Message → Option (Event C)
-event_in settings f from None = None
-event_in settings f from (Some m) = if is_for settings m then event_by settings f from m m.heading.kind else None
-
--- The event that a datagram is: a message of another node from that node's address, or a request from the address of a client's slot.
--- Any other datagram is none.
+-- The event that a datagram is: a message of another node, or a request of a client. Any other datagram is none.
 abbrev pub event_of : {C : Type 0} → Settings → Format C → Address → List ℕ → Option (Event C)
-event_of settings f from bytes = event_in settings f from (read_datagram bytes)
+event_of settings f from bytes =
+    option_or (peer_event settings from (read_typed (raft_message f) bytes)) (request_event settings from (read_typed (client_request f) bytes))
 
--- a datagram of the node to the address of this number, and none where it has no address
-abbrev pub datagram_to : Settings → Option Address → Kind → ℕ → List ℕ → List (Address × List ℕ)
-datagram_to settings None kind to body = []
-datagram_to settings (Some address) kind to body =
-    (address, spell_datagram (message_of (heading_of settings.stack kind settings.me to settings.name) body)) ∷ []
+-- what stands before the node's datagrams, of this kind and to this one
+abbrev pub own_heading : Settings → Kind → ℕ → Heading
+own_heading settings k to = heading_of settings.stack k settings.me to settings.name
+
+-- the datagram of a message to the address of this number, and none where it has no address
+abbrev pub datagram_to : {M : Type 0} → Settings → Format M → Option Address → Kind → ℕ → M → List (Address × List ℕ)
+datagram_to settings f None k to message = []
+datagram_to settings f (Some address) k to message = (address, spell_datagram f (own_heading settings k to) message) ∷ []
+
+-- a packet to a node
+abbrev pub packet_to : {C : Type 0} → Settings → Format C → ℕ × RaftMsg C → List (Address × List ℕ)
+packet_to settings f p = datagram_to settings (raft_message f) (slice_get settings.peers p.0) kind.Peer p.0 p.1
 
 abbrev pub sent : {C : Type 0} → Settings → Format C → List (ℕ × RaftMsg C) → List (Address × List ℕ)
 sent settings f [] = []
-sent settings f (p ∷ sends) =
-    datagram_to settings (slice_get settings.peers p.0) kind.Peer p.0 ((raft_message f).spell p.1) ++ sent settings f sends
+sent settings f (p ∷ sends) = packet_to settings f p ++ sent settings f sends
 
 abbrev pub reply_of : {O : Type 0} → RaftOut O → ℕ × ClientReply O
 reply_of (out.Reply client request output) = (client, record { request = request; answer = answer.Reply output })
@@ -78,7 +76,7 @@ reply_of (out.NotLeader client request) = (client, record { request = request; a
 reply_of (out.Full client request) = (client, record { request = request; answer = answer.Full })
 
 abbrev pub reply_to : {O : Type 0} → Settings → Format O → ℕ × ClientReply O → List (Address × List ℕ)
-reply_to settings f r = datagram_to settings (slice_get settings.clients r.0) kind.Reply r.0 ((client_reply f).spell r.1)
+reply_to settings f r = datagram_to settings (client_reply f) (slice_get settings.clients r.0) kind.Reply r.0 r.1
 
 -- a client without a slot is told nothing
 abbrev pub replied : {O : Type 0} → Settings → Format O → List (RaftOut O) → List (Address × List ℕ)

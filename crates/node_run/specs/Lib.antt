@@ -1,4 +1,5 @@
 pub mod Settings
 pub mod Events
+pub mod Saying
 pub mod Runs
 pub mod Examples

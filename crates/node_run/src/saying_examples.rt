@@ -1,6 +1,11 @@
-ghost use Rattle.std.specs.Prelude.{◌≡◌, [], ◌∷◌, ◌++◌, take};
-ghost use Rattle.node_run.specs.Examples.{a_is_x, answered, append_to, at_port, datagram, granted, leads, noop_entry, number_of_eight, put_entry, said_after, says, votes};
+ghost use Rattle.std.specs.Prelude.{◌≡◌, [], ◌∷◌, ◌++◌, take, true};
+ghost use Rattle.node_run.specs.Examples.{a_is_x, answered, append_to, at_port, datagram, granted, leads, noop_entry, number_of_eight, put_entry, said_after, says, settings, votes};
+ghost use Rattle.node_run.specs.Saying.{HasFewBytes, IsOtherNode, MaySay};
 ghost use Rattle.raft_types.specs.declared.client.RaftOut.TheVariants.{Full, NotLeader, Reply};
+ghost use Rattle.raft_types.specs.declared.msg.RaftMsg.TheVariants as msg;
+ghost use Rattle.vst_base.specs.declared.stack.StackId.TheVariants as stack;
+ghost use Rattle.wire_messages.specs.KvBytes.{kv_command, kv_output};
+ghost use Rattle.wire_messages.specs.RaftBytes.{raft_message};
 
 /// What packets and outputs say: the packets first, each list in its order. A node or a client without an address is told nothing.
 #[tactic(auto, unfolding(wire_fields::specs::Bytes::number_bytes, wire_fields::specs::Bytes::number_in, wire_fields::specs::Bytes::has_bytes, wire_fields::specs::Bytes::read_number))]
@@ -24,4 +29,17 @@ pub fn worked_leading()
         (at_port 7001, append_to 1 0 0 0 2 (noop_entry ++ put_entry 1)) ∷ (at_port 7002, append_to 2 0 0 0 2 (noop_entry ++ put_entry 1)) ∷ [] }
     ensures committed { said_after 4 leads ≡
         (at_port 7001, append_to 1 2 1 2 1 (put_entry 2)) ∷ answered 1 (1 ∷ 1 ∷ 97 ∷ 1 ∷ 0 ∷ 1 ∷ 120 ∷ 0 ∷ []) ∷ [] }
+{}
+
+/// Whose headings are in range, and which messages have bytes, and few.
+#[tactic(auto, unfolding(wire_fields::specs::Bytes::number_bytes))]
+pub fn worked_grammar()
+    ensures may_say { MaySay kv_command kv_output settings }
+    ensures not_without_a_name { MaySay kv_command kv_output (record settings { name = [] }) → ⊥ }
+    ensures not_as_a_fourth_of_three { MaySay kv_command kv_output (record settings { me = 3 }) → ⊥ }
+    ensures not_without_clients { MaySay kv_command kv_output (record settings { stack = stack.KvPb }) → ⊥ }
+    ensures has_few_bytes { HasFewBytes (raft_message kv_command) granted }
+    ensures has_none_in_term_0 { HasFewBytes (raft_message kv_command) (msg.Vote (record { term = 0; granted = true })) → ⊥ }
+    ensures is_another { IsOtherNode settings (record settings { me = 1 }) 1 }
+    ensures is_no_other { IsOtherNode settings settings 0 → ⊥ }
 {}

@@ -1,6 +1,5 @@
 -- A record that is new has bytes.
-use Rattle.std.proofs.Common.{◌≡◌, ◌≢◌, ℕ, ◌-◌, ◌≤◌, List, [], ◌∷◌, ◌++◌, length, take, drop, if◌then◌else◌, ◌∙◌, Option, Result, Ok, Err, OnOk, OnErr, sym, ap, subst, length-drop, inl, inr}
-use Rattle.std.proofs.Math.Seq.{take-length}
+use Rattle.std.proofs.Common.{◌≡◌, ◌≢◌, ℕ, ◌≤◌, List, [], ◌∷◌, ◌++◌, drop, if◌then◌else◌, ◌∙◌, Option, Result, Ok, Err, OnOk, OnErr, sym, ap, subst, inl, inr}
 use Rattle.std.proofs.lemmas.Bool.{ne_eqb}
 use Rattle.disk.specs.Acts.{Act}
 use Rattle.raft_types.specs.Messages.{KeptView}

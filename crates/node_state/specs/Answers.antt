@@ -73,30 +73,30 @@ IfRefused fault.Memory P = Unit {0}
 IfRefused (fault.Refused why) P = P (refusal_of why)
 
 -- the acts of an opening of the areas that are told
-abbrev pub acts_told : {C D : Type 0} → StackId → Format C → StackId → Format D → Who → Option Told → List Act
-acts_told s f t g who None = []
-acts_told s f t g who (Some told) = opening_acts s f t g who (contents told.disk)
+abbrev pub acts_told : {C : Type 0} → StackId → Format C → Who → Option Told → List Act
+acts_told s f who None = []
+acts_told s f who (Some told) = opening_acts s f who (contents told.disk)
 
-abbrev pub slot_acts_told : {C D : Type 0} → StackId → Format C → StackId → Format D → Who → ℕ → Option Told → List Act
-slot_acts_told s f t g who selector None = []
-slot_acts_told s f t g who selector (Some told) = acts_on_slot s f who selector (slot_found s f t g who (area_at told.disk (named selector)).bytes)
+abbrev pub slot_acts_told : {C : Type 0} → StackId → Format C → Who → ℕ → Option Told → List Act
+slot_acts_told s f who selector None = []
+slot_acts_told s f who selector (Some told) = acts_on_slot s f who selector (slot_found s f who (area_at told.disk (named selector)).bytes)
 
 -- A slot was found under this selector, and this is known of it; one of version 1 has bytes of version 2.
-pub record FoundSo {C D : Type 0} (s : StackId) (f : Format C) (t : StackId) (g : Format D) (who : Who) (selector : ℕ) (store : StoreView) (kept : KeptView C) (told : Told) : Type 0 where
+pub record FoundSo {C : Type 0} (s : StackId) (f : Format C) (who : Who) (selector : ℕ) (store : StoreView) (kept : KeptView C) (told : Told) : Type 0 where
   pub slot : held.Held C
-  pub found : slot_found s f t g who (area_at told.disk (named selector)).bytes ≡ Ok slot
+  pub found : slot_found s f who (area_at told.disk (named selector)).bytes ≡ Ok slot
   pub store_is : store ≡ store_found s f who selector (length (area_at told.disk (named selector)).bytes) slot.version slot
   pub kept_is : kept ≡ slot.journal.kept
   pub fits : slot.version ≡ One → (body s f).Fits (body_of who slot.journal.kept)
 
-abbrev pub RenewedFits : {C D : Type 0} → StackId → Format C → StackId → Format D → Who → ℕ → Told → Type 0
-RenewedFits {C} s f t g who selector told =
-    (slot : held.Held C) → slot_found s f t g who (area_at told.disk (named selector)).bytes ≡ Ok slot → slot.version ≡ One →
+abbrev pub RenewedFits : {C : Type 0} → StackId → Format C → Who → ℕ → Told → Type 0
+RenewedFits {C} s f who selector told =
+    (slot : held.Held C) → slot_found s f who (area_at told.disk (named selector)).bytes ≡ Ok slot → slot.version ≡ One →
     (body s f).Fits (body_of who slot.journal.kept)
 
 -- how areas were opened: as fresh ones, or with a slot that was found
-abbrev pub OpenedSo : {C D : Type 0} → StackId → Format C → StackId → Format D → Who → Opened C → Told → Type 0
-OpenedSo {C} s f t g who (opened.Fresh store) told =
+abbrev pub OpenedSo : {C : Type 0} → StackId → Format C → Who → Opened C → Told → Type 0
+OpenedSo {C} s f who (opened.Fresh store) told =
     (told.disk.selector.bytes ≡ []) × (store ≡ store_at_base s f who 0 (first_kept {C = C})) × (body s f).Fits (body_of who (first_kept {C = C}))
-OpenedSo s f t g who (opened.Held store kept) told =
-    (selector : ℕ) × (told.disk.selector.bytes ≡ selector ∷ []) × FoundSo s f t g who selector store kept told
+OpenedSo s f who (opened.Held store kept) told =
+    (selector : ℕ) × (told.disk.selector.bytes ≡ selector ∷ []) × FoundSo s f who selector store kept told

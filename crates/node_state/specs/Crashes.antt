@@ -18,25 +18,25 @@ abbrev pub StoppedWith : Type 0 → Option Told → Option Told → List Act →
 StoppedWith P old new first acts = StoppedIn old new first ⊎ (P × StoppedIn old new acts)
 
 -- the areas hold a state that this one continues
-abbrev pub IsHeldBefore : {C D : Type 0} → StackId → Format C → StackId → Format D → StoreView → KeptView C → Told → Type 0
-IsHeldBefore {C} s f t g store kept told = (held : KeptView C) × Holds s f t g store held told.disk × Continues store held kept
+abbrev pub IsHeldBefore : {C : Type 0} → StackId → Format C → StoreView → KeptView C → Told → Type 0
+IsHeldBefore {C} s f store kept told = (held : KeptView C) × Holds s f store held told.disk × Continues store held kept
 
 -- At each moment of the acts that were added, a crash leaves the state that was held or the one that is saved.
-pub record LeavesEither {C D : Type 0} (s : StackId) (f : Format C) (t : StackId) (g : Format D) (store : StoreView) (kept : KeptView C) (old new : Told) : Type 0 where
+pub record LeavesEither {C : Type 0} (s : StackId) (f : Format C) (store : StoreView) (kept : KeptView C) (old new : Told) : Type 0 where
   pub did : List Act
   pub acts : new.acts ≡ old.acts ++ did
-  pub each : (held : KeptView C) (n : ℕ) (image : Image) → Holds s f t g store held old.disk → Continues store held kept →
-      may_leave old.disk (take n did) image ≡ true → OpensAs (found_by s f t g store.who) held image ⊎ OpensAs (found_by s f t g store.who) kept image
+  pub each : (held : KeptView C) (n : ℕ) (image : Image) → Holds s f store held old.disk → Continues store held kept →
+      may_leave old.disk (take n did) image ≡ true → OpensAs (found_by s f store.who) held image ⊎ OpensAs (found_by s f store.who) kept image
 
 -- whatever state was held, the acts of the save keep it or make it this one, and the areas are then as the node knows
-abbrev pub Saves : {C D : Type 0} → StackId → Format C → StackId → Format D → StoreView → KeptView C → Told → Type 0
-Saves {C} s f t g store kept old =
-    (held : KeptView C) → Holds s f t g store held old.disk → Continues store held kept → StateSaved s f t g store held kept old.disk
+abbrev pub Saves : {C : Type 0} → StackId → Format C → StoreView → KeptView C → Told → Type 0
+Saves {C} s f store kept old =
+    (held : KeptView C) → Holds s f store held old.disk → Continues store held kept → StateSaved s f store held kept old.disk
 
 -- From the third sync on, at each moment of the acts that were added, a crash leaves what was found, or, where area 2 was empty, what is
 -- fresh or opens as the first state.
-pub record LeavesFound {C D : Type 0} (s : StackId) (f : Format C) (t : StackId) (g : Format D) (who : Who) (old new : Told) : Type 0 where
+pub record LeavesFound {C : Type 0} (s : StackId) (f : Format C) (who : Who) (old new : Told) : Type 0 where
   pub did : List Act
   pub acts : new.acts ≡ old.acts ++ did
   pub each : (n : ℕ) (image : Image) → may_leave old.disk (take n did) image ≡ true → take 3 (take n did) ≡ sync_acts →
-      IsAsFound (found_by s f t g who) first_kept old.disk image
+      IsAsFound (found_by s f who) first_kept old.disk image

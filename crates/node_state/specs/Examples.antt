@@ -4,7 +4,6 @@ use Rattle.disk.specs.Acts.{Act}
 use Rattle.raft_types.specs.Messages.{KeptView}
 use Rattle.vst_base.specs.declared.stack.StackId.TheVariants as stack
 use Rattle.wire_messages.specs.KvBytes.{kv_command}
-use Rattle.wire_messages.specs.TableBytes.{table_command}
 use Rattle.node_body.specs.Examples.{first_slot}
 use Rattle.node_body.specs.declared.version.Version.{Version}
 use Rattle.node_device.specs.Telling.{Told, told_after}
@@ -46,20 +45,20 @@ abbrev pub answers : Opened Command → Opening (KeptView Command) → Type 0
 answers opened opening = Answers opened opening
 
 abbrev pub found_so : ℕ → StoreView → KeptView Command → Told → Type 0
-found_so selector store kept told = FoundSo stack.KvRaft kv_command stack.TableRaft table_command who selector store kept told
+found_so selector store kept told = FoundSo stack.KvRaft kv_command who selector store kept told
 
 abbrev pub opened_so : Opened Command → Told → Type 0
-opened_so opened told = OpenedSo stack.KvRaft kv_command stack.TableRaft table_command who opened told
+opened_so opened told = OpenedSo stack.KvRaft kv_command who opened told
 
 -- what a crash leaves in these acts, of an opening and of a save of this state
 abbrev pub leaves_found : Told → List Act → Type 0
-leaves_found before acts = LeavesFound stack.KvRaft kv_command stack.TableRaft table_command who before (told_after before acts)
+leaves_found before acts = LeavesFound stack.KvRaft kv_command who before (told_after before acts)
 
 abbrev pub leaves_either : KeptView Command → List Act → Type 0
-leaves_either kept acts = LeavesEither stack.KvRaft kv_command stack.TableRaft table_command known kept held (told_after held acts)
+leaves_either kept acts = LeavesEither stack.KvRaft kv_command known kept held (told_after held acts)
 
 abbrev pub saves : KeptView Command → Type 0
-saves kept = Saves stack.KvRaft kv_command stack.TableRaft table_command known kept held
+saves kept = Saves stack.KvRaft kv_command known kept held
 
 abbrev pub is_held_before : StoreView → KeptView Command → Type 0
-is_held_before store kept = IsHeldBefore stack.KvRaft kv_command stack.TableRaft table_command store kept held
+is_held_before store kept = IsHeldBefore stack.KvRaft kv_command store kept held

@@ -10,12 +10,12 @@ use Rattle.node_body.specs.declared.why.Why.{Why}
 use Rattle.node_state.specs.declared.reading.TheConstants.{PIECE}
 
 -- So many of the bytes were read and found to be this, and all of them are found to be the same: a closed gate hides the others.
-pub record FoundByFront {C D : Type 0} (s : StackId) (f : Format C) (t : StackId) (g : Format D) (who : Who) (bytes : List ℕ) (len : ℕ) (found : Result (Held C) Why) : Type 0 where
+pub record FoundByFront {C : Type 0} (s : StackId) (f : Format C) (who : Who) (bytes : List ℕ) (len : ℕ) (found : Result (Held C) Why) : Type 0 where
   pub others : ℕ
   pub all : length bytes ≡ len + others
-  pub slot : slot_found s f t g who bytes ≡ with_more others found
+  pub slot : slot_found s f who bytes ≡ with_more others found
 
 -- They are a piece at most, or at most twice as many as any front has that decides what the slot is.
-abbrev pub IsByNeed : {C D : Type 0} → StackId → Format C → StackId → Format D → Who → List ℕ → ℕ → Type 0
-IsByNeed {C} s f t g who bytes len =
-    (n : ℕ) (found : Result (Held C) Why) → found_in_front s f t g who (take n bytes) ≡ Some found → (len ≤ PIECE) ⊎ (len ≤ 2 * n)
+abbrev pub IsByNeed : {C : Type 0} → StackId → Format C → Who → List ℕ → ℕ → Type 0
+IsByNeed {C} s f who bytes len =
+    (n : ℕ) (found : Result (Held C) Why) → found_in_front s f who (take n bytes) ≡ Some found → (len ≤ PIECE) ⊎ (len ≤ 2 * n)

@@ -14,7 +14,7 @@ use std::alloc::Global;
 /// What the slot in an area is for a node that asks, by its front, and how many bytes that has. The slot is read, and held, until
 /// what was read decides what it is: a piece first, and then each time as many bytes more. So of what the first closed gate hides at
 /// most the rest of the first piece is read, or as many bytes as stand before it. A slot that no front decides is read to the end.
-pub fn find_in_area<D: Device, C: Commands, O: Commands>(
+pub fn find_in_area<D: Device, C: Commands>(
     alloc: Global,
     device: &mut D,
     who: &Who,
@@ -23,9 +23,9 @@ pub fn find_in_area<D: Device, C: Commands, O: Commands>(
     requires begun { D.begun device.old ≡ true }
     requires area { area < 3 }
     ensures found { IfOk result (λ p. IfSome (D.told device.old) (λ told.
-        FoundByFront C.stack C.format O.stack O.format who.now (area_at told.disk area).bytes p.0 p.1)) }
+        FoundByFront C.stack C.format who.now (area_at told.disk area).bytes p.0 p.1)) }
     ensures need { IfOk result (λ p. IfSome (D.told device.old) (λ told.
-        IsByNeed C.stack C.format O.stack O.format who.now (area_at told.disk area).bytes p.0)) }
+        IsByNeed C.stack C.format who.now (area_at told.disk area).bytes p.0)) }
     ensures len { IfOk result (λ p. p.0 < 9223372036854775808) }
     ensures voted { IfOk result (λ p. IfOk p.1 (λ held. VoteAmong who.now.nodes held.journal.kept.voted)) }
     ensures same { OnOk result (D.told device.new ≡ D.told device.old) }
@@ -39,10 +39,10 @@ pub fn find_in_area<D: Device, C: Commands, O: Commands>(
     loop {
         read_on(device, area, &mut bytes, most)?;
         if bytes.len() < most {
-            let found = find_slot::<C, O>(alloc, who, &bytes)?;
+            let found = find_slot::<C>(alloc, who, &bytes)?;
             return Ok((bytes.len(), found));
         }
-        if let Some(found) = find_in_front::<C, O>(alloc, who, &bytes)? {
+        if let Some(found) = find_in_front::<C>(alloc, who, &bytes)? {
             return Ok((bytes.len(), found));
         }
         most *= 2;

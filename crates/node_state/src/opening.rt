@@ -183,7 +183,7 @@ fn hold<D: Device, C: Commands>(
 }
 
 // Opens the slot that the selector names.
-fn open_slot<D: Device, C: Commands, O: Commands>(
+fn open_slot<D: Device, C: Commands>(
     alloc: Global,
     device: &mut D,
     who: &Who,
@@ -194,21 +194,21 @@ fn open_slot<D: Device, C: Commands, O: Commands>(
     ensures who { IfOk result (λ p. p.0.who ≡ who.now) }
     ensures remembers { IfOk result (λ p. Knows p.0 p.1) }
     ensures voted { IfOk result (λ p. VoteAmong who.now.nodes p.1.voted) }
-    ensures found { IfOk result (λ p. IfSome (D.told device.old) (FoundSo C.stack C.format O.stack O.format who.now selector p.0 p.1)) }
+    ensures found { IfOk result (λ p. IfSome (D.told device.old) (FoundSo C.stack C.format who.now selector p.0 p.1)) }
     ensures did { OnOk result (Did (D.told device.old) (D.told device.new)
-        (slot_acts_told C.stack C.format O.stack O.format who.now selector (D.told device.old))) }
+        (slot_acts_told C.stack C.format who.now selector (D.told device.old))) }
     ensures stopped { OnErr result (StoppedWith
-        (IfSome (D.told device.old) (RenewedFits C.stack C.format O.stack O.format who.now selector))
+        (IfSome (D.told device.old) (RenewedFits C.stack C.format who.now selector))
         (D.told device.old) (D.told device.new) []
-        (slot_acts_told C.stack C.format O.stack O.format who.now selector (D.told device.old))) }
+        (slot_acts_told C.stack C.format who.now selector (D.told device.old))) }
     ensures refused { IfErr result (λ fault. IfRefused fault (λ why. (D.told device.new ≡ D.told device.old)
         × IfSome (D.told device.old) (λ told.
-        found_by C.stack C.format O.stack O.format who.now (area_at told.disk (named selector)).bytes ≡ Not why))) }
+        found_by C.stack C.format who.now (area_at told.disk (named selector)).bytes ≡ Not why))) }
     ensures causes { OpenCounts (D.faults device.old) (D.faults device.new) result }
     ensures wants { OpenGrowsFirst (D.told device.new ≡ D.told device.old) (D.wants device.old) (D.wants device.new) result }
     ensures begun { D.begun device.new ≡ true }
 {
-    let (len, found) = find_in_area::<D, C, O>(alloc, device, who, selector % 2)?;
+    let (len, found) = find_in_area::<D, C>(alloc, device, who, selector % 2)?;
     match found {
         Ok(held) => Ok(hold(alloc, device, who, selector, len, held)?),
         Err(why) => Err(OpenFault::Refused(Refusal::Slot(why))),
@@ -216,7 +216,7 @@ fn open_slot<D: Device, C: Commands, O: Commands>(
 }
 
 // Opens the areas. What a crash leaves follows from the acts.
-fn open_areas<D: Device, C: Commands, O: Commands>(
+fn open_areas<D: Device, C: Commands>(
     alloc: Global,
     device: &mut D,
     who: &Who,
@@ -226,15 +226,15 @@ fn open_areas<D: Device, C: Commands, O: Commands>(
     ensures who { IfOk result (λ opened. (store_in opened).who ≡ who.now) }
     ensures remembers { IfOk result (λ opened. Knows (store_in opened) (kept_in opened)) }
     ensures voted { IfOk result (λ opened. VoteAmong who.now.nodes (kept_in opened).voted) }
-    ensures opened { IfOk result (λ opened. IfSome (D.told device.old) (OpenedSo C.stack C.format O.stack O.format who.now opened)) }
+    ensures opened { IfOk result (λ opened. IfSome (D.told device.old) (OpenedSo C.stack C.format who.now opened)) }
     ensures did { OnOk result (Did (D.told device.old) (D.told device.new)
-        (acts_told C.stack C.format O.stack O.format who.now (D.told device.old))) }
+        (acts_told C.stack C.format who.now (D.told device.old))) }
     ensures stopped { OnErr result (StoppedWith
-        (IfSome (D.told device.old) (λ told. OpeningFits C.stack C.format O.stack O.format who.now told.disk))
-        (D.told device.old) (D.told device.new) sync_acts (acts_told C.stack C.format O.stack O.format who.now (D.told device.old))) }
+        (IfSome (D.told device.old) (λ told. OpeningFits C.stack C.format who.now told.disk))
+        (D.told device.old) (D.told device.new) sync_acts (acts_told C.stack C.format who.now (D.told device.old))) }
     ensures refused { IfErr result (λ fault. IfRefused fault (λ why. Did (D.told device.old) (D.told device.new) sync_acts
         × IfSome (D.told device.old) (λ told.
-        opening (found_by C.stack C.format O.stack O.format who.now) (contents told.disk) ≡ Refused why))) }
+        opening (found_by C.stack C.format who.now) (contents told.disk) ≡ Refused why))) }
     ensures causes { OpenCounts (D.faults device.old) (D.faults device.new) result }
     ensures wants { OpenGrowsFirst (Did (D.told device.old) (D.told device.new) sync_acts) (D.wants device.old) (D.wants device.new) result }
     ensures begun { D.begun device.new ≡ true }
@@ -244,30 +244,28 @@ fn open_areas<D: Device, C: Commands, O: Commands>(
     match selector.as_slice() {
         [] => Ok(Opened::Fresh(open_fresh::<D, C>(alloc, device, who)?)),
         [named] => {
-            let (store, kept) = open_slot::<D, C, O>(alloc, device, who, *named)?;
+            let (store, kept) = open_slot::<D, C>(alloc, device, who, *named)?;
             Ok(Opened::Held(store, kept))
         }
         [_, _, ..] => Err(OpenFault::Refused(Refusal::Selector)),
     }
 }
 
-/// Opens the areas of a node of the stack of `C`; `O` are the commands of the other stack. Each area is synced. Where area 2 is empty,
-/// both slots then get the first state; else the slot that its byte names is read,
-/// to its first closed gate, and one of version 1 is saved as a base.
-pub fn open<D: Device, C: Commands, O: Commands>(
+/// Opens the areas of a node of the stack of `C`. Each area is synced. Where area 2 is empty, both slots then get the first state; else
+/// the slot that its byte names is read, to its first closed gate, and one of version 1 is saved as a base.
+pub fn open<D: Device, C: Commands>(
     alloc: Global,
     device: &mut D,
     who: &Who,
 ) -> Result<Opened<C>, OpenFault>
     requires begun { D.begun device.old ≡ true }
     requires who { IsNodeOf C.stack who.now }
-    requires other { O.stack ≢ C.stack }
 
     // What the areas open as; then they hold that state, as the store knows.
     ensures answer { IfOk result (λ opened. IfSome (D.told device.old)
-        (λ told. Answers opened (opening (found_by C.stack C.format O.stack O.format who.now) (contents told.disk)))) }
+        (λ told. Answers opened (opening (found_by C.stack C.format who.now) (contents told.disk)))) }
     ensures holds { IfOk result (λ opened. IfSome (D.told device.new)
-        (λ told. Holds C.stack C.format O.stack O.format (store_in opened) (kept_in opened) told.disk)) }
+        (λ told. Holds C.stack C.format (store_in opened) (kept_in opened) told.disk)) }
 
     // Also where nothing is told: the store is of this node and remembers the state, from which the node can start again.
     ensures who { IfOk result (λ opened. (store_in opened).who ≡ who.now) }
@@ -276,21 +274,21 @@ pub fn open<D: Device, C: Commands, O: Commands>(
 
     // The acts are those of an opening, or are cut short.
     ensures did { OnOk result (Did (D.told device.old) (D.told device.new)
-        (acts_told C.stack C.format O.stack O.format who.now (D.told device.old))) }
+        (acts_told C.stack C.format who.now (D.told device.old))) }
     ensures stopped { OnErr result (StoppedIn (D.told device.old) (D.told device.new)
-        (acts_told C.stack C.format O.stack O.format who.now (D.told device.old))) }
+        (acts_told C.stack C.format who.now (D.told device.old))) }
 
     // A refusal is what the areas open as, and then nothing was written or cut.
     ensures refused { IfErr result (λ fault. IfRefused fault (λ why. Did (D.told device.old) (D.told device.new) sync_acts
         × IfSome (D.told device.old) (λ told.
-        opening (found_by C.stack C.format O.stack O.format who.now) (contents told.disk) ≡ Refused why))) }
+        opening (found_by C.stack C.format who.now) (contents told.disk) ≡ Refused why))) }
 
     // A crash at any moment of the call leaves what was found.
-    ensures crash { WhereTold (D.told device.old) (D.told device.new) (LeavesFound C.stack C.format O.stack O.format who.now) }
+    ensures crash { WhereTold (D.told device.old) (D.told device.new) (LeavesFound C.stack C.format who.now) }
 
     ensures causes { OpenCounts (D.faults device.old) (D.faults device.new) result }
     ensures wants { OpenGrowsFirst (Did (D.told device.old) (D.told device.new) sync_acts) (D.wants device.old) (D.wants device.new) result }
     ensures begun { D.begun device.new ≡ true }
 {
-    open_areas::<D, C, O>(alloc, device, who)
+    open_areas::<D, C>(alloc, device, who)
 }

@@ -146,8 +146,8 @@ pub(crate) fn write_new<D: Device, C: Commands>(
 /// Saves what one event has made of a node's state: the term, the vote, and a log whose first `same` entries are those that are held.
 /// Its cost is that of the entries after these, but for a base. Where the state is held it does nothing. Where no record may follow in
 /// the named slot, it writes a base into the other slot and names that; else it adds a record, and then opens its gate. An `Err` leaves
-/// the store as it was; then the areas are opened again before any save. `O` are the commands of the other stack.
-pub fn save_change<D: Device, C: Commands, O: Commands>(
+/// the store as it was; then the areas are opened again before any save.
+pub fn save_change<D: Device, C: Commands>(
     alloc: Global,
     store: &mut Store,
     device: &mut D,
@@ -164,7 +164,7 @@ pub fn save_change<D: Device, C: Commands, O: Commands>(
 
     // The areas are as the store knows, and up to the first place where the terms differ the entries are those that are held.
     requires same { same ≤ common store.old.terms log.now }
-    requires held { IfSome (D.told device.old) (IsHeldBefore C.stack C.format O.stack O.format store.old (kept_as term voted log.now)) }
+    requires held { IfSome (D.told device.old) (IsHeldBefore C.stack C.format store.old (kept_as term voted log.now)) }
 
     // The acts are those of a save of this state, or are cut short.
     ensures did { OnOk result (Did (D.told device.old) (D.told device.new)
@@ -176,15 +176,15 @@ pub fn save_change<D: Device, C: Commands, O: Commands>(
     ensures remembers { OnOk result (Knows store.new (kept_as term voted log.now)) }
     ensures knows { OnOk result (store.new ≡ store_after C.stack C.format store.old (kept_as term voted log.now)) }
     ensures holds { OnOk result (IfSome (D.told device.new) (λ told.
-        Holds C.stack C.format O.stack O.format store.new (kept_as term voted log.now) told.disk)) }
+        Holds C.stack C.format store.new (kept_as term voted log.now) told.disk)) }
     ensures unchanged { OnErr result (store.new ≡ store.old) }
     ensures who { store.new.who ≡ store.old.who }
 
     // A crash at any moment of the call leaves the state that was held or this one.
     ensures keeps { OnOk result (IfSome (D.told device.old)
-        (Saves C.stack C.format O.stack O.format store.old (kept_as term voted log.now))) }
+        (Saves C.stack C.format store.old (kept_as term voted log.now))) }
     ensures crash { WhereTold (D.told device.old) (D.told device.new)
-        (LeavesEither C.stack C.format O.stack O.format store.old (kept_as term voted log.now)) }
+        (LeavesEither C.stack C.format store.old (kept_as term voted log.now)) }
 
     ensures causes { StateCounts (D.faults device.old) (D.faults device.new) result }
     ensures wants { GrowsFirst (D.told device.new ≡ D.told device.old) (D.wants device.old) (D.wants device.new) result }
@@ -194,7 +194,7 @@ pub fn save_change<D: Device, C: Commands, O: Commands>(
 }
 
 /// Saves a state, as `save_change` does where nothing is known of which entries are held.
-pub fn save<D: Device, C: Commands, O: Commands>(
+pub fn save<D: Device, C: Commands>(
     alloc: Global,
     store: &mut Store,
     device: &mut D,
@@ -203,22 +203,22 @@ pub fn save<D: Device, C: Commands, O: Commands>(
     requires begun { D.begun device.old ≡ true }
     requires who { IsNodeOf C.stack store.old.who }
     requires voted { VoteAmong store.old.who.nodes kept.now.voted }
-    requires held { IfSome (D.told device.old) (IsHeldBefore C.stack C.format O.stack O.format store.old kept.now) }
+    requires held { IfSome (D.told device.old) (IsHeldBefore C.stack C.format store.old kept.now) }
     ensures did { OnOk result (Did (D.told device.old) (D.told device.new) (state_acts C.stack C.format store.old kept.now)) }
     ensures stopped { OnErr result (StoppedIn (D.told device.old) (D.told device.new) (state_acts C.stack C.format store.old kept.now)) }
     ensures remembers { OnOk result (Knows store.new kept.now) }
     ensures knows { OnOk result (store.new ≡ store_after C.stack C.format store.old kept.now) }
     ensures holds { OnOk result (IfSome (D.told device.new) (λ told.
-        Holds C.stack C.format O.stack O.format store.new kept.now told.disk)) }
+        Holds C.stack C.format store.new kept.now told.disk)) }
     ensures unchanged { OnErr result (store.new ≡ store.old) }
     ensures who { store.new.who ≡ store.old.who }
-    ensures keeps { OnOk result (IfSome (D.told device.old) (Saves C.stack C.format O.stack O.format store.old kept.now)) }
-    ensures crash { WhereTold (D.told device.old) (D.told device.new) (LeavesEither C.stack C.format O.stack O.format store.old kept.now) }
+    ensures keeps { OnOk result (IfSome (D.told device.old) (Saves C.stack C.format store.old kept.now)) }
+    ensures crash { WhereTold (D.told device.old) (D.told device.new) (LeavesEither C.stack C.format store.old kept.now) }
     ensures causes { StateCounts (D.faults device.old) (D.faults device.new) result }
     ensures wants { GrowsFirst (D.told device.new ≡ D.told device.old) (D.wants device.old) (D.wants device.new) result }
     ensures begun { D.begun device.new ≡ true }
 {
-    save_change::<D, C, O>(
+    save_change::<D, C>(
         alloc,
         store,
         device,

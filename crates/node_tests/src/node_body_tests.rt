@@ -23,7 +23,7 @@ struct Seen {
 
 // What node 0 finds in a slot.
 fn found(alloc: Global, bytes: &[u8]) -> Result<Result<Seen, Why>, AllocError> {
-    match find_slot::<KvCmd, TableCmd>(alloc, &WHO, bytes)? {
+    match find_slot::<KvCmd>(alloc, &WHO, bytes)? {
         Ok(held) => Ok(Ok(Seen {
             version: held.version,
             term: held.journal.kept.term(),
@@ -83,14 +83,14 @@ fn an_open_gate_wants_a_record_and_a_closed_one_hides(rt: HostRuntime) -> Result
     Ok(())
 }
 
-// Whether a slot is refused for this to a node with commands of these kinds, its own and the others.
-fn is_refused<C: Commands, O: Commands>(
+// Whether a slot is refused for this to a node with these commands.
+fn is_refused<C: Commands>(
     alloc: Global,
     who: &Who,
     bytes: &[u8],
     why: Why,
 ) -> Result<bool, AllocError> {
-    match find_slot::<C, O>(alloc, who, bytes)? {
+    match find_slot::<C>(alloc, who, bytes)? {
         Ok(_) => Ok(false),
         Err(told) => Ok(told == why),
     }
@@ -107,7 +107,7 @@ fn another_name_is_told(rt: HostRuntime) -> Result<(), Fail> {
         kept: NAME,
         configured,
     };
-    assert!(rt; is_refused::<KvCmd, TableCmd>(rt.alloc(), &who, &VOTED, why)?);
+    assert!(rt; is_refused::<KvCmd>(rt.alloc(), &who, &VOTED, why)?);
     Ok(())
 }
 
@@ -121,7 +121,7 @@ fn another_stack_is_told(rt: HostRuntime) -> Result<(), Fail> {
         kept: 5,
         configured: 7,
     };
-    assert!(rt; is_refused::<TableCmd, KvCmd>(rt.alloc(), &who, &VOTED, why)?);
+    assert!(rt; is_refused::<TableCmd>(rt.alloc(), &who, &VOTED, why)?);
     Ok(())
 }
 
@@ -166,7 +166,7 @@ fn a_base_is_made(rt: HostRuntime) -> Result<(), Fail> {
 #[test]
 fn an_old_log_is_made_a_base(rt: HostRuntime) -> Result<(), Fail> {
     let alloc = rt.alloc();
-    let Ok(held) = find_slot::<KvCmd, TableCmd>(alloc, &WHO, &OLD_PUT)? else {
+    let Ok(held) = find_slot::<KvCmd>(alloc, &WHO, &OLD_PUT)? else {
         return Err(Fail::from("no slot"));
     };
     let slot = make_base(alloc, &WHO, &held.journal.kept)?;

@@ -9,7 +9,6 @@ use crate::slot_bytes::{
     FRESH, NAME, OLD_FIRST, OLD_VOTED, VOTED, VOTED_IN_A_RECORD, WHO, old_first_and,
 };
 use kv_machine::KvCmd;
-use lock_table::TableCmd;
 use node_body::{Who, Why};
 use node_device::Device;
 use node_device_mem::{Areas, MemoryDevice};
@@ -64,7 +63,7 @@ fn opened<D: Device>(alloc: Global, device: &mut D) -> Result<Opened<KvCmd>, Ope
     ensures begun { D.begun device.new ≡ true }
     ensures who { IfOk result (λ opened. (store_in opened).who ≡ WHO) }
 {
-    open::<D, KvCmd, TableCmd>(alloc, device, &WHO)
+    open::<D, KvCmd>(alloc, device, &WHO)
 }
 
 fn seen_of(opened: &Result<Opened<KvCmd>, OpenFault>) -> Seen {
@@ -99,11 +98,9 @@ fn saved<D: Device>(
     ensures { D.begun device.new.device ≡ true }
 {
     match opened {
-        Ok(Opened::Fresh(mut store)) => {
-            Some(save::<_, KvCmd, TableCmd>(alloc, &mut store, device, kept))
-        }
+        Ok(Opened::Fresh(mut store)) => { Some(save::<_, KvCmd>(alloc, &mut store, device, kept)) }
         Ok(Opened::Held(mut store, _)) => {
-            Some(save::<_, KvCmd, TableCmd>(alloc, &mut store, device, kept))
+            Some(save::<_, KvCmd>(alloc, &mut store, device, kept))
         }
         Err(_) => None,
     }
@@ -257,7 +254,7 @@ fn another_name_is_refused(rt: HostRuntime) -> Result<(), Fail> {
         ..WHO
     };
     let mut device = steady(rt.alloc(), &VOTED, b"", &[4])?;
-    let found = open::<_, KvCmd, TableCmd>(rt.alloc(), &mut device, &who);
+    let found = open::<_, KvCmd>(rt.alloc(), &mut device, &who);
     let why = Why::Name {
         kept: NAME,
         configured,

@@ -1,5 +1,5 @@
 -- Each rule keeps what the state of a node keeps to, whatever a message in range says.
-use Rattle.std.proofs.Common.{◌≡◌, ℕ, suc, ◌+◌, ◌<◌, ◌≤◌, Bool, true, false, not, List, [], ◌∷◌, ◌++◌, length, cond, leb, Option, Some, None, IfSome, IsTrue, refl, ◌∙◌, arith, length-append, ltb, ltb-true}
+use Rattle.std.proofs.Common.{◌≡◌, ℕ, suc, ◌<◌, ◌≤◌, Bool, true, false, not, List, [], ◌∷◌, ◌++◌, length, cond, leb, Option, Some, None, IfSome, IsTrue, refl, ◌∙◌, arith, length-append, ltb, ltb-true}
 use Rattle.std.proofs.lemmas.Bool.{and_parts, eqb-true, false≢true, leb-true}
 use Rattle.std.proofs.lemmas.List.{length-replicate, length-set}
 use Rattle.std.proofs.lemmas.List.Elements.{All-get_or, All-replicate, All-set, All-weaker}

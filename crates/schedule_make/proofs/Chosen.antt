@@ -45,6 +45,27 @@ pub one-at : {X : Type 0} (p : X → Bool) (from : ℕ) (xs : List X) (i : ℕ) 
 one-at p from [] i h = absurd (omega (arith, h))
 one-at p from (x ∷ xs) i h = first-one (p x) p from i x xs (numbers_of p (from + 1) xs) refl h (λ j below. one-at p (from + 1) xs j below)
 
+-- one of those that pass a further test
+pub record IsAmong (t : ℕ → Bool) (cs : List ℕ) (c : ℕ) : Type 0 where
+  pub place : ℕ
+  pub inside : place < length cs
+  pub same : c ≡ get_or cs place 0
+  pub passes : t (get_or cs place 0) ≡ true
+
+first-among : (b : Bool) (t : ℕ → Bool) (x : ℕ) (xs : List ℕ) (i : ℕ) → t x ≡ b → i < length (cond b (x ∷ filter t xs) (filter t xs))
+    → ((j : ℕ) → j < length (filter t xs) → IsAmong t xs (get_or (filter t xs) j 0)) → IsAmong t (x ∷ xs) (get_or (cond b (x ∷ filter t xs) (filter t xs)) i 0)
+first-among true t x xs zero e h later = record { place = 0; inside = omega arith; same = refl; passes = e }
+first-among true t x xs (suc i) e h later =
+    let l = later i (omega (arith, h)) in
+    record { place = suc l.place; inside = omega (arith, l.inside); same = l.same; passes = l.passes }
+first-among false t x xs i e h later =
+    let l = later i h in
+    record { place = suc l.place; inside = omega (arith, l.inside); same = l.same; passes = l.passes }
+
+pub filtered-at : (t : ℕ → Bool) (cs : List ℕ) (i : ℕ) → i < length (filter t cs) → IsAmong t cs (get_or (filter t cs) i 0)
+filtered-at t [] i h = absurd (omega (arith, h))
+filtered-at t (x ∷ xs) i h = first-among (t x) t x xs i refl h (λ j below. filtered-at t xs j below)
+
 -- one node more
 filter-more : (p : ℕ → Bool) (a n : ℕ) → filter p (range_with_len a (suc n)) ≡ filter p (range_with_len a n) ++ cond (p (a + n)) ((a + n) ∷ []) []
 filter-more p a zero = let e : a + 0 ≡ a = omega arith in sym (ap (λ k. cond (p k) (k ∷ []) []) e)

@@ -1,62 +1,77 @@
 -- What a step does to the packets in flight, and that what is seen of it is what it does.
 use Rattle.std.proofs.Common.{◌≡◌, ℕ, zero, suc, ◌+◌, ◌-◌, ◌<◌, ◌≤◌, Bool, true, false, not, List, [], ◌∷◌, ◌++◌, length, get_or, Option, Some, None, refl, sym, ap, ◌∙◌, arith, inl, inr}
-use Rattle.std.specs.Prelude.{◌&&◌, ◌==◌, nat_lt, if◌then◌else◌, is_none, slice_get, slice_set, take}
+use Rattle.std.specs.Prelude.{◌&&◌, ◌==◌, nat_lt, if◌then◌else◌, is_none, map, slice_get, slice_set, take}
 use Rattle.std.proofs.lemmas.Bool.{and_from, and_parts, cases_eq, eq-eqb, lt-ltb, ltb-true, ne_eqb}
 use Rattle.std.proofs.lemmas.Grind.{get_or-set_at}
 use Rattle.std.proofs.lemmas.List.{get_or-set_other, length-set}
 use Rattle.std.specs.List.{list_all}
 use Rattle.handler_trait.specs.Handling.{Meaning, Recovery}
 use Rattle.flight_index.specs.Flights.{Flights, is_within}
-use Rattle.net_semantics.specs.Steps.{Event, after_event, after_network, crashed, event_of, fails, next, node_of, packet_of, refusal_of, rebooted, with_packets}
+use Rattle.net_semantics.specs.Steps.{Event, after_event, after_network, crashed, event_of, fails, is_first, next, node_of, packet_of, refusal_of, rebooted, with_packets}
 use Rattle.net_semantics.specs.Worlds.{Packet, World, change_at, copies, copies_of, ends_of, one_less, one_more, put, sent_by}
 use Rattle.vst_base.specs.Firsts.{first_of}
-use Rattle.vst_base.specs.Nets.{has_kind, keeps_order}
+use Rattle.vst_base.specs.Nets.{has_kind, keeps_order, kind_of}
 use Rattle.vst_base.specs.declared.step.StepKind.TheVariants as kind
 use Rattle.vst_base.specs.declared.net.Net.{Net}
 use Rattle.vst_base.specs.declared.step.StepRefusal.TheVariants as refusal
 use Rattle.vst_base.specs.declared.step.Step.{Step}
 use Rattle.vst_base.specs.declared.step.Step.TheVariants as step
+use Rattle.schedule_make.specs.Candidates.{is_in_flight}
 use Rattle.schedule_make.specs.Flying.{AreInFlightFrom, IsWithin, KnowsFlights, flight_of, flights_of, seen}
 
--- one copy more or less of a packet in flight
-flies : (d n : ℕ) → 0 < n → (if nat_lt 0 n then Some d else None) ≡ Some d
-flies d n h = ap (λ (b : Bool). if b then Some d else None) (lt-ltb 0 n h)
+module _ {X : Type 0} where
+  -- one copy more or less of a packet in flight
+  flies : (d : X) (n : ℕ) → 0 < n → (if nat_lt 0 n then Some d else None) ≡ Some d
+  flies d n h = ap (λ (b : Bool). if b then Some d else None) (lt-ltb 0 n h)
 
-lands : (d n : ℕ) → (if nat_lt 0 n then Some d else None) ≡ (if n == 0 then None else Some d)
-lands d zero = refl
-lands d (suc n) = flies d (suc n) (omega arith) ∙ sym (ap (λ (b : Bool). if b then None else Some d) (ne_eqb (suc n) 0 (λ e. absurd (omega (arith, e)))))
+  lands : (d : X) (n : ℕ) → (if nat_lt 0 n then Some d else None) ≡ (if n == 0 then None else Some d)
+  lands d zero = refl
+  lands d (suc n) = flies d (suc n) (omega arith) ∙ sym (ap (λ (b : Bool). if b then None else Some d) (ne_eqb (suc n) 0 (λ e. absurd (omega (arith, e)))))
 
--- what becomes of the flights where a copy of packet k goes, of which so many are left
-abbrev pub left_of : ℕ → ℕ → List (Option ℕ) → List (Option ℕ)
-left_of n k os = if n == 0 then slice_set os k None else os
+  -- what becomes of the flights where a copy of packet k goes, of which so many are left
+  abbrev pub left_of : ℕ → ℕ → List (Option X) → List (Option X)
+  left_of n k os = if n == 0 then slice_set os k None else os
 
-front-if : (b : Bool) (o : Option ℕ) (os : List (Option ℕ)) → (if b then None else o) ∷ os ≡ (if b then slice_set (o ∷ os) 0 None else o ∷ os)
-front-if true o os = refl
-front-if false o os = refl
+  front-if : (b : Bool) (o : Option X) (os : List (Option X)) → (if b then None else o) ∷ os ≡ (if b then slice_set (o ∷ os) 0 None else o ∷ os)
+  front-if true o os = refl
+  front-if false o os = refl
 
-rest-if : (b : Bool) (o : Option ℕ) (k : ℕ) (os : List (Option ℕ)) → o ∷ (if b then slice_set os k None else os) ≡ (if b then slice_set (o ∷ os) (suc k) None else o ∷ os)
-rest-if true o k os = refl
-rest-if false o k os = refl
+  rest-if : (b : Bool) (o : Option X) (k : ℕ) (os : List (Option X)) → o ∷ (if b then slice_set os k None else os) ≡ (if b then slice_set (o ∷ os) (suc k) None else o ∷ os)
+  rest-if true o k os = refl
+  rest-if false o k os = refl
+
+-- what is known of each packet while a copy of it is in flight
+module _ {M X : Type 0} (f : Packet M → X) (more : (p : Packet M) → f (one_more p) ≡ f p) (less : (p : Packet M) → f (one_less p) ≡ f p) where
+  abbrev pub aloft : Packet M → Option X
+  aloft p = if is_in_flight p then Some (f p) else None
+
+  aloft-more : (p : Packet M) → 0 < p.copies → aloft (one_more p) ≡ aloft p
+  aloft-more p h = flies (f (one_more p)) (p.copies + 1) (omega arith) ∙ ap (λ x. Some x) (more p) ∙ sym (flies (f p) p.copies h)
+
+  pub all-more : (k : ℕ) (ps : List (Packet M)) → 0 < copies_of (slice_get ps k) → map aloft (change_at one_more k ps) ≡ map aloft ps
+  all-more k [] h = refl
+  all-more zero (p ∷ ps) h = ap (λ o. o ∷ map aloft ps) (aloft-more p h)
+  all-more (suc k) (p ∷ ps) h = ap (λ os. aloft p ∷ os) (all-more k ps h)
+
+  aloft-less : (p : Packet M) → 0 < p.copies → aloft (one_less p) ≡ (if p.copies - 1 == 0 then None else aloft p)
+  aloft-less p h = lands (f (one_less p)) (p.copies - 1) ∙ ap (λ x. if p.copies - 1 == 0 then None else Some x) (less p)
+      ∙ ap (λ (o : Option X). if p.copies - 1 == 0 then None else o) (sym (flies (f p) p.copies h))
+
+  pub all-less : (k : ℕ) (ps : List (Packet M)) → 0 < copies_of (slice_get ps k)
+      → map aloft (change_at one_less k ps) ≡ left_of (copies_of (slice_get (change_at one_less k ps) k)) k (map aloft ps)
+  all-less k [] h = absurd (omega (arith, h))
+  all-less zero (p ∷ ps) h = ap (λ o. o ∷ map aloft ps) (aloft-less p h) ∙ front-if (p.copies - 1 == 0) (aloft p) (map aloft ps)
+  all-less (suc k) (p ∷ ps) h =
+      ap (λ os. aloft p ∷ os) (all-less k ps h)
+      ∙ rest-if (copies_of (slice_get (change_at one_less k ps) k) == 0) (aloft p) k (map aloft ps)
 
 module _ {M : Type 0} where
-  flight-more : (p : Packet M) → 0 < p.copies → flight_of (one_more p) ≡ flight_of p
-  flight-more p h = flies p.destination (p.copies + 1) (omega arith) ∙ sym (flies p.destination p.copies h)
-
   pub flights-more : (k : ℕ) (ps : List (Packet M)) → 0 < copies_of (slice_get ps k) → flights_of (change_at one_more k ps) ≡ flights_of ps
-  flights-more k [] h = refl
-  flights-more zero (p ∷ ps) h = ap (λ o. o ∷ flights_of ps) (flight-more p h)
-  flights-more (suc k) (p ∷ ps) h = ap (λ os. flight_of p ∷ os) (flights-more k ps h)
-
-  flight-less : (p : Packet M) → 0 < p.copies → flight_of (one_less p) ≡ (if p.copies - 1 == 0 then None else flight_of p)
-  flight-less p h = lands p.destination (p.copies - 1) ∙ ap (λ (o : Option ℕ). if p.copies - 1 == 0 then None else o) (sym (flies p.destination p.copies h))
+  flights-more k ps h = all-more (λ p. p.destination) (λ p. refl) (λ p. refl) k ps h
 
   pub flights-less : (k : ℕ) (ps : List (Packet M)) → 0 < copies_of (slice_get ps k)
       → flights_of (change_at one_less k ps) ≡ left_of (copies_of (slice_get (change_at one_less k ps) k)) k (flights_of ps)
-  flights-less k [] h = absurd (omega (arith, h))
-  flights-less zero (p ∷ ps) h = ap (λ o. o ∷ flights_of ps) (flight-less p h) ∙ front-if (p.copies - 1 == 0) (flight_of p) (flights_of ps)
-  flights-less (suc k) (p ∷ ps) h =
-      ap (λ os. flight_of p ∷ os) (flights-less k ps h)
-      ∙ rest-if (copies_of (slice_get (change_at one_less k ps) k) == 0) (flight_of p) k (flights_of ps)
+  flights-less k ps h = all-less (λ p. p.destination) (λ p. refl) (λ p. refl) k ps h
 
   pub length-change : (f : Packet M → Packet M) (k : ℕ) (ps : List (Packet M)) → length (change_at f k ps) ≡ length ps
   length-change f k [] = refl
@@ -144,9 +159,14 @@ module _ {S K I O M : Type 0} (m : Meaning S I O M) (r : Recovery S K) where
   pub step-fresh : (w : World S K M) (s : Step I) → Fresh (after_network r w s) (next m r w s)
   step-fresh w s = event-fresh (after_network r w s) (event_of m w s)
 
+  pub after-copies : (w : World S K M) (s : Step I) (k : ℕ) → k < length (after_network r w s).packets → copies (next m r w s) k ≡ copies (after_network r w s) k
+  after-copies w s k inside =
+      let fresh = step-fresh w s in
+      ap (λ ps. copies_of (slice_get ps k)) fresh.after ∙ copies-before (after_network r w s).packets fresh.sent k inside
+
 -- where no refusal applies, the named node exists and the named packet has a copy
 none-of : (a b c d e f g : Bool) → first_of ((refusal.NotThisNet, a) ∷ (refusal.NoSuchNode, b) ∷ (refusal.NoInputHere, c) ∷ (refusal.NodeDown, d) ∷ (refusal.NodeUp, e) ∷ (refusal.NoCopy, f) ∷ (refusal.NotFirst, g) ∷ []) ≡ None
-    → (b ≡ false) × (e ≡ false) × (f ≡ false)
+    → (b ≡ false) × (e ≡ false) × (f ≡ false) × (a ≡ false) × (g ≡ false)
 none-of true b c d e f g h = cc
 none-of false true c d e f g h = cc
 none-of false false true d e f g h = cc
@@ -154,9 +174,9 @@ none-of false false false true e f g h = cc
 none-of false false false false true f g h = cc
 none-of false false false false false true g h = cc
 none-of false false false false false false true h = cc
-none-of false false false false false false false h = (refl, refl, refl)
+none-of false false false false false false false h = (refl, refl, refl, refl, refl)
 
-holds : (b : Bool) → not b ≡ false → b ≡ true
+pub holds : (b : Bool) → not b ≡ false → b ≡ true
 holds true h = refl
 holds false h = cc
 
@@ -170,6 +190,13 @@ module _ {S K I O M : Type 0} (n : Net) (m : Meaning S I O M) (w : World S K M) 
   has-node s k is none =
       let found = (none-of _ _ _ _ _ _ _ none).0 in
       ltb-true k m.nodes (holds (nat_lt k m.nodes) (ap (λ o. fails o (λ k. nat_lt k m.nodes)) (sym is) ∙ found))
+
+  -- it is of a kind that the network has, and its packet is the first in flight of its ends where the network keeps their order
+  pub has-its-kind : (s : Step I) → refusal_of n m w s ≡ None → has_kind n (kind_of s) ≡ true
+  has-its-kind s none = holds (has_kind n (kind_of s)) (none-of _ _ _ _ _ _ _ none).3
+
+  pub has-its-turn : (s : Step I) → refusal_of n m w s ≡ None → (keeps_order n && fails (packet_of s) (is_first w)) ≡ false
+  has-its-turn s none = (none-of _ _ _ _ _ _ _ none).4
 
   flight-within : (f : Flights) → KnowsFlights f w → (s : Step I) (k : ℕ) → packet_of s ≡ Some k → refusal_of n m w s ≡ None → k < length f.packets
   flight-within f knows s k is none =
@@ -235,11 +262,6 @@ module _ {S K I O M : Type 0} (n : Net) (m : Meaning S I O M) (w : World S K M) 
   }
 
 module _ {S K I O M : Type 0} (n : Net) (m : Meaning S I O M) (r : Recovery S K) (w : World S K M) (few : m.nodes ≤ 9) (f : Flights) (knows : KnowsFlights f w) where
-  after-copies : (s : Step I) (k : ℕ) → k < length (after_network r w s).packets → copies (next m r w s) k ≡ copies (after_network r w s) k
-  after-copies s k inside =
-      let fresh = step-fresh m r w s in
-      ap (λ ps. copies_of (slice_get ps k)) fresh.after ∙ copies-before (after_network r w s).packets fresh.sent k inside
-
   -- a node that stops has kept something, and one that starts again keeps nothing
   stops : (t : Bool) (up : Bool) (o : Option K) (kept : K) → up ≡ is_none o → (if t then false else up) ≡ is_none (if t then Some kept else o)
   stops true up o kept e = refl
@@ -265,10 +287,10 @@ module _ {S K I O M : Type 0} (n : Net) (m : Meaning S I O M) (r : Recovery S K)
       same-flights n m w f knows (with_packets w (change_at one_more k w.packets)) (flights-more k w.packets (has-copy n m w (step.Dup k) k refl none)) (λ j. refl) (λ j. refl)
   sees (step.Lose k) none =
       let some = has-copy n m w (step.Lose k) k refl none in
-      left n m w f knows k (copies (next m r w (step.Lose k)) k) some (after-copies (step.Lose k) k (omega (arith, copied-within k w.packets some, length-change one_less k w.packets))) _ refl
+      left n m w f knows k (copies (next m r w (step.Lose k)) k) some (after-copies m r w (step.Lose k) k (omega (arith, copied-within k w.packets some, length-change one_less k w.packets))) _ refl
   sees (step.Deliver k) none =
       let some = has-copy n m w (step.Deliver k) k refl none in
-      left n m w f knows k (copies (next m r w (step.Deliver k)) k) some (after-copies (step.Deliver k) k (omega (arith, copied-within k w.packets some, length-change one_less k w.packets))) _ refl
+      left n m w f knows k (copies (next m r w (step.Deliver k)) k) some (after-copies m r w (step.Deliver k) k (omega (arith, copied-within k w.packets some, length-change one_less k w.packets))) _ refl
   sees (step.Crash k) none = flagged n m w f knows k false (omega (arith, has-node n m w (step.Crash k) k refl none, few)) (crashed r w k) refl (λ j. refl)
       (λ j. stops (j == k) (w.is_up j) (w.kept j) (r.keep (w.state k)) (knows.down j))
   sees (step.Reboot k) none = starts k (w.kept k) refl (omega (arith, has-node n m w (step.Reboot k) k refl none, few)) none
@@ -288,3 +310,17 @@ length-seen w (step.Reboot n) f = refl
 length-seen w (step.In n i) f = refl
 length-seen w (step.Tick n) f = refl
 length-seen w (step.Dup k) f = refl
+
+-- nor does what the network does in a step
+length-started : {S K M : Type 0} (r : Recovery S K) (w : World S K M) (n : ℕ) (o : Option K) → length (rebooted r w n o).packets ≡ length w.packets
+length-started r w n None = refl
+length-started r w n (Some kept) = refl
+
+pub length-after : {S K I M : Type 0} (r : Recovery S K) (w : World S K M) (s : Step I) → length (after_network r w s).packets ≡ length w.packets
+length-after r w (step.Deliver k) = length-change one_less k w.packets
+length-after r w (step.Lose k) = length-change one_less k w.packets
+length-after r w (step.Dup k) = length-change one_more k w.packets
+length-after r w (step.Crash n) = refl
+length-after r w (step.In n i) = refl
+length-after r w (step.Tick n) = refl
+length-after r w (step.Reboot n) = length-started r w n (w.kept n)

@@ -4,3 +4,4 @@ pub mod Following
 pub mod Letters
 pub mod Offers
 pub mod Stepping
+pub mod InTurn

@@ -64,11 +64,11 @@ offers-none true (c ∷ cs) number e =
 offers-none false cs number e = refl
 
 module _ {S K I O M : Type 0} (net : Net) (m : Meaning S I O M) (w : World S K M) where
-  pub offered_some : (k : StepKind) (number at : ℕ) → offered net m w k number ≡ Some at → (has_step net m w k ≡ true) × (at ≡ chosen (candidates m w k) number)
-  offered_some k number at e = offers (has_kind net k) (candidates m w k) number at e
+  pub offered_some : (k : StepKind) (number at : ℕ) → offered net m w k number ≡ Some at → (has_step net m w k ≡ true) × (at ≡ chosen (candidates net m w k) number)
+  offered_some k number at e = offers (has_kind net k) (candidates net m w k) number at e
 
   pub offered_none : (k : StepKind) (number : ℕ) → offered net m w k number ≡ None → has_step net m w k ≡ false
-  offered_none k number e = offers-none (has_kind net k) (candidates m w k) number e
+  offered_none k number e = offers-none (has_kind net k) (candidates net m w k) number e
 
   pub made_drawn : (k : StepKind) → has_step net m w k ≡ true → made_kind net m w k ≡ k
   made_drawn k e = ap (λ (b : Bool). if b then k else if has_step net m w kind.Tick then kind.Tick else kind.Reboot) e
@@ -82,7 +82,7 @@ module _ {S K I O M : Type 0} (net : Net) (m : Meaning S I O M) (w : World S K M
       ∙ ap (λ (b : Bool). if b then kind.Tick else kind.Reboot) tick
 
   -- a kind of step that is taken at a node
-  pub node-candidates : (k : StepKind) → (k ≡ kind.In) ⊎ ((k ≡ kind.Tick) ⊎ ((k ≡ kind.Crash) ⊎ (k ≡ kind.Reboot))) → candidates m w k ≡ nodes_that m (may_act m w k)
+  pub node-candidates : (k : StepKind) → (k ≡ kind.In) ⊎ ((k ≡ kind.Tick) ⊎ ((k ≡ kind.Crash) ⊎ (k ≡ kind.Reboot))) → candidates net m w k ≡ nodes_that m (may_act m w k)
   node-candidates k (inl e) = rw e refl
   node-candidates k (inr (inl e)) = rw e refl
   node-candidates k (inr (inr (inl e))) = rw e refl

@@ -42,7 +42,7 @@ Inputs I = ℕ → ℕ → I
 abbrev pub made_step : {S K I O M : Type 0} → Net → Meaning S I O M → Inputs I → World S K M → ℕ → Words → Step I
 made_step net m inputs w place words =
     let k = made_kind net m w (drawn_kind words.kind) in
-    step_of (inputs words.input place) k (chosen (candidates m w k) words.number)
+    step_of (inputs words.input place) k (chosen (candidates net m w k) words.number)
 
 -- so many steps from this place on
 abbrev pub made_from : {S K I O M : Type 0} → Net → Meaning S I O M → Recovery S K → Inputs I → World S K M → ℕ → Lcg → ℕ → List (Step I)

@@ -13,4 +13,4 @@ picked cs number = slice_get cs (number % length cs)
 
 -- that of a kind of step, where the network has such steps
 abbrev pub offered : {S K I O M : Type 0} → Net → Meaning S I O M → World S K M → StepKind → ℕ → Option ℕ
-offered net m w k number = if has_kind net k then picked (candidates m w k) number else None
+offered net m w k number = if has_kind net k then picked (candidates net m w k) number else None

@@ -1,12 +1,13 @@
 ghost use Rattle.std.specs.Prelude.{◌≡◌, List, IfOk, is_some};
 ghost use Rattle.flight_index.specs.Flights.{goes_up, numbers_of};
+ghost use Rattle.flight_index.specs.Turns.{firsts};
 ghost use Rattle.vst_base.specs.declared.step.Step.{Step as SpecStep};
 ghost use Rattle.xform_stack.specs.Systems.{world_of};
 ghost use Rattle.schedule_make.specs.Candidates.{candidates, chosen, drawn_kind, made_kind, may_act, nodes_that};
-ghost use Rattle.schedule_make.specs.Flying.{KnowsFlights};
+ghost use Rattle.schedule_make.specs.Flying.{KnowsFlights, KnowsTurns};
 ghost use Rattle.schedule_make.specs.Offers.{offered, picked};
 
-use flight_index::FlightIndex;
+use flight_index::{FlightIndex, TurnIndex};
 use handler_trait::Handlers;
 use std::alloc::{AllocError, Global};
 use vst_base::{Node, StepKind};
@@ -106,21 +107,37 @@ fn deliverable(flights: &FlightIndex, number: u32) -> Option<u32>
     }
 }
 
+// The same of those that are the first of their source and destination.
+fn in_turn(turns: &TurnIndex, number: u32) -> Option<u32>
+    ensures { result ≡ picked (firsts turns.now) number }
+{
+    match turns.firsts() {
+        0 => None,
+        n => turns.nth_first(number % n),
+    }
+}
+
 // The candidate of a kind that a number names, counted round, if there is one.
 fn candidate<H: Handlers, W: Network<H>>(
     alloc: Global,
     network: &W,
     flights: &FlightIndex,
+    turns: &Option<TurnIndex>,
     kind: StepKind,
     number: u32,
 ) -> Result<Option<u32>, AllocError>
     ensures { IfOk result (λ found. (ss : List (SpecStep H.Input)) → W.follows network.now ss
         → KnowsFlights flights.now (world_of (W.system network.now) ss)
-        → found ≡ picked (candidates (W.system network.now).meaning (world_of (W.system network.now) ss) kind) number) }
+        → KnowsTurns (W.system network.now).net turns.now (world_of (W.system network.now) ss)
+        → found ≡ picked (candidates (W.system network.now).net (W.system network.now).meaning
+        (world_of (W.system network.now) ss) kind) number) }
 {
     match kind {
         StepKind::Dup | StepKind::Lose => Ok(in_flight(flights, number)),
-        StepKind::Deliver => Ok(deliverable(flights, number)),
+        StepKind::Deliver => Ok(match turns {
+            Some(turns) => in_turn(turns, number),
+            None => deliverable(flights, number),
+        }),
         StepKind::In | StepKind::Tick | StepKind::Crash | StepKind::Reboot => {
             let nodes = nodes_that(alloc, network, kind)?;
             Ok(picked(&nodes, number))
@@ -133,17 +150,19 @@ fn offered<H: Handlers, W: Network<H>>(
     alloc: Global,
     network: &W,
     flights: &FlightIndex,
+    turns: &Option<TurnIndex>,
     kind: StepKind,
     number: u32,
 ) -> Result<Option<u32>, AllocError>
     ensures { IfOk result (λ found. (ss : List (SpecStep H.Input)) → W.follows network.now ss
         → KnowsFlights flights.now (world_of (W.system network.now) ss)
+        → KnowsTurns (W.system network.now).net turns.now (world_of (W.system network.now) ss)
         → found ≡ offered (W.system network.now).net (W.system network.now).meaning (world_of (W.system network.now) ss) kind number) }
 {
     if !network.net().has(kind) {
         return Ok(None);
     }
-    candidate(alloc, network, flights, kind, number)
+    candidate(alloc, network, flights, turns, kind, number)
 }
 
 // Of which kind a step is, where this kind was drawn, and the node or packet that it names.
@@ -152,22 +171,26 @@ pub(crate) fn settled<H: Handlers, W: Network<H>>(
     alloc: Global,
     network: &W,
     flights: &FlightIndex,
+    turns: &Option<TurnIndex>,
     drawn: StepKind,
     number: u32,
 ) -> Result<(StepKind, u32), AllocError>
     ensures kind { IfOk result (λ step. (ss : List (SpecStep H.Input)) → W.follows network.now ss
         → KnowsFlights flights.now (world_of (W.system network.now) ss)
+        → KnowsTurns (W.system network.now).net turns.now (world_of (W.system network.now) ss)
         → step.0 ≡ made_kind (W.system network.now).net (W.system network.now).meaning (world_of (W.system network.now) ss) drawn) }
     ensures chosen { IfOk result (λ step. (ss : List (SpecStep H.Input)) → W.follows network.now ss
         → KnowsFlights flights.now (world_of (W.system network.now) ss)
-        → step.1 ≡ chosen (candidates (W.system network.now).meaning (world_of (W.system network.now) ss) step.0) number) }
+        → KnowsTurns (W.system network.now).net turns.now (world_of (W.system network.now) ss)
+        → step.1 ≡ chosen (candidates (W.system network.now).net (W.system network.now).meaning
+        (world_of (W.system network.now) ss) step.0) number) }
 {
-    if let Some(at) = offered(alloc, network, flights, drawn, number)? {
+    if let Some(at) = offered(alloc, network, flights, turns, drawn, number)? {
         return Ok((drawn, at));
     }
-    if let Some(at) = offered(alloc, network, flights, StepKind::Tick, number)? {
+    if let Some(at) = offered(alloc, network, flights, turns, StepKind::Tick, number)? {
         return Ok((StepKind::Tick, at));
     }
-    let at = candidate(alloc, network, flights, StepKind::Reboot, number)?;
+    let at = candidate(alloc, network, flights, turns, StepKind::Reboot, number)?;
     Ok((StepKind::Reboot, at.unwrap_or(0)))
 }

@@ -1,17 +1,18 @@
 ghost use Rattle.std.specs.Prelude.{◌≡◌, ◌+◌, ℕ, [], ◌∷◌, true, false, None, Some, codes, map};
-ghost use Rattle.handler_trait.specs.Echo.{echo};
+ghost use Rattle.handler_trait.specs.Echo.{echo, echo_recovery};
 ghost use Rattle.kv_machine.specs.declared.cmd.KvCmd.{KvCmd};
 ghost use Rattle.lock_table.specs.declared.cmd.TableCmd.{TableCmd};
+ghost use Rattle.net_semantics.specs.Echo.{echo_after};
 ghost use Rattle.net_semantics.specs.Worlds.{first_world};
 ghost use Rattle.vst_base.specs.declared.lock.LockInput.{LockInput};
 ghost use Rattle.vst_base.specs.declared.net.Net.{Net};
 ghost use Rattle.vst_base.specs.declared.step.Step.{Step};
 ghost use Rattle.vst_base.specs.declared.step.StepKind.{StepKind};
-ghost use Rattle.schedule_make.specs.Candidates.{candidates, chosen, drawn_kind, made_kind, may_act};
-ghost use Rattle.schedule_make.specs.Examples.{all_stopped, flights, half_stopped};
-ghost use Rattle.schedule_make.specs.Flying.{KnowsFlights, flights_of, seen};
+ghost use Rattle.schedule_make.specs.Candidates.{candidates, chosen, drawn_kind, in_turn, made_kind, may_act};
+ghost use Rattle.schedule_make.specs.Examples.{all_stopped, first_came, flights, half_stopped, two_lanes};
+ghost use Rattle.schedule_make.specs.Flying.{IsInTurn, KnowsFlights, KnowsTurns, flights_of, seen, seen_in_order, turns_of, ways_of};
 ghost use Rattle.schedule_make.specs.Inputs.{kv_input, lock_input, table_input};
-ghost use Rattle.schedule_make.specs.Made.{made_step};
+ghost use Rattle.schedule_make.specs.Made.{made, made_step};
 ghost use Rattle.schedule_make.specs.Offers.{offered, picked};
 
 /// Kinds by words, and which candidate a word takes.
@@ -36,14 +37,14 @@ pub fn worked_inputs()
 
 /// Which steps there are of each kind where a node has stopped, and which kind is made where there is none.
 pub fn worked_candidates()
-    ensures inputs { candidates (echo 2) half_stopped StepKind.In ≡ [] }
-    ensures inputs_at_first { candidates (echo 2) (first_world {K = ℕ} (echo 2)) StepKind.In ≡ 1 ∷ [] }
-    ensures ticks { candidates (echo 2) half_stopped StepKind.Tick ≡ 0 ∷ [] }
-    ensures crashes { candidates (echo 2) half_stopped StepKind.Crash ≡ 0 ∷ [] }
-    ensures reboots { candidates (echo 2) half_stopped StepKind.Reboot ≡ 1 ∷ [] }
-    ensures copies { candidates (echo 2) half_stopped StepKind.Dup ≡ 1 ∷ 2 ∷ [] }
-    ensures losses { candidates (echo 2) half_stopped StepKind.Lose ≡ 1 ∷ 2 ∷ [] }
-    ensures deliveries { candidates (echo 2) half_stopped StepKind.Deliver ≡ 2 ∷ [] }
+    ensures inputs { candidates Net.Fail (echo 2) half_stopped StepKind.In ≡ [] }
+    ensures inputs_at_first { candidates Net.Fail (echo 2) (first_world {K = ℕ} (echo 2)) StepKind.In ≡ 1 ∷ [] }
+    ensures ticks { candidates Net.Fail (echo 2) half_stopped StepKind.Tick ≡ 0 ∷ [] }
+    ensures crashes { candidates Net.Fail (echo 2) half_stopped StepKind.Crash ≡ 0 ∷ [] }
+    ensures reboots { candidates Net.Fail (echo 2) half_stopped StepKind.Reboot ≡ 1 ∷ [] }
+    ensures copies { candidates Net.Fail (echo 2) half_stopped StepKind.Dup ≡ 1 ∷ 2 ∷ [] }
+    ensures losses { candidates Net.Fail (echo 2) half_stopped StepKind.Lose ≡ 1 ∷ 2 ∷ [] }
+    ensures deliveries { candidates Net.Fail (echo 2) half_stopped StepKind.Deliver ≡ 2 ∷ [] }
     ensures at_a_node { map (may_act (echo 2) half_stopped StepKind.Tick) (0 ∷ 1 ∷ []) ≡ true ∷ false ∷ [] }
     ensures of_a_packet { may_act (echo 2) half_stopped StepKind.Deliver 0 ≡ false }
     ensures there_is_one { made_kind Net.Fail (echo 2) half_stopped StepKind.Reboot ≡ StepKind.Reboot }
@@ -69,4 +70,28 @@ pub fn worked_flights()
     ensures stopped { seen {I = ℕ} half_stopped (Step.Crash 1) (flights [] true) ≡ flights [] false }
     ensures started { seen {I = ℕ} half_stopped (Step.Reboot 1) (flights [] false) ≡ flights [] true }
     ensures ticked { seen {I = ℕ} half_stopped (Step.Tick 1) (flights (Some 0 ∷ []) true) ≡ flights (Some 0 ∷ []) true }
+{}
+
+/// Where the order of packets is kept: which may be delivered, what is known of them, and what a step does to it.
+pub fn worked_order()
+    ensures first_of_each { candidates Net.Ord (echo 2) two_lanes StepKind.Deliver ≡ 0 ∷ 1 ∷ [] }
+    ensures the_next { candidates Net.Ord (echo 2) first_came StepKind.Deliver ≡ 1 ∷ 2 ∷ [] }
+    ensures one_lane { candidates Net.Ord (echo 2) (echo_after (Step.In 1 5 ∷ Step.In 1 7 ∷ [])) StepKind.Deliver ≡ 0 ∷ [] }
+    ensures in_any_order { candidates Net.Bag (echo 2) two_lanes StepKind.Deliver ≡ 0 ∷ 1 ∷ 2 ∷ [] }
+    ensures of_these { in_turn Net.Ord two_lanes (0 ∷ 1 ∷ 2 ∷ []) ≡ 0 ∷ 1 ∷ [] }
+    ensures step { made_step Net.Ord (echo 2) (λ x i. x + i) two_lanes 7 (record { kind = 9; number = 2; input = 0 }) ≡ Step.Deliver 0 }
+    ensures in_flight { ways_of first_came.packets ≡ None ∷ Some (0, 0) ∷ Some (1, 0) ∷ [] }
+    ensures known { KnowsTurns Net.Ord (Some (Some (1, 0) ∷ Some (0, 0) ∷ Some (1, 0) ∷ [])) two_lanes }
+    ensures nothing_known { KnowsTurns Net.Ord None two_lanes → ⊥ }
+    ensures not_where_they_come_in_any { turns_of Net.Bag two_lanes.packets ≡ None }
+    ensures came { seen_in_order {I = ℕ} first_came (Step.Deliver 0) (Some (Some (1, 0) ∷ Some (0, 0) ∷ [])) ≡ Some (None ∷ Some (0, 0) ∷ []) }
+    ensures ticked { seen_in_order {I = ℕ} two_lanes (Step.Tick 0) (Some (Some (1, 0) ∷ [])) ≡ Some (Some (1, 0) ∷ []) }
+    ensures its_turn { IsInTurn {I = ℕ} (Some (Some (1, 0) ∷ Some (1, 0) ∷ [])) (Step.Deliver 0) }
+    ensures not_its_turn { IsInTurn {I = ℕ} (Some (Some (1, 0) ∷ Some (1, 0) ∷ [])) (Step.Deliver 1) → ⊥ }
+    ensures made { made Net.Ord (echo 2) echo_recovery (λ x i. i) 1 16
+        ≡ Step.In 1 0 ∷ Step.In 1 1 ∷ Step.Tick 1 ∷ Step.Deliver 2 ∷ Step.Deliver 0 ∷ Step.Tick 0 ∷ Step.Deliver 1 ∷ Step.In 1 7 ∷
+        Step.Tick 0 ∷ Step.Deliver 4 ∷ Step.Deliver 3 ∷ Step.Tick 0 ∷ Step.Deliver 5 ∷ Step.Tick 0 ∷ Step.In 1 14 ∷ Step.Deliver 8 ∷ [] }
+    ensures made_of_2 { made Net.Ord (echo 2) echo_recovery (λ x i. i) 2 14
+        ≡ Step.Tick 0 ∷ Step.Deliver 0 ∷ Step.Tick 0 ∷ Step.Deliver 1 ∷ Step.Tick 0 ∷ Step.Tick 1 ∷ Step.Deliver 3 ∷ Step.Tick 1 ∷
+        Step.Tick 1 ∷ Step.Tick 0 ∷ Step.Deliver 4 ∷ Step.In 1 11 ∷ Step.Deliver 5 ∷ Step.In 1 13 ∷ [] }
 {}

@@ -8,9 +8,10 @@ mod inputs;
 mod laws;
 mod making;
 mod rows;
+mod turning;
 mod words;
 
-pub use examples::{worked, worked_candidates, worked_flights, worked_inputs};
+pub use examples::{worked, worked_candidates, worked_flights, worked_inputs, worked_order};
 pub use inputs::{ByClients, KvInputs, LockInputs, MakesInputs, TableInputs};
 pub use laws::made_schedules_are_allowed;
 pub use making::Making;

@@ -1,19 +1,21 @@
-ghost use Rattle.std.specs.Prelude.{◌≡◌, ◌≤◌, ◌<◌, List, [], ◌∷◌, ◌++◌, length, take, slice_set, true, IfOk, OnOk};
+ghost use Rattle.std.specs.Prelude.{◌≡◌, ◌≤◌, ◌<◌, List, [], ◌∷◌, ◌++◌, length, take, slice_set, true, IfOk, IfSome, OnOk};
 ghost use Rattle.std.specs.List.{list_all};
 ghost use Rattle.flight_index.specs.Flights.{is_within};
+ghost use Rattle.vst_base.specs.declared.net.Net.{Net};
 ghost use Rattle.vst_base.specs.declared.node.TheConstants.{MAX_NODES};
 ghost use Rattle.vst_base.specs.declared.step.TheConstants.{MAX_STEPS};
 ghost use Rattle.vst_base.specs.declared.step.Step.{Step as SpecStep};
 ghost use Rattle.xform_stack.specs.Running.{HasTaken};
 ghost use Rattle.xform_stack.specs.Systems.{world_of};
-ghost use Rattle.schedule_make.specs.Flying.{AreInFlightFrom, IsWithin, flights_of, seen};
+ghost use Rattle.schedule_make.specs.Flying.{AreInFlightFrom, IsInTurn, IsWithin, flights_of, seen, seen_in_order, turns_of};
 ghost use Rattle.schedule_make.specs.Made.{after_words, generator, step_of};
 ghost use Rattle.schedule_make.specs.Making.{CanStep, HasFollowed, HasMade, step_after};
 
 use crate::drawing::{drawn_kind, nodes, settled};
 use crate::inputs::MakesInputs;
+use crate::turning::{first_turns, join, leave};
 use crate::words::next_words;
-use flight_index::FlightIndex;
+use flight_index::{FlightIndex, TurnIndex};
 use handler_trait::Handlers;
 use net_semantics::StepFault;
 use rand_pcg::Lcg64Xsh32;
@@ -29,6 +31,8 @@ pub struct Making<H: Handlers, W: Network<H>> {
     alloc: Global,
     network: W,
     flights: FlightIndex,
+    // Where the network keeps the order of packets.
+    turns: Option<TurnIndex>,
     random: Lcg64Xsh32,
     handlers: PhantomData<H>,
 }
@@ -38,7 +42,7 @@ impl<H: Handlers, W: Network<H>> Model for Making<H, W> {
 
     ghost Value = { MakingView W };
 
-    ghost view = { λ m. record { network = m.network; flights = m.flights; random = m.random } };
+    ghost view = { λ m. record { network = m.network; flights = m.flights; turns = m.turns; random = m.random } };
 }
 
 // The step of this kind at this node or of this packet.
@@ -64,10 +68,12 @@ impl<H: Handlers, W: Network<H>> Making<H, W> {
         ensures random { result.random ≡ generator seed }
         ensures network { result.network ≡ network }
     {
+        let turns = first_turns(alloc, network.net());
         Making {
             alloc,
             network,
             flights: FlightIndex::new(alloc),
+            turns,
             random: Lcg64Xsh32::new(u64::from(seed), 1),
             handlers: PhantomData,
         }
@@ -116,6 +122,7 @@ impl<H: Handlers, W: Network<H>> Making<H, W> {
             self.alloc,
             &self.network,
             &self.flights,
+            &self.turns,
             drawn,
             words.number,
         )?;
@@ -127,8 +134,11 @@ impl<H: Handlers, W: Network<H>> Making<H, W> {
     fn see(&mut self, step: &Step<H::Input>)
         requires nodes { (W.system self.old.network).meaning.nodes ≤ MAX_NODES }
         requires within { IsWithin (W.system self.old.network).meaning.nodes self.old.flights step.now }
+        requires turn { IsInTurn self.old.turns step.now }
         ensures seen { (ss : List (SpecStep H.Input)) → W.follows self.old.network ss
             → self.new.flights ≡ seen (world_of (W.system self.old.network) ss) step.now self.old.flights }
+        ensures in_order { (ss : List (SpecStep H.Input)) → W.follows self.old.network ss
+            → self.new.turns ≡ seen_in_order (world_of (W.system self.old.network) ss) step.now self.old.turns }
         ensures network { self.new.network ≡ self.old.network }
         ensures random { self.new.random ≡ self.old.random }
     {
@@ -136,6 +146,7 @@ impl<H: Handlers, W: Network<H>> Making<H, W> {
             Step::Deliver(k) | Step::Lose(k) => {
                 if self.network.copies(*k) == 0 {
                     self.flights.gone(*k);
+                    leave(&mut self.turns, *k);
                 }
             }
             Step::Crash(n) => self.set_up(*n, false),
@@ -162,10 +173,15 @@ impl<H: Handlers, W: Network<H>> Making<H, W> {
         requires nodes { (W.system self.old.network).meaning.nodes ≤ MAX_NODES }
         requires followed { HasFollowed W.follows self.old.network }
         requires before { length self.old.flights.packets ≡ before }
+        requires turns { IfSome self.old.turns (λ ps. length ps ≡ before) }
         ensures packets { OnOk result ((ss : List (SpecStep H.Input)) → W.follows self.old.network ss
             → AreInFlightFrom before (world_of (W.system self.old.network) ss).packets
             → self.old.flights.packets ≡ take before (flights_of (world_of (W.system self.old.network) ss).packets)
             → self.new.flights.packets ≡ flights_of (world_of (W.system self.old.network) ss).packets) }
+        ensures in_order { OnOk result ((net : Net) (ss : List (SpecStep H.Input)) → W.follows self.old.network ss
+            → AreInFlightFrom before (world_of (W.system self.old.network) ss).packets
+            → self.old.turns ≡ turns_of net (take before (world_of (W.system self.old.network) ss).packets)
+            → self.new.turns ≡ turns_of net (world_of (W.system self.old.network) ss).packets) }
         ensures within { OnOk result (list_all is_within self.old.flights.packets ≡ true
             → list_all is_within self.new.flights.packets ≡ true) }
         ensures up { self.new.flights.up ≡ self.old.flights.up }
@@ -175,6 +191,7 @@ impl<H: Handlers, W: Network<H>> Making<H, W> {
         for k in before..self.network.sent() {
             if let Some(ends) = self.network.ends(k) {
                 self.flights.sent(ends.1)?;
+                join(&mut self.turns, ends)?;
             }
         }
         Ok(())

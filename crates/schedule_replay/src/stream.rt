@@ -11,32 +11,38 @@ use stacks::{OnStack, StackCode, headers_have_stacks, on_stack};
 use std::alloc::Global;
 use vst_base::StackId;
 
-// Replays what stands after a header.
+// Replays what stands after a header, which the reader has read.
 #[derive(Drop)]
 struct Replaying {
     alloc: Global,
+    reader: Reader,
 }
 
-impl<S: Source, K: Sink> OnStack<Reader, S, K> for Replaying {
+impl<S: Source, K: Sink> OnStack<S, K> for Replaying {
     type Said = Result<Done, ReplayFault>;
 
-    ghost ready = { λ _ _ _ _ _. Unit {0} };
+    ghost ready = { λ _ _ _ _. Unit {0} };
 
-    ghost Does = { λ _ a r s k r' s' k' result. ReplaysRest a.plays.play r (S.left s) (S.left s') (S.faults s) (S.faults s') (K.written k)
+    ghost Does = { λ c a s k s' k' result. ReplaysRest a.plays.play c.reader (S.left s) (S.left s') (S.faults s) (S.faults s') (K.written k)
         (K.written k') (K.faults k) (K.faults k') (K.wants k) (K.wants k') result };
 
     fn on<C: StackCode>(
         self,
         stack: StackId,
         nodes: u8,
-        reader: &mut Reader,
         source: &mut S,
         sink: &mut K,
     ) -> Result<Done, ReplayFault> {
+        let Replaying { alloc, mut reader } = self;
         let below = C::below(nodes);
-        let running = C::start(self.alloc, stack, nodes)?;
+        let running = C::start(alloc, stack, nodes)?;
         replay_rest::<C::Running, C::Text, C::Line, S, K>(
-            self.alloc, running, below, reader, source, sink,
+            alloc,
+            running,
+            below,
+            &mut reader,
+            source,
+            sink,
         )
     }
 }
@@ -67,5 +73,5 @@ pub fn replay<S: Source, K: Sink>(
         Err(fault) => return Err(replay_fault(fault)),
     };
     headers_have_stacks();
-    on_stack(&header, Replaying { alloc }, &mut reader, source, sink)
+    on_stack(&header, Replaying { alloc, reader }, source, sink)
 }

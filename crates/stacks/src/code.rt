@@ -117,25 +117,18 @@ pub trait StackCode: Judged {
 }
 
 /// What a command does on the code of any stack, with what is lent to it.
-pub trait OnStack<A, B, C> {
+pub trait OnStack<A, B> {
     type Said;
 
     /// When it may do that.
-    ghost ready: { Self → AnyStack → A → B → C → Type 0 };
+    ghost ready: { Self → AnyStack → A → B → Type 0 };
 
     /// What it makes of what is lent to it, and what it says.
-    ghost Does: { Self → AnyStack → A → B → C → A → B → C → Self.Said → Type 0 };
+    ghost Does: { Self → AnyStack → A → B → A → B → Self.Said → Type 0 };
 
     /// Does it on the stack of this name and of so many nodes.
-    fn on<S: StackCode>(
-        self,
-        stack: StackId,
-        nodes: u8,
-        a: &mut A,
-        b: &mut B,
-        c: &mut C,
-    ) -> Self::Said
-        requires ready { ready self (any_stack (S.play nodes) S.Explains S.claimed (S.made nodes)) a.old b.old c.old }
+    fn on<S: StackCode>(self, stack: StackId, nodes: u8, a: &mut A, b: &mut B) -> Self::Said
+        requires ready { ready self (any_stack (S.play nodes) S.Explains S.claimed (S.made nodes)) a.old b.old }
         requires stack { S.ready stack nodes }
-        ensures { Does self (any_stack (S.play nodes) S.Explains S.claimed (S.made nodes)) a.old b.old c.old a.new b.new c.new result };
+        ensures { Does self (any_stack (S.play nodes) S.Explains S.claimed (S.made nodes)) a.old b.old a.new b.new result };
 }

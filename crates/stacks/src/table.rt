@@ -68,28 +68,27 @@ impl Application for TableMachine {
 }
 
 /// Does a command on the code of a header's stack, with what is lent to it: the only way from a header to that code.
-pub fn on_stack<A, B, C, V: OnStack<A, B, C>>(
+pub fn on_stack<A, B, V: OnStack<A, B>>(
     header: &Header,
     command: V,
     a: &mut A,
     b: &mut B,
-    c: &mut C,
 ) -> V::Said
     requires known { IsHeader header.now }
-    requires ready { IfFound (stack_at header.now) (λ s. V.ready command s a.old b.old c.old) }
-    ensures { IfFound (stack_at header.now) (λ s. V.Does command s a.old b.old c.old a.new b.new c.new result) }
+    requires ready { IfFound (stack_at header.now) (λ s. V.ready command s a.old b.old) }
+    ensures { IfFound (stack_at header.now) (λ s. V.Does command s a.old b.old a.new b.new result) }
 {
     headers_follow_the_rows();
     let (i, n) = (header.stack, header.nodes);
     match i {
-        StackId::Lock => command.on::<Steady<Own<LockServer>>>(i, n, a, b, c),
-        StackId::LockSeq => command.on::<Steady<Numbered<Own<LockServer>>>>(i, n, a, b, c),
-        StackId::KvPb => command.on::<Steady<Backed<KvMachine>>>(i, n, a, b, c),
-        StackId::KvPbSeq => command.on::<Steady<Numbered<Backed<KvMachine>>>>(i, n, a, b, c),
-        StackId::KvRaft => command.on::<Clustered<KvMachine>>(i, n, a, b, c),
-        StackId::TablePbSeq => command.on::<Steady<Numbered<Backed<TableMachine>>>>(i, n, a, b, c),
-        StackId::TableRaft => command.on::<Clustered<TableMachine>>(i, n, a, b, c),
-        StackId::Kv => command.on::<Alone<KvMachine>>(i, n, a, b, c),
-        StackId::Table => command.on::<Alone<TableMachine>>(i, n, a, b, c),
+        StackId::Lock => command.on::<Steady<Own<LockServer>>>(i, n, a, b),
+        StackId::LockSeq => command.on::<Steady<Numbered<Own<LockServer>>>>(i, n, a, b),
+        StackId::KvPb => command.on::<Steady<Backed<KvMachine>>>(i, n, a, b),
+        StackId::KvPbSeq => command.on::<Steady<Numbered<Backed<KvMachine>>>>(i, n, a, b),
+        StackId::KvRaft => command.on::<Clustered<KvMachine>>(i, n, a, b),
+        StackId::TablePbSeq => command.on::<Steady<Numbered<Backed<TableMachine>>>>(i, n, a, b),
+        StackId::TableRaft => command.on::<Clustered<TableMachine>>(i, n, a, b),
+        StackId::Kv => command.on::<Alone<KvMachine>>(i, n, a, b),
+        StackId::Table => command.on::<Alone<TableMachine>>(i, n, a, b),
     }
 }

@@ -19,12 +19,12 @@ struct Checking {
     nodes: u8,
 }
 
-impl<S: Source> OnStack<S, (), ()> for Checking {
+impl<S: Source> OnStack<S, ()> for Checking {
     type Said = Result<Verdict, CheckFault>;
 
-    ghost ready = { λ _ _ _ _ _. Unit {0} };
+    ghost ready = { λ _ _ _ _. Unit {0} };
 
-    ghost Does = { λ c a s _ _ s' _ _ result.
+    ghost Does = { λ c a s _ s' _ result.
         ChecksText c.nodes a.plays.play a.claimed (S.left s) (S.left s') (S.faults s) (S.faults s') result };
 
     fn on<C: StackCode>(
@@ -32,7 +32,6 @@ impl<S: Source> OnStack<S, (), ()> for Checking {
         _: StackId,
         nodes: u8,
         source: &mut S,
-        _: &mut (),
         _: &mut (),
     ) -> Result<Verdict, CheckFault> {
         let below = C::below(nodes).map(|header| header.stack);
@@ -65,5 +64,5 @@ pub fn check<S: Source>(
         stack,
         nodes,
     };
-    on_stack(&header, Checking { alloc, nodes }, source, &mut (), &mut ())
+    on_stack(&header, Checking { alloc, nodes }, source, &mut ())
 }

@@ -1,6 +1,6 @@
 -- More items are seen.
 use Rattle.std.specs.Prelude.{◌≡◌, ℕ, Bool, true, false, ◌==◌, ◌+◌, ◌^◌, ◌<◌, length, List, [], ◌∷◌, ◌++◌, take, min, refl, if◌then◌else◌}
-use Rattle.std.proofs.Common.{ap, sym, subst, ◌∙◌, arith}
+use Rattle.std.proofs.Common.{ap, sym, ◌∙◌, arith}
 use Rattle.std.proofs.lemmas.Bool.{eqb-true, false_from_ne_true}
 use Rattle.std.proofs.lemmas.List.{append-nil, map-append, take-map, take_min}
 use Rattle.vst_base.specs.declared.pb_out.PbOut.{PbOut}

@@ -68,16 +68,16 @@ slot_on_areas : {C : Type 0} (s : StackId) (f : Format C) (who : Who) (selector 
 slot_on_areas s f who selector (Err why) = tt
 slot_on_areas s f who selector (Ok slot) = renewing_on_areas s f who selector slot.version slot.journal.kept
 
-by_selector_on_areas : {C D : Type 0} (s : StackId) (f : Format C) (t : StackId) (g : Format D) (who : Who) (image : Image) (selector : List ℕ) →
-    Each OnAreas (acts_by_selector s f t g who image selector)
-by_selector_on_areas s f t g who image [] = (tt, (tt, (tt, (tt, (tt, (tt, (tt, (tt, tt))))))))
-by_selector_on_areas s f t g who image (selector ∷ []) =
-    slot_on_areas s f who selector (slot_found s f t g who (area_at image (named selector)))
-by_selector_on_areas s f t g who image (a ∷ b ∷ rest) = tt
+by_selector_on_areas : {C : Type 0} (s : StackId) (f : Format C) (who : Who) (image : Image) (selector : List ℕ) →
+    Each OnAreas (acts_by_selector s f who image selector)
+by_selector_on_areas s f who image [] = (tt, (tt, (tt, (tt, (tt, (tt, (tt, (tt, tt))))))))
+by_selector_on_areas s f who image (selector ∷ []) =
+    slot_on_areas s f who selector (slot_found s f who (area_at image (named selector)))
+by_selector_on_areas s f who image (a ∷ b ∷ rest) = tt
 
-opening_on_areas : {C D : Type 0} (s : StackId) (f : Format C) (t : StackId) (g : Format D) (who : Who) (image : Image) →
-    Each OnAreas (opening_acts s f t g who image)
-opening_on_areas s f t g who image = (tt, (tt, (tt, by_selector_on_areas s f t g who image image.selector)))
+opening_on_areas : {C : Type 0} (s : StackId) (f : Format C) (who : Who) (image : Image) →
+    Each OnAreas (opening_acts s f who image)
+opening_on_areas s f who image = (tt, (tt, (tt, by_selector_on_areas s f who image image.selector)))
 
 -- going on
 
@@ -136,44 +136,44 @@ heard_tells settings f wait a b (Err e) p q =
 
 -- an event's acts
 
-module _ {S C O D : Type 0} (s : StackId) (config : Config) (m : MachineMeaning S C O) (f : Format C) (g : Format O) (t : StackId) (h : Format D)
+module _ {S C O : Type 0} (s : StackId) (config : Config) (m : MachineMeaning S C O) (f : Format C) (g : Format O)
     (replica : Replica S C O) (event : Event C) where
-  quiet_said : (said : List Act) (before now : Told) → SavedAndSaid s config m f g t h replica event said before now → nows_in now.acts ≤ nows_in before.acts + 0
+  quiet_said : (said : List Act) (before now : Told) → SavedAndSaid s config m f g replica event said before now → nows_in now.acts ≤ nows_in before.acts + 0
   quiet_said said before now x =
-      let first = saves s config m f g t h replica event in
+      let first = saves s config m f g replica event in
       let saved = quiet_after before (told_after before first) first refl (none_on_areas first (save_on_areas s f replica.store _)) in
       omega (arith, saved, quiet_after (told_after before first) now said x.is (none_said said x.only))
 
-  quiet_part : (before now : Told) → ActedInPart s config m f g t h replica event before now → nows_in now.acts ≤ nows_in before.acts + 0
+  quiet_part : (before now : Told) → ActedInPart s config m f g replica event before now → nows_in now.acts ≤ nows_in before.acts + 0
   quiet_part before now (inl same) = omega (arith, ap (λ (told : Told). nows_in told.acts) same)
   quiet_part before now (inr (inl x)) =
       quiet_did before now x.did x.acts
-      (none_stored x.did (short_stores (saves s config m f g t h replica event) x.did (save_on_areas s f replica.store _) x.short))
+      (none_stored x.did (short_stores (saves s config m f g replica event) x.did (save_on_areas s f replica.store _) x.short))
   quiet_part before now (inr (inr x)) = quiet_said x.said before now x.acts
 
-  pub acted_tells : {T E : Type 0} (a b : Option Told) (r : Result T E) → OnOk r (WhereTold a b (Acted s config m f g t h replica event)) →
-      OnErr r (WhereTold a b (ActedInPart s config m f g t h replica event)) → TellsOn 0 a b
-  acted_tells a b (Ok x) p q = quiet_where (Acted s config m f g t h replica event) a b p (λ before now x. quiet_said x.said before now x.acts)
-  acted_tells a b (Err e) p q = quiet_where (ActedInPart s config m f g t h replica event) a b q quiet_part
+  pub acted_tells : {T E : Type 0} (a b : Option Told) (r : Result T E) → OnOk r (WhereTold a b (Acted s config m f g replica event)) →
+      OnErr r (WhereTold a b (ActedInPart s config m f g replica event)) → TellsOn 0 a b
+  acted_tells a b (Ok x) p q = quiet_where (Acted s config m f g replica event) a b p (λ before now x. quiet_said x.said before now x.acts)
+  acted_tells a b (Err e) p q = quiet_where (ActedInPart s config m f g replica event) a b q quiet_part
 
 -- an opening
 
-module _ {C D : Type 0} (s : StackId) (config : Config) (f : Format C) (t : StackId) (h : Format D) where
-  on_areas : (before : Told) → Each OnAreas (opening_of s config f t h before)
-  on_areas before = opening_on_areas s f t h (who_of config) (contents before.disk)
+module _ {C : Type 0} (s : StackId) (config : Config) (f : Format C) where
+  on_areas : (before : Told) → Each OnAreas (opening_of s config f before)
+  on_areas before = opening_on_areas s f (who_of config) (contents before.disk)
 
-  quiet_opened : (store : StoreView) (kept : KeptView C) (before now : Told) → HasOpened s config f t h store kept before now →
+  quiet_opened : (store : StoreView) (kept : KeptView C) (before now : Told) → HasOpened s config f store kept before now →
       nows_in now.acts ≤ nows_in before.acts + 0
-  quiet_opened store kept before now x = quiet_after before now (opening_of s config f t h before) x.is (none_on_areas (opening_of s config f t h before) (on_areas before))
+  quiet_opened store kept before now x = quiet_after before now (opening_of s config f before) x.is (none_on_areas (opening_of s config f before) (on_areas before))
 
-  quiet_ended : (e : NodeFault) (before now : Told) → OpeningEnds s config f t h e before now → nows_in now.acts ≤ nows_in before.acts + 0
+  quiet_ended : (e : NodeFault) (before now : Told) → OpeningEnds s config f e before now → nows_in now.acts ≤ nows_in before.acts + 0
   quiet_ended (fault.Refused why) before now x = quiet_after before now sync_acts x.is refl
   quiet_ended fault.Receive before now x = absurd x
-  quiet_ended fault.Store before now x = quiet_cut before now (opening_of s config f t h before) (on_areas before) x.stopped
-  quiet_ended fault.Memory before now x = quiet_cut before now (opening_of s config f t h before) (on_areas before) x.stopped
+  quiet_ended fault.Store before now x = quiet_cut before now (opening_of s config f before) (on_areas before) x.stopped
+  quiet_ended fault.Memory before now x = quiet_cut before now (opening_of s config f before) (on_areas before) x.stopped
 
-  pub opened_tells : (store : StoreView) (kept : KeptView C) (a b : Option Told) → WhereTold a b (HasOpened s config f t h store kept) → TellsOn 0 a b
-  opened_tells store kept a b p = quiet_where (HasOpened s config f t h store kept) a b p (quiet_opened store kept)
+  pub opened_tells : (store : StoreView) (kept : KeptView C) (a b : Option Told) → WhereTold a b (HasOpened s config f store kept) → TellsOn 0 a b
+  opened_tells store kept a b p = quiet_where (HasOpened s config f store kept) a b p (quiet_opened store kept)
 
-  pub ended_tells : (e : NodeFault) (a b : Option Told) → WhereTold a b (OpeningEnds s config f t h e) → TellsOn 0 a b
-  ended_tells e a b p = quiet_where (OpeningEnds s config f t h e) a b p (quiet_ended e)
+  pub ended_tells : (e : NodeFault) (a b : Option Told) → WhereTold a b (OpeningEnds s config f e) → TellsOn 0 a b
+  ended_tells e a b p = quiet_where (OpeningEnds s config f e) a b p (quiet_ended e)

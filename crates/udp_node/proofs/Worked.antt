@@ -11,7 +11,6 @@ use Rattle.vst_base.specs.declared.stack.StackId.TheVariants as stack
 use Rattle.wire_fields.specs.Bytes.{has_bytes, number_bytes, number_in, read_number}
 use Rattle.wire_messages.specs.KvByteLaws.{kv_command_is_format}
 use Rattle.wire_messages.specs.KvBytes.{kv_command, kv_output}
-use Rattle.wire_messages.specs.TableBytes.{table_command}
 use Rattle.node_body.specs.Bodies.{body, body_of}
 use Rattle.node_body.specs.CommandLengths.{kv_length}
 use Rattle.node_acts.specs.StateActs.{first_kept}
@@ -39,26 +38,26 @@ first_fits : (body stack.KvRaft kv_command).Fits (body_of (who_of config) (first
 unfolding number_bytes number_in has_bytes read_number
 first_fits = search rules
 
-pub fits : OpeningFits stack.KvRaft kv_command stack.TableRaft table_command (who_of config) begun.disk
+pub fits : OpeningFits stack.KvRaft kv_command (who_of config) begun.disk
 fits = record { first = λ e. first_fits; renewed = λ selector found is e one. absurd (cc is) }
 
 abbrev pub opened : Told
 opened = told_after begun (opens_by begun)
 
-pub held : Holds stack.KvRaft kv_command stack.TableRaft table_command known first opened.disk
+pub held : Holds stack.KvRaft kv_command known first opened.disk
 unfolding number_bytes
-held = fresh_is_held stack.KvRaft kv_command stack.TableRaft table_command kv_command_is_format kv_length (who_of config) begun.disk refl first_fits
+held = fresh_is_held stack.KvRaft kv_command kv_command_is_format kv_length (who_of config) begun.disk refl first_fits
 
-leaves : LeavesFound stack.KvRaft kv_command stack.TableRaft table_command (who_of config) begun opened
+leaves : LeavesFound stack.KvRaft kv_command (who_of config) begun opened
 leaves = record {
   did = opens_by begun;
   acts = refl;
   each = λ n image m third.
-      opening_leaves stack.KvRaft kv_command stack.TableRaft table_command kv_command_is_format kv_length (who_of config) begun.disk
+      opening_leaves stack.KvRaft kv_command kv_command_is_format kv_length (who_of config) begun.disk
       (take n (opens_by begun)) image (fronts_are_cut_short (opens_by begun) (opens_by begun) n (whole (opens_by begun))) fits m third;
 }
 
-pub has_opened : HasOpened stack.KvRaft config kv_command stack.TableRaft table_command known first begun opened
+pub has_opened : HasOpened stack.KvRaft config kv_command known first begun opened
 has_opened = record { who = refl; holds = held; from = refl; is = refl; leaves = leaves }
 
 -- the node after its first clock value, and after its vote
@@ -66,18 +65,18 @@ abbrev pub booted : Replica Store KvCmd KvOut
 booted = starting config kv known first 0
 
 abbrev pub voter : Replica Store KvCmd KvOut
-voter = next_replica stack.KvRaft config kv kv_command kv_output stack.TableRaft table_command booted (candidate 1 1)
+voter = next_replica stack.KvRaft config kv kv_command kv_output booted (candidate 1 1)
 
 abbrev pub started_at : Told
 started_at = told_after opened (Now 0 ∷ [])
 
-abbrev pub started : Served stack.KvRaft config kv kv_command kv_output stack.TableRaft table_command 0 booted begun started_at
+abbrev pub started : Served stack.KvRaft config kv kv_command kv_output 0 booted begun started_at
 started = record {
   kept = first;
   store = known;
   opened = opened;
   opening = has_opened;
-  turns = first_goes (settings_of config) kv stack.KvRaft kv_command stack.TableRaft table_command kv_output (who_of config) first known 0
+  turns = first_goes (settings_of config) kv stack.KvRaft kv_command kv_output (who_of config) first known 0
       opened held refl;
 }
 
@@ -114,9 +113,9 @@ has : is_held known voted ≡ false → HasBytes stack.KvRaft kv_command known v
 unfolding number_bytes number_in has_bytes read_number
 has e = search rules
 
-saved : StateSaved stack.KvRaft kv_command stack.TableRaft table_command known first voted opened.disk
+saved : StateSaved stack.KvRaft kv_command known first voted opened.disk
 saved =
-    save_keeps_state stack.KvRaft kv_command stack.TableRaft table_command kv_command_is_format kv_length known first voted opened.disk held
+    save_keeps_state stack.KvRaft kv_command kv_command_is_format kv_length known first voted opened.disk held
     refl has
 
 abbrev pub after_one : Told
@@ -128,31 +127,31 @@ after_two = told_after after_one of_a_stranger
 abbrev pub after_three : Told
 after_three = told_after begun (fresh_opening ++ voting)
 
-pub first_turn : Went stack.KvRaft config kv kv_command kv_output stack.TableRaft table_command booted 1 booted started_at after_one
+pub first_turn : Went stack.KvRaft config kv kv_command kv_output booted 1 booted started_at after_one
 first_turn =
-    quiet_goes (settings_of config) kv stack.KvRaft kv_command stack.TableRaft table_command kv_output (who_of config)
+    quiet_goes (settings_of config) kv stack.KvRaft kv_command kv_output (who_of config)
     (Between (view_of booted)) first known 1 (view_of booted) no_datagram started_at hears_none held refl
 
-pub second_turn : Went stack.KvRaft config kv kv_command kv_output stack.TableRaft table_command booted 1 booted after_one after_two
+pub second_turn : Went stack.KvRaft config kv kv_command kv_output booted 1 booted after_one after_two
 second_turn =
-    quiet_goes (settings_of config) kv stack.KvRaft kv_command stack.TableRaft table_command kv_output (who_of config)
+    quiet_goes (settings_of config) kv stack.KvRaft kv_command kv_output (who_of config)
     (Between (view_of booted)) first known 1 (view_of booted) of_a_stranger after_one hears_stranger held refl
 
-pub third_turn : Went stack.KvRaft config kv kv_command kv_output stack.TableRaft table_command booted 1 voter after_two after_three
+pub third_turn : Went stack.KvRaft config kv kv_command kv_output booted 1 voter after_two after_three
 unfolding number_bytes number_in has_bytes read_number
 third_turn =
-    event_goes (settings_of config) kv stack.KvRaft kv_command stack.TableRaft table_command kv_output (who_of config)
+    event_goes (settings_of config) kv stack.KvRaft kv_command kv_output (who_of config)
     (Between (view_of booted)) first known 1 (view_of voter) vote asked (answered ∷ []) after_two after_three refl hears_vote held refl saved
     (tt, tt) refl refl
 
-pub all_turns : Served stack.KvRaft config kv kv_command kv_output stack.TableRaft table_command 3 voter begun after_three
+pub all_turns : Served stack.KvRaft config kv kv_command kv_output 3 voter begun after_three
 unfolding number_bytes number_in has_bytes read_number
 all_turns = record {
   kept = first;
   store = known;
   opened = opened;
   opening = has_opened;
-  turns = event_goes (settings_of config) kv stack.KvRaft kv_command stack.TableRaft table_command kv_output (who_of config) (Starting first)
+  turns = event_goes (settings_of config) kv stack.KvRaft kv_command kv_output (who_of config) (Starting first)
       first known 3 (view_of voter) vote three_turns (answered ∷ []) opened after_three refl hears_all held refl saved (tt, tt) refl refl;
 }
 
@@ -174,15 +173,15 @@ record_is count rest x =
     x.all.turns.record_is)
 
 pub leaves_is : (count : ℕ) (rest : List Act) (x : serves count (fresh_opening ++ rest)) →
-    LeavesSaved (settings_of config) kv kv_command kv_output (found_by stack.KvRaft kv_command stack.TableRaft table_command (who_of config))
+    LeavesSaved (settings_of config) kv kv_command kv_output (found_by stack.KvRaft kv_command (who_of config))
     (Starting first) first x.all.store opened.disk rest
 leaves_is count rest x =
     subst (λ (kept : KeptView KvCmd). LeavesSaved (settings_of config) kv kv_command kv_output
-    (found_by stack.KvRaft kv_command stack.TableRaft table_command (who_of config)) (Starting kept) kept x.all.store opened.disk rest)
+    (found_by stack.KvRaft kv_command (who_of config)) (Starting kept) kept x.all.store opened.disk rest)
     x.all.opening.from
     (subst (λ acts. LeavesSaved (settings_of config) kv kv_command kv_output
-    (found_by stack.KvRaft kv_command stack.TableRaft table_command (who_of config)) (Starting x.all.kept) x.all.kept x.all.store opened.disk acts)
+    (found_by stack.KvRaft kv_command (who_of config)) (Starting x.all.kept) x.all.kept x.all.store opened.disk acts)
     (did_is count rest x)
     (subst (λ (told : Told). LeavesSaved (settings_of config) kv kv_command kv_output
-    (found_by stack.KvRaft kv_command stack.TableRaft table_command (who_of config)) (Starting x.all.kept) x.all.kept x.all.store told.disk
+    (found_by stack.KvRaft kv_command (who_of config)) (Starting x.all.kept) x.all.kept x.all.store told.disk
     x.all.turns.did) x.all.opening.is x.all.turns.leaves))

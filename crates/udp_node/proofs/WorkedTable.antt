@@ -10,7 +10,6 @@ use Rattle.raft_types.specs.Messages.{KeptView}
 use Rattle.raft_types.specs.declared.msg.RaftMsg.TheVariants as msg
 use Rattle.vst_base.specs.declared.stack.StackId.TheVariants as stack
 use Rattle.wire_fields.specs.Bytes.{has_bytes, number_bytes, number_in, read_number}
-use Rattle.wire_messages.specs.KvBytes.{kv_command}
 use Rattle.wire_messages.specs.TableByteLaws.{table_command_is_format}
 use Rattle.wire_messages.specs.TableBytes.{table_command, table_output}
 use Rattle.node_body.specs.Bodies.{body, body_of, kept_as}
@@ -54,29 +53,29 @@ first_fits : (body stack.TableRaft table_command).Fits (body_of who first)
 unfolding number_bytes number_in has_bytes read_number
 first_fits = search rules
 
-fits : OpeningFits stack.TableRaft table_command stack.KvRaft kv_command who begun.disk
+fits : OpeningFits stack.TableRaft table_command who begun.disk
 fits = record { first = λ e. first_fits; renewed = λ selector found is e one. absurd (cc is) }
 
 abbrev pub opens : List Act
-opens = opening_of stack.TableRaft table_config table_command stack.KvRaft kv_command begun
+opens = opening_of stack.TableRaft table_config table_command begun
 
 abbrev pub opened : Told
 opened = told_after begun opens
 
-held : Holds stack.TableRaft table_command stack.KvRaft kv_command known first opened.disk
+held : Holds stack.TableRaft table_command known first opened.disk
 unfolding number_bytes
-held = fresh_is_held stack.TableRaft table_command stack.KvRaft kv_command table_command_is_format table_length who begun.disk refl first_fits
+held = fresh_is_held stack.TableRaft table_command table_command_is_format table_length who begun.disk refl first_fits
 
-leaves : LeavesFound stack.TableRaft table_command stack.KvRaft kv_command who begun opened
+leaves : LeavesFound stack.TableRaft table_command who begun opened
 leaves = record {
   did = opens;
   acts = refl;
   each = λ n image m third.
-      opening_leaves stack.TableRaft table_command stack.KvRaft kv_command table_command_is_format table_length who begun.disk
+      opening_leaves stack.TableRaft table_command table_command_is_format table_length who begun.disk
       (take n opens) image (fronts_are_cut_short opens opens n (whole opens)) fits m third;
 }
 
-has_opened : HasOpened stack.TableRaft table_config table_command stack.KvRaft kv_command known first begun opened
+has_opened : HasOpened stack.TableRaft table_config table_command known first begun opened
 has_opened = record { who = refl; holds = held; from = refl; is = refl; leaves = leaves }
 
 -- the node after its first clock value, and after its vote
@@ -87,18 +86,18 @@ abbrev pub candidate : Event TableCmd
 candidate = Peer 1 (msg.RequestVote (record { term = 1; last_index = 0; last_term = 0 }))
 
 abbrev pub voter : Replica Holders TableCmd TableOut
-voter = next_replica stack.TableRaft table_config table table_command table_output stack.KvRaft kv_command booted candidate
+voter = next_replica stack.TableRaft table_config table table_command table_output booted candidate
 
 abbrev pub started_at : Told
 started_at = told_after opened (Now 0 ∷ [])
 
-started : Served stack.TableRaft table_config table table_command table_output stack.KvRaft kv_command 0 booted begun started_at
+started : Served stack.TableRaft table_config table table_command table_output 0 booted begun started_at
 started = record {
   kept = first;
   store = known;
   opened = opened;
   opening = has_opened;
-  turns = first_goes (settings_of table_config) table stack.TableRaft table_command stack.KvRaft kv_command table_output who first known 0
+  turns = first_goes (settings_of table_config) table stack.TableRaft table_command table_output who first known 0
       opened held refl;
 }
 
@@ -119,33 +118,33 @@ has : is_held known voted ≡ false → HasBytes stack.TableRaft table_command k
 unfolding number_bytes number_in has_bytes read_number
 has e = search rules
 
-saved : StateSaved stack.TableRaft table_command stack.KvRaft kv_command known first voted opened.disk
+saved : StateSaved stack.TableRaft table_command known first voted opened.disk
 saved =
-    save_keeps_state stack.TableRaft table_command stack.KvRaft kv_command table_command_is_format table_length known first voted opened.disk
+    save_keeps_state stack.TableRaft table_command table_command_is_format table_length known first voted opened.disk
     held refl has
 
 abbrev pub after_one : Told
 after_one = told_after begun (table_opening ++ table_voting)
 
-the_turn : Went stack.TableRaft table_config table table_command table_output stack.KvRaft kv_command booted 1 voter started_at after_one
+the_turn : Went stack.TableRaft table_config table table_command table_output booted 1 voter started_at after_one
 unfolding number_bytes number_in has_bytes read_number
 the_turn =
-    event_goes (settings_of table_config) table stack.TableRaft table_command stack.KvRaft kv_command table_output who
+    event_goes (settings_of table_config) table stack.TableRaft table_command table_output who
     (Between (view_of booted)) first known 1 (view_of voter) vote (drop 1 table_turn) (table_answered ∷ []) started_at after_one refl
     hears_vote held refl saved (tt, tt) refl refl
 
-all_turns : Served stack.TableRaft table_config table table_command table_output stack.KvRaft kv_command 1 voter begun after_one
+all_turns : Served stack.TableRaft table_config table table_command table_output 1 voter begun after_one
 unfolding number_bytes number_in has_bytes read_number
 all_turns = record {
   kept = first;
   store = known;
   opened = opened;
   opening = has_opened;
-  turns = event_goes (settings_of table_config) table stack.TableRaft table_command stack.KvRaft kv_command table_output who (Starting first)
+  turns = event_goes (settings_of table_config) table stack.TableRaft table_command table_output who (Starting first)
       first known 1 (view_of voter) vote table_turn (table_answered ∷ []) opened after_one refl hears_all held refl saved (tt, tt) refl refl;
 }
 
-pub serves : HasServed stack.TableRaft table_config table table_command table_output stack.KvRaft kv_command 1 begun after_one
+pub serves : HasServed stack.TableRaft table_config table table_command table_output 1 begun after_one
 serves = record {
   first = booted;
   begun = started_at;

@@ -21,9 +21,7 @@ use Rattle.wire_fields.specs.Formats.{Format}
 use Rattle.lists.specs.Each.{Each}
 use Rattle.lists.specs.Prefixes.{IsPrefix}
 
--- `t` and `h` are the other stack and the format of its commands.
-module _ {S C O D : Type 0} (s : StackId) (config : Config) (m : MachineMeaning S C O) (f : Format C) (g : Format O) (t : StackId)
-    (h : Format D) (replica : Replica S C O) (event : Event C) where
+module _ {S C O : Type 0} (s : StackId) (config : Config) (m : MachineMeaning S C O) (f : Format C) (g : Format O) (replica : Replica S C O) (event : Event C) where
   -- what it keeps after the event
   abbrev pub kept_then : KeptView C
   kept_then = kept_of (after_event config m f g replica event).state
@@ -43,7 +41,7 @@ module _ {S C O D : Type 0} (s : StackId) (config : Config) (m : MachineMeaning 
   -- The acts were the save, and then some by which this was said.
   pub record SavedAndSaid (said : List Act) (before now : Told) : Type 0 where
     pub is : now ≡ told_after (told_after before saves) said
-    pub saved : StateSaved s f t h replica.store (kept_of replica.state) kept_then before.disk
+    pub saved : StateSaved s f replica.store (kept_of replica.state) kept_then before.disk
     pub only : Each Says said
 
   pub record Acted (before now : Told) : Type 0 where
@@ -57,8 +55,8 @@ module _ {S C O D : Type 0} (s : StackId) (config : Config) (m : MachineMeaning 
     pub acts : now.acts ≡ before.acts ++ did
     pub short : IsCutShort saves did
     pub either : (n : ℕ) (image : Image) → may_leave before.disk (take n did) image ≡ true →
-        OpensAs (found_by s f t h (who_of config)) (kept_of replica.state) image
-        ⊎ OpensAs (found_by s f t h (who_of config)) kept_then image
+        OpensAs (found_by s f (who_of config)) (kept_of replica.state) image
+        ⊎ OpensAs (found_by s f (who_of config)) kept_then image
 
   -- all was saved, and a front of it was said
   pub record SaidInPart (before now : Told) : Type 0 where

@@ -7,7 +7,6 @@ use Rattle.raft_types.specs.Messages.{KeptView}
 use Rattle.slots.specs.Opening.{Opening}
 use Rattle.vst_base.specs.declared.stack.StackId.TheVariants as stack
 use Rattle.wire_messages.specs.KvBytes.{kv_command}
-use Rattle.wire_messages.specs.TableBytes.{table_command}
 use Rattle.node_body.specs.Examples.{first_slot, old_first, who_as}
 use Rattle.node_acts.specs.Examples.{three_syncs, whole}
 use Rattle.node_acts.specs.StateLaws.{OpeningFits}
@@ -70,10 +69,10 @@ voting = three_turns ++ (save ++ answered ∷ [])
 
 -- what its areas open as, and the acts of that
 abbrev pub found : Told → Opening (KeptView KvCmd)
-found before = found_in stack.KvRaft config kv_command stack.TableRaft table_command before
+found before = found_in stack.KvRaft config kv_command before
 
 abbrev pub opens_by : Told → List Act
-opens_by before = opening_of stack.KvRaft config kv_command stack.TableRaft table_command before
+opens_by before = opening_of stack.KvRaft config kv_command before
 
 -- it served so many turns, or ended by this fault in its opening or in one of three turns, with these acts
 abbrev pub serves : ℕ → List Act → Type 0
@@ -88,7 +87,7 @@ stopped_with P acts = StoppedWith P (Some begun) (Some (told_after begun acts)) 
 
 -- what a node of a cluster of this name writes as it opens these areas has bytes
 abbrev pub opening_fits : List ℕ → Told → Type 0
-opening_fits name before = OpeningFits stack.KvRaft kv_command stack.TableRaft table_command (who_as 0 3 name) before.disk
+opening_fits name before = OpeningFits stack.KvRaft kv_command (who_as 0 3 name) before.disk
 
 -- what the node knows after this answer of an opening, and what it goes on from
 abbrev pub knows_by : Opened KvCmd → StoreView
@@ -99,4 +98,4 @@ goes_on_from answer = kept_in answer
 
 -- the acts of an opening of these areas, where they are told
 abbrev pub opens_told : Option Told → List Act
-opens_told before = acts_told stack.KvRaft kv_command stack.TableRaft table_command (who_of config) before
+opens_told before = acts_told stack.KvRaft kv_command (who_of config) before

@@ -48,29 +48,28 @@ Meets first (Err fault.Receive) = first ≡ None
 Meets first (Err fault.Store) = Unit {0}
 Meets first (Err fault.Memory) = Unit {0}
 
--- `t` and `h` are the other stack and the format of its commands.
-module _ {C D : Type 0} (s : StackId) (config : Config) (f : Format C) (t : StackId) (h : Format D) where
+module _ {C : Type 0} (s : StackId) (config : Config) (f : Format C) where
   -- the acts of the node's opening
   abbrev pub opening_of : Told → List Act
-  opening_of before = opening_acts s f t h (who_of config) (contents before.disk)
+  opening_of before = opening_acts s f (who_of config) (contents before.disk)
 
   -- what its areas open as
   abbrev pub found_in : Told → Opening (KeptView C)
-  found_in before = opening (found_by s f t h (who_of config)) (contents before.disk)
+  found_in before = opening (found_by s f (who_of config)) (contents before.disk)
 
   -- The areas were opened, and at each moment of that a crash leaves what was found. The node starts from this, which the areas then
   -- hold as it knows.
   pub record HasOpened (store : StoreView) (kept : KeptView C) (before opened : Told) : Type 0 where
     pub who : store.who ≡ who_of config
-    pub holds : Holds s f t h store kept opened.disk
+    pub holds : Holds s f store kept opened.disk
     pub from : StartsFrom (found_in before) kept
     pub is : opened ≡ told_after before (opening_of before)
-    pub leaves : LeavesFound s f t h (who_of config) before opened
+    pub leaves : LeavesFound s f (who_of config) before opened
 
   -- An opening that was cut short: a crash leaves what was found.
   pub record Unopened (before now : Told) : Type 0 where
     pub stopped : StoppedIn (Some before) (Some now) (opening_of before)
-    pub leaves : LeavesFound s f t h (who_of config) before now
+    pub leaves : LeavesFound s f (who_of config) before now
 
   -- Where the areas are refused they were synced, and nothing else was done.
   pub record IsRefused (why : Refusal) (before now : Told) : Type 0 where
@@ -84,16 +83,15 @@ module _ {C D : Type 0} (s : StackId) (config : Config) (f : Format C) (t : Stac
   OpeningEnds fault.Store before now = Unopened before now
   OpeningEnds fault.Memory before now = Unopened before now
 
-module _ {S C O D : Type 0} (s : StackId) (config : Config) (m : MachineMeaning S C O) (f : Format C) (g : Format O) (t : StackId)
-    (h : Format D) where
+module _ {S C O : Type 0} (s : StackId) (config : Config) (m : MachineMeaning S C O) (f : Format C) (g : Format O) where
   -- whole turns of a node, and turns of which the last was cut short
   abbrev pub TurnsGo : Stage S C O → KeptView C → StoreView → ℕ → Replica S C O → Told → Told → Type 0
   TurnsGo stage kept store count next before now =
-      Goes (settings_of config) m s f t h g (who_of config) stage kept store count (view_of next) (kept_of next.state) next.store before now
+      Goes (settings_of config) m s f g (who_of config) stage kept store count (view_of next) (kept_of next.state) next.store before now
 
   abbrev pub TurnsHalt : Stage S C O → KeptView C → StoreView → ℕ → Told → Told → Type 0
   TurnsHalt stage kept store most before now =
-      Halts (settings_of config) m s f t h g (who_of config) stage kept store most before now
+      Halts (settings_of config) m s f g (who_of config) stage kept store most before now
 
   -- the same from a node that stands between two turns
   abbrev pub Went : Replica S C O → ℕ → Replica S C O → Told → Told → Type 0
@@ -113,7 +111,7 @@ module _ {S C O D : Type 0} (s : StackId) (config : Config) (m : MachineMeaning 
     pub kept : KeptView C
     pub store : StoreView
     pub opened : Told
-    pub opening : HasOpened s config f t h store kept before opened
+    pub opening : HasOpened s config f store kept before opened
     pub turns : TurnsGo (Starting kept) kept store count next opened now
 
   -- Its opening and first clock value, then so many turns one after the other; and what they come to together.
@@ -144,7 +142,7 @@ module _ {S C O D : Type 0} (s : StackId) (config : Config) (m : MachineMeaning 
 
   -- How it ends by a fault: in its opening, or in a turn.
   abbrev pub EndsWith : NodeFault → ℕ → Told → Told → Type 0
-  EndsWith (fault.Refused why) most before now = IsRefused s config f t h why before now
+  EndsWith (fault.Refused why) most before now = IsRefused s config f why before now
   EndsWith fault.Receive most before now = Interrupted most before now
-  EndsWith fault.Store most before now = Unopened s config f t h before now ⊎ Interrupted most before now
-  EndsWith fault.Memory most before now = Unopened s config f t h before now ⊎ Interrupted most before now
+  EndsWith fault.Store most before now = Unopened s config f before now ⊎ Interrupted most before now
+  EndsWith fault.Memory most before now = Unopened s config f before now ⊎ Interrupted most before now

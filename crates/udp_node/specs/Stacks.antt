@@ -13,14 +13,14 @@ use Rattle.wire_messages.specs.KvBytes.{kv_command, kv_output}
 use Rattle.wire_messages.specs.TableBytes.{table_command, table_output}
 
 abbrev pub ServedOn : StackId → Config → ℕ → Told → Told → Type 0
-ServedOn stack.TableRaft config = HasServed stack.TableRaft config table table_command table_output stack.KvRaft kv_command
-ServedOn _ config = HasServed stack.KvRaft config kv kv_command kv_output stack.TableRaft table_command
+ServedOn stack.TableRaft config = HasServed stack.TableRaft config table table_command table_output
+ServedOn _ config = HasServed stack.KvRaft config kv kv_command kv_output
 
 abbrev pub EndedOn : StackId → Config → NodeFault → ℕ → Told → Told → Type 0
-EndedOn stack.TableRaft config = EndsWith stack.TableRaft config table table_command table_output stack.KvRaft kv_command
-EndedOn _ config = EndsWith stack.KvRaft config kv kv_command kv_output stack.TableRaft table_command
+EndedOn stack.TableRaft config = EndsWith stack.TableRaft config table table_command table_output
+EndedOn _ config = EndsWith stack.KvRaft config kv kv_command kv_output
 
 -- why its areas are refused, if they are
 abbrev pub refused_areas : StackId → Config → Told → Option Why
-refused_areas stack.TableRaft config before = refusal_in (found_in stack.TableRaft config table_command stack.KvRaft kv_command before)
-refused_areas _ config before = refusal_in (found_in stack.KvRaft config kv_command stack.TableRaft table_command before)
+refused_areas stack.TableRaft config before = refusal_in (found_in stack.TableRaft config table_command before)
+refused_areas _ config before = refusal_in (found_in stack.KvRaft config kv_command before)

@@ -31,13 +31,12 @@ use wire_messages::Wire;
 pub const MAX_TURNS: u32 = 1_000_000_000;
 
 // Opens the areas of a node, and answers what it knows of them and what they hold.
-fn open_areas<D: Device, C: Commands, X: Commands>(
+fn open_areas<D: Device, C: Commands>(
     alloc: Global,
     device: &mut D,
     config: &Config,
 ) -> Result<(Store, Kept<C>), NodeFault>
     requires begun { D.begun device.old ≡ true }
-    requires other { X.stack ≢ C.stack }
     requires fits { Fits config.now.me config.now }
     requires stack { config.now.stack ≡ C.stack }
     ensures of { IfOk result (λ p. IsNodeOf C.stack p.0.who) }
@@ -45,13 +44,13 @@ fn open_areas<D: Device, C: Commands, X: Commands>(
     ensures knows { IfOk result (λ p. Knows p.0 p.1) }
     ensures voted { IfOk result (λ p. VoteAmong p.0.who.nodes p.1.voted) }
     ensures holds { IfOk result (λ p. IfSome (D.told device.new) (λ told.
-        Holds C.stack C.format X.stack X.format p.0 p.1 told.disk)) }
+        Holds C.stack C.format p.0 p.1 told.disk)) }
     ensures opened { IfOk result (λ p. WhereTold (D.told device.old) (D.told device.new)
-        (HasOpened C.stack config.now C.format X.stack X.format p.0 p.1)) }
+        (HasOpened C.stack config.now C.format p.0 p.1)) }
     ensures ended { IfErr result (λ fault. WhereTold (D.told device.old) (D.told device.new)
-        (OpeningEnds C.stack config.now C.format X.stack X.format fault)) }
+        (OpeningEnds C.stack config.now C.format fault)) }
     ensures areas { IfSome (D.told device.old) (λ before.
-        Meets (refusal_in (found_in C.stack config.now C.format X.stack X.format before)) result) }
+        Meets (refusal_in (found_in C.stack config.now C.format before)) result) }
     ensures causes { Counts (D.faults device.old) (D.faults device.new) result }
     ensures begun { D.begun device.new ≡ true }
 {
@@ -61,7 +60,7 @@ fn open_areas<D: Device, C: Commands, X: Commands>(
         nodes: config.peers.as_slice().len() as u8,
         name: config.cluster,
     };
-    match open::<D, C, X>(alloc, device, &who)? {
+    match open::<D, C>(alloc, device, &who)? {
         Opened::Fresh(store) => {
             let first = Kept::new(0, None, Entries::new(Vec::new(alloc)));
             Ok((store, first))
@@ -71,53 +70,38 @@ fn open_areas<D: Device, C: Commands, X: Commands>(
 }
 
 // Opens the areas of a node, and reads its clock for the first time.
-fn start<
-    D: Device,
-    S: Drop,
-    C: Commands,
-    O: Wire,
-    X: Commands,
-    M: Machine<State = S, Cmd = C, Out = O>,
->(
+fn start<D: Device, S: Drop, C: Commands, O: Wire, M: Machine<State = S, Cmd = C, Out = O>>(
     alloc: Global,
     device: &mut D,
     raft: &Raft<M>,
     config: &Config,
 ) -> Result<Shipped<S, C, O>, NodeFault>
     requires begun { D.begun device.old ≡ true }
-    requires other { X.stack ≢ C.stack }
     requires fits { Fits config.now.me config.now }
     requires stack { config.now.stack ≡ C.stack }
     requires nodes { raft.now.nodes ≡ length config.now.peers }
     ensures ready { IfOk result (λ node. IsReady C.stack node.replica) }
     ensures who { IfOk result (λ node. node.replica.store.who ≡ who_of config.now) }
     ensures holds { IfOk result (λ node. IfSome (D.told device.new) (λ told.
-        Holds C.stack C.format X.stack X.format node.replica.store (kept_of node.replica.state) told.disk)) }
+        Holds C.stack C.format node.replica.store (kept_of node.replica.state) told.disk)) }
     ensures served { IfOk result (λ node. StillTold 1 (D.told device.old) (D.told device.new)
-        (Served C.stack config.now (M.meaning raft.now.machine) C.format O.format X.stack X.format 0 node.replica)) }
+        (Served C.stack config.now (M.meaning raft.now.machine) C.format O.format 0 node.replica)) }
     ensures ended { IfErr result (λ fault. StillTold 1 (D.told device.old) (D.told device.new)
-        (EndsWith C.stack config.now (M.meaning raft.now.machine) C.format O.format X.stack X.format fault 0)) }
+        (EndsWith C.stack config.now (M.meaning raft.now.machine) C.format O.format fault 0)) }
     ensures tells { TellsOn 1 (D.told device.old) (D.told device.new) }
     ensures areas { IfSome (D.told device.old) (λ before.
-        Meets (refusal_in (found_in C.stack config.now C.format X.stack X.format before)) result) }
+        Meets (refusal_in (found_in C.stack config.now C.format before)) result) }
     ensures causes { CountsRun (D.faults device.old) (D.faults device.new) result }
     ensures begun { D.begun device.new ≡ true }
 {
-    let (store, kept) = open_areas::<D, C, X>(alloc, device, config)?;
+    let (store, kept) = open_areas::<D, C>(alloc, device, config)?;
     let now = device.now();
     let node = Shipped::start(alloc, raft, config, store, kept, now)?;
     Ok(node)
 }
 
 // Takes so many turns.
-fn take_turns<
-    D: Device,
-    S: Drop,
-    C: Commands,
-    O: Wire,
-    X: Commands,
-    M: Machine<State = S, Cmd = C, Out = O>,
->(
+fn take_turns<D: Device, S: Drop, C: Commands, O: Wire, M: Machine<State = S, Cmd = C, Out = O>>(
     alloc: Global,
     device: &mut D,
     raft: &Raft<M>,
@@ -126,21 +110,20 @@ fn take_turns<
     turns: u32,
 ) -> Result<Shipped<S, C, O>, NodeFault>
     requires begun { D.begun device.old ≡ true }
-    requires other { X.stack ≢ C.stack }
     requires ready { IsReady C.stack node.replica }
     requires who { node.replica.store.who ≡ who_of config.now }
     requires nodes { raft.now.nodes ≡ length config.now.peers }
     requires clients { length config.now.clients ≤ MAX_CLIENTS }
     requires holds { IfSome (D.told device.old) (λ told.
-        Holds C.stack C.format X.stack X.format node.replica.store (kept_of node.replica.state) told.disk) }
+        Holds C.stack C.format node.replica.store (kept_of node.replica.state) told.disk) }
     ensures went { IfOk result (λ next. StillTold turns (D.told device.old) (D.told device.new)
-        (Went C.stack config.now (M.meaning raft.now.machine) C.format O.format X.stack X.format node.replica turns next.replica)) }
+        (Went C.stack config.now (M.meaning raft.now.machine) C.format O.format node.replica turns next.replica)) }
     ensures each { IfOk result (λ next. StillTold turns (D.told device.old) (D.told device.new)
-        (WentEach C.stack config.now (M.meaning raft.now.machine) C.format O.format X.stack X.format turns node.replica next.replica)) }
+        (WentEach C.stack config.now (M.meaning raft.now.machine) C.format O.format turns node.replica next.replica)) }
     ensures halted { OnErr result (StillTold turns (D.told device.old) (D.told device.new)
-        (Halted C.stack config.now (M.meaning raft.now.machine) C.format O.format X.stack X.format node.replica turns)) }
+        (Halted C.stack config.now (M.meaning raft.now.machine) C.format O.format node.replica turns)) }
     ensures halted_each { OnErr result (StillTold turns (D.told device.old) (D.told device.new)
-        (HaltedEach C.stack config.now (M.meaning raft.now.machine) C.format O.format X.stack X.format turns node.replica)) }
+        (HaltedEach C.stack config.now (M.meaning raft.now.machine) C.format O.format turns node.replica)) }
     ensures tells { TellsOn turns (D.told device.old) (D.told device.new) }
     ensures of_a_turn { IfErr result IsOfATurn }
     ensures causes { CountsRun (D.faults device.old) (D.faults device.new) result }
@@ -149,37 +132,35 @@ fn take_turns<
     let mut room = Room::new(alloc)?;
     let mut node = node;
     for _ in 0..turns {
-        node = turn::<D, S, C, O, X, M>(alloc, device, raft, config, node, &mut room)?;
+        node = turn::<D, S, C, O, M>(alloc, device, raft, config, node, &mut room)?;
     }
     Ok(node)
 }
 
-// The run of a node of one stack; `X` are the commands of the other.
-fn serve_stack<
-    D: Device,
-    S: Drop,
-    C: Commands,
-    O: Wire,
-    X: Commands,
-    M: Machine<State = S, Cmd = C, Out = O>,
->(alloc: Global, device: &mut D, machine: M, config: &Config, turns: u32) -> Result<(), NodeFault>
+// The run of a node of one stack.
+fn serve_stack<D: Device, S: Drop, C: Commands, O: Wire, M: Machine<State = S, Cmd = C, Out = O>>(
+    alloc: Global,
+    device: &mut D,
+    machine: M,
+    config: &Config,
+    turns: u32,
+) -> Result<(), NodeFault>
     requires begun { D.begun device.old ≡ true }
-    requires other { X.stack ≢ C.stack }
     requires fits { Fits config.now.me config.now }
     requires stack { config.now.stack ≡ C.stack }
     ensures served { OnOk result (StillTold (1 + turns) (D.told device.old) (D.told device.new)
-        (HasServed C.stack config.now (M.meaning machine) C.format O.format X.stack X.format turns)) }
+        (HasServed C.stack config.now (M.meaning machine) C.format O.format turns)) }
     ensures ended { IfErr result (λ fault. StillTold (1 + turns) (D.told device.old) (D.told device.new)
-        (EndsWith C.stack config.now (M.meaning machine) C.format O.format X.stack X.format fault turns)) }
+        (EndsWith C.stack config.now (M.meaning machine) C.format O.format fault turns)) }
     ensures tells { TellsOn (1 + turns) (D.told device.old) (D.told device.new) }
     ensures areas { IfSome (D.told device.old) (λ before.
-        Meets (refusal_in (found_in C.stack config.now C.format X.stack X.format before)) result) }
+        Meets (refusal_in (found_in C.stack config.now C.format before)) result) }
     ensures causes { CountsRun (D.faults device.old) (D.faults device.new) result }
     ensures begun { D.begun device.new ≡ true }
 {
     let raft = Raft::new(machine, config.peers.as_slice().len() as u8);
-    let node = start::<D, S, C, O, X, M>(alloc, device, &raft, config)?;
-    take_turns::<D, S, C, O, X, M>(alloc, device, &raft, config, node, turns)?;
+    let node = start::<D, S, C, O, M>(alloc, device, &raft, config)?;
+    take_turns::<D, S, C, O, M>(alloc, device, &raft, config, node, turns)?;
     Ok(())
 }
 
@@ -209,14 +190,14 @@ pub fn serve<D: Device>(
     ensures begun { D.begun device.new ≡ true }
 {
     match config.stack {
-        StackId::TableRaft => serve_stack::<D, TableState, TableCmd, TableOut, KvCmd, TableMachine>(
+        StackId::TableRaft => serve_stack::<D, TableState, TableCmd, TableOut, TableMachine>(
             alloc,
             device,
             TableMachine,
             config,
             turns,
         ),
-        _ => serve_stack::<D, KvState, KvCmd, KvOut, TableCmd, KvMachine>(
+        _ => serve_stack::<D, KvState, KvCmd, KvOut, KvMachine>(
             alloc, device, KvMachine, config, turns,
         ),
     }

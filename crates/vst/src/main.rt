@@ -2,9 +2,8 @@
 //! and ends with its status.
 #![tactic(auto)]
 
-use node_device_real::RealDevice;
+use os_edge::{ReaderSource, RealDevice, WriterSink};
 use outside::{WriteFault, write_all};
-use outside_real::{ReaderSource, WriterSink};
 use std::env;
 use std::io::{self, ErrorKind};
 use std::process::ExitCode;

@@ -2,7 +2,7 @@
 #![tactic(auto)]
 
 use drawn_schedules::run_draw;
-use outside_real::{ReaderSource, WriterSink};
+use os_edge::{ReaderSource, WriterSink};
 use std::process::ExitCode;
 
 fn main(rt: HostRuntime) -> ExitCode {

@@ -14,7 +14,7 @@ mod runs;
 mod transcript;
 
 use crate::transcript::transcribe;
-use outside_real::{ReaderSource, WriterSink};
+use os_edge::{ReaderSource, WriterSink};
 use std::process::ExitCode;
 
 fn main(rt: HostRuntime) -> ExitCode {

@@ -1,5 +1,14 @@
 -- Datagrams whose bytes were worked out by hand.
-use Rattle.std.specs.Prelude.{ℕ, zero, suc, List, [], ◌∷◌, ◌++◌}
+use Rattle.std.specs.Prelude.{ℕ, zero, suc, List, [], ◌∷◌, ◌++◌, Option}
+use Rattle.kv_machine.specs.declared.cmd.KvCmd.{KvCmd}
+use Rattle.raft_types.specs.declared.msg.RaftMsg.{RaftMsg}
+use Rattle.vst_base.specs.declared.stack.StackId.TheVariants as stack
+use Rattle.wire_codec.specs.Datagrams.{read_typed}
+use Rattle.wire_codec.specs.Headings.{heading_of}
+use Rattle.wire_codec.specs.declared.heading.Heading.{Heading}
+use Rattle.wire_codec.specs.declared.kind.Kind.{Kind}
+use Rattle.wire_messages.specs.KvBytes.{kv_command}
+use Rattle.wire_messages.specs.RaftBytes.{raft_message}
 
 abbrev pub cluster_name : List ℕ
 cluster_name = 0 ∷ 1 ∷ 2 ∷ 3 ∷ 4 ∷ 5 ∷ 6 ∷ 7 ∷ 8 ∷ 9 ∷ 10 ∷ 11 ∷ 12 ∷ 13 ∷ 14 ∷ 15 ∷ []
@@ -7,6 +16,14 @@ cluster_name = 0 ∷ 1 ∷ 2 ∷ 3 ∷ 4 ∷ 5 ∷ 6 ∷ 7 ∷ 8 ∷ 9 ∷ 10 �
 -- a message after the bytes of a heading: those of the stack, the kind, the sender and the destination
 abbrev pub framed : ℕ → ℕ → ℕ → ℕ → List ℕ → List ℕ
 framed stack kind from to body = 86 ∷ 2 ∷ stack ∷ kind ∷ from ∷ to ∷ (cluster_name ++ body)
+
+-- the heading of a datagram of a key-value cluster: of this kind, from this one to that one
+abbrev pub of_kv : Kind → ℕ → ℕ → Heading
+of_kv kind from to = heading_of stack.KvRaft kind from to cluster_name
+
+-- the message that these bytes are between nodes of such a cluster
+abbrev pub read_raft : List ℕ → Option (Heading × RaftMsg KvCmd)
+read_raft bs = read_typed (raft_message kv_command) bs
 
 -- the number 1 in eight bytes, and 0 in four and in eight
 abbrev pub one : List ℕ

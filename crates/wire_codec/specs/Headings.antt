@@ -1,12 +1,12 @@
 -- What stands before a datagram's message.
-use Rattle.std.specs.Prelude.{◌==◌, ℕ, List, [], ◌∷◌, Option, None, Some, if◌then◌else◌}
+use Rattle.std.specs.Prelude.{◌==◌, ℕ, Bool, true, false, List, [], ◌∷◌, Option, None, Some, if◌then◌else◌}
 use Rattle.vst_base.specs.declared.stack.StackId.{StackId}
 use Rattle.vst_base.specs.declared.stack.StackId.TheVariants as stack
 use Rattle.wire_codec.specs.declared.heading.Heading.{Heading}
 use Rattle.wire_codec.specs.declared.kind.Kind.{Kind}
 use Rattle.wire_codec.specs.declared.kind.Kind.TheVariants as kind
 use Rattle.wire_fields.specs.Fields.{name, number}
-use Rattle.wire_fields.specs.Formats.{Format, linked, mapped, pair}
+use Rattle.wire_fields.specs.Formats.{Format, linked, mapped, pair, tested}
 
 -- the letter V, and the version
 abbrev pub read_mark : List ℕ → Option (Unit × List ℕ)
@@ -34,17 +34,18 @@ stack_byte stack.TableRaft = 7
 stack_byte stack.Kv = 0
 stack_byte stack.Table = 0
 
+-- the stacks that a heading may name
+abbrev pub named_stacks : List StackId
+named_stacks = stack.Lock ∷ stack.LockSeq ∷ stack.KvPb ∷ stack.KvPbSeq ∷ stack.KvRaft ∷ stack.TablePbSeq ∷ stack.TableRaft ∷ []
+
+-- the one among these that has the byte
+abbrev pub stack_among : List StackId → ℕ → List ℕ → Option (StackId × List ℕ)
+stack_among [] b bs = None
+stack_among (s ∷ more) b bs = if b == stack_byte s then Some (s, bs) else stack_among more b bs
+
 abbrev pub read_stack : List ℕ → Option (StackId × List ℕ)
 read_stack [] = None
-read_stack (b ∷ bs) =
-    if b == 1 then Some (stack.Lock, bs)
-    else if b == 2 then Some (stack.LockSeq, bs)
-    else if b == 3 then Some (stack.KvPb, bs)
-    else if b == 4 then Some (stack.KvPbSeq, bs)
-    else if b == 5 then Some (stack.KvRaft, bs)
-    else if b == 6 then Some (stack.TablePbSeq, bs)
-    else if b == 7 then Some (stack.TableRaft, bs)
-    else None
+read_stack (b ∷ bs) = stack_among named_stacks b bs
 
 abbrev pub stack_field : Format StackId
 stack_field = record { Fits = HasByte; spell = λ s. stack_byte s ∷ []; read = read_stack }
@@ -63,8 +64,23 @@ read_kind (b ∷ bs) =
     else if b == 2 then Some (kind.Reply, bs)
     else None
 
-abbrev pub kind_field : Format Kind
-kind_field = record { Fits = λ _. Unit {0}; spell = λ k. kind_byte k ∷ []; read = read_kind }
+abbrev pub any_kind : Format Kind
+any_kind = record { Fits = λ _. Unit {0}; spell = λ k. kind_byte k ∷ []; read = read_kind }
+
+-- Clients ask the nodes of clusters, and are told by them, alone.
+abbrev pub has_clients : StackId → Bool
+has_clients stack.KvRaft = true
+has_clients stack.TableRaft = true
+has_clients _ = false
+
+-- the kinds of a stack's datagrams
+abbrev pub has_kind : StackId → Kind → Bool
+has_kind s kind.Peer = true
+has_kind s kind.Request = has_clients s
+has_kind s kind.Reply = has_clients s
+
+abbrev pub kind_field : StackId → Format Kind
+kind_field s = tested (has_kind s) any_kind
 
 -- the greatest number of the one that sends, and of the one that it is sent to: nodes are below 9, clients below 255
 abbrev pub most_from : Kind → ℕ
@@ -85,4 +101,4 @@ heading_of s k from to name = record { stack = s; kind = k; from = from; to = to
 
 abbrev pub heading : Format Heading
 heading = mapped (λ p. heading_of p.1.0 p.1.1.0 p.1.1.1.0 p.1.1.1.1.0 p.1.1.1.1.1) (λ h. (tt, (h.stack, (h.kind, (h.from, (h.to, h.name))))))
-    (pair mark (pair stack_field (linked kind_field parties)))
+    (pair mark (linked stack_field (λ s. linked (kind_field s) parties)))

@@ -6,10 +6,10 @@ ghost use Rattle.vst_base.specs.declared.lock.LockMsg.TheVariants as lock;
 ghost use Rattle.vst_base.specs.declared.pb_msg.PbMsg.TheVariants as backup;
 ghost use Rattle.vst_base.specs.declared.stack.StackId.TheVariants as stack;
 ghost use Rattle.vst_base.specs.declared.what.What.TheVariants as what;
-ghost use Rattle.wire_codec.specs.Bodies.{is_peer_message, is_reply, is_request};
-ghost use Rattle.wire_codec.specs.Datagrams.{message_of, read_datagram};
-ghost use Rattle.wire_codec.specs.Examples.{asks_for_a_vote, asks_for_the_lock, before_greatest_index, bob_holds_l, cluster_name, entry_of_put, framed, grants_a_vote, greatest_index, l_and_bob, no_ops, one, put_taken_by, puts_x, replies_x, requests_put, sends_after, sends_an_entry, zero_of_eight, zero_of_four};
-ghost use Rattle.wire_codec.specs.Headings.{heading_of, kind_field, stack_field};
+ghost use Rattle.wire_codec.specs.Bodies.{AreMessagesOf, is_message};
+ghost use Rattle.wire_codec.specs.Datagrams.{read_datagram, read_typed};
+ghost use Rattle.wire_codec.specs.Examples.{asks_for_a_vote, asks_for_the_lock, before_greatest_index, bob_holds_l, cluster_name, entry_of_put, framed, grants_a_vote, greatest_index, l_and_bob, no_ops, of_kv, one, put_taken_by, puts_x, read_raft, replies_x, requests_put, sends_after, sends_an_entry, zero_of_eight, zero_of_four};
+ghost use Rattle.wire_codec.specs.Headings.{any_kind, heading_of, kind_field, stack_field};
 ghost use Rattle.wire_codec.specs.declared.kind.Kind.TheVariants as kind;
 ghost use Rattle.wire_messages.specs.ClientBytes.{client_reply, client_request};
 ghost use Rattle.wire_messages.specs.EntryBytes.{entry, entry_of, old_entry};
@@ -19,21 +19,46 @@ ghost use Rattle.wire_messages.specs.RaftBytes.{append_of, raft_message};
 ghost use Rattle.wire_messages.specs.TableBytes.{table_command, table_output};
 ghost use Rattle.wire_messages.specs.declared.client.Answer.TheVariants as answer;
 
-/// Datagrams are read as their headings and messages.
+/// Datagrams are read as their headings and messages. What stands behind a heading is not read with it.
 #[tactic(auto, unfolding(wire_fields::specs::Bytes::number_bytes, wire_fields::specs::Bytes::number_in, wire_fields::specs::Bytes::has_bytes, wire_fields::specs::Bytes::read_number))]
 pub fn worked_datagrams()
-    ensures vote_request { read_datagram (framed 5 0 1 0 asks_for_a_vote)
-        ≡ Some (message_of (heading_of stack.KvRaft kind.Peer 1 0 cluster_name) asks_for_a_vote) }
-    ensures vote { read_datagram (framed 5 0 0 1 grants_a_vote)
-        ≡ Some (message_of (heading_of stack.KvRaft kind.Peer 0 1 cluster_name) grants_a_vote) }
-    ensures lock { read_datagram (framed 2 0 1 0 asks_for_the_lock)
-        ≡ Some (message_of (heading_of stack.LockSeq kind.Peer 1 0 cluster_name) asks_for_the_lock) }
-    ensures request { read_datagram (framed 5 1 0 0 requests_put)
-        ≡ Some (message_of (heading_of stack.KvRaft kind.Request 0 0 cluster_name) requests_put) }
-    ensures reply { read_datagram (framed 5 2 0 0 replies_x)
-        ≡ Some (message_of (heading_of stack.KvRaft kind.Reply 0 0 cluster_name) replies_x) }
-    ensures entries { read_datagram (framed 5 0 0 1 sends_an_entry)
-        ≡ Some (message_of (heading_of stack.KvRaft kind.Peer 0 1 cluster_name) sends_an_entry) }
+    ensures vote_request { read_raft (framed 5 0 1 0 asks_for_a_vote)
+        ≡ Some (of_kv kind.Peer 1 0, message.RequestVote (record { term = 1; last_index = 0; last_term = 0 })) }
+    ensures vote { read_raft (framed 5 0 0 1 grants_a_vote) ≡ Some (of_kv kind.Peer 0 1, message.Vote (record { term = 1; granted = true })) }
+    ensures lock { read_typed (numbered lock_message) (framed 2 0 1 0 asks_for_the_lock)
+        ≡ Some (heading_of stack.LockSeq kind.Peer 1 0 cluster_name, record { number = 0; inner = lock.Lock }) }
+    ensures request { read_typed (client_request kv_command) (framed 5 1 0 0 requests_put)
+        ≡ Some (of_kv kind.Request 0 0, record { request = 1; cmd = command.Put (codes "a") (codes "x") }) }
+    ensures reply { read_typed (client_reply kv_output) (framed 5 2 0 0 replies_x) ≡ Some (
+      of_kv kind.Reply 0 0,
+      record {
+        request = 1;
+        answer = answer.Reply (record { key = codes "a"; after = Some (codes "x"); before = None });
+      },
+    ) }
+    ensures entries { read_raft (framed 5 0 0 1 sends_an_entry) ≡ Some (
+      of_kv kind.Peer 0 1,
+      message.Append (append_of 1 0 0 0 (entry_of 1 (what.Request 7 1 0 (command.Put (codes "a") (codes "x"))) ∷ [])),
+    ) }
+    ensures no_message_behind { read_datagram (framed 5 0 1 0 (9 ∷ [])) ≡ Some (of_kv kind.Peer 1 0, 9 ∷ []) }
+    ensures nothing_behind { read_datagram (framed 5 1 254 8 []) ≡ Some (of_kv kind.Request 254 8, []) }
+{}
+
+/// The messages of each stack and kind, by their format.
+pub fn worked_stacks()
+    ensures lock { AreMessagesOf stack.Lock kind.Peer lock_message }
+    ensures lock_seq { AreMessagesOf stack.LockSeq kind.Peer (numbered lock_message) }
+    ensures kv_pb { AreMessagesOf stack.KvPb kind.Peer (backup_message kv_command) }
+    ensures kv_pb_seq { AreMessagesOf stack.KvPbSeq kind.Peer (numbered (backup_message kv_command)) }
+    ensures table_pb_seq { AreMessagesOf stack.TablePbSeq kind.Peer (numbered (backup_message table_command)) }
+    ensures kv_raft { AreMessagesOf stack.KvRaft kind.Peer (raft_message kv_command) }
+    ensures kv_requests { AreMessagesOf stack.KvRaft kind.Request (client_request kv_command) }
+    ensures kv_replies { AreMessagesOf stack.KvRaft kind.Reply (client_reply kv_output) }
+    ensures table_raft { AreMessagesOf stack.TableRaft kind.Peer (raft_message table_command) }
+    ensures table_requests { AreMessagesOf stack.TableRaft kind.Request (client_request table_command) }
+    ensures table_replies { AreMessagesOf stack.TableRaft kind.Reply (client_reply table_output) }
+    ensures not_of_the_other_machine { AreMessagesOf stack.TableRaft kind.Request (client_request kv_command) → ⊥ }
+    ensures none_asked_of_primary_backup { AreMessagesOf stack.KvPb kind.Request (client_request kv_command) → ⊥ }
 {}
 
 /// What the bytes of messages say.
@@ -125,8 +150,8 @@ pub fn worked_cluster_messages()
     ensures up_to_the_greatest { (raft_message kv_command).read (sends_after before_greatest_index 1 (no_ops 1))
         ≡ Some (message.Append (append_of 1 999999 0 0 (entry_of 1 what.Noop ∷ [])), []) }
     ensures past_the_greatest { (raft_message kv_command).read (sends_after greatest_index 1 (no_ops 1)) ≡ None }
-    ensures eight_entries { is_peer_message stack.KvRaft (sends_after zero_of_four 8 (no_ops 8)) ≡ true }
-    ensures nine_entries { is_peer_message stack.KvRaft (sends_after zero_of_four 9 (no_ops 9)) ≡ false }
+    ensures eight_entries { is_message stack.KvRaft kind.Peer (sends_after zero_of_four 8 (no_ops 8)) ≡ true }
+    ensures nine_entries { is_message stack.KvRaft kind.Peer (sends_after zero_of_four 9 (no_ops 9)) ≡ false }
     ensures request { (entry kv_command).spell (entry_of 1 (what.Request 7 1 8 (command.Put (codes "a") (codes "x")))) ≡ put_taken_by 8 }
     ensures no_op { (entry kv_command).spell (entry_of 1 what.Noop) ≡ no_ops 1 }
     ensures taken_by_the_last_node { (entry kv_command).read (put_taken_by 8)
@@ -148,11 +173,11 @@ pub fn worked_answers()
     ensures reads_full { (client_reply kv_output).read (one ++ (3 ∷ [])) ≡ Some (record { request = 1; answer = answer.Full }, []) }
     ensures no_answer_0 { (client_reply kv_output).read (one ++ (0 ∷ [])) ≡ None }
     ensures no_answer_4 { (client_reply kv_output).read (one ++ (4 ∷ [])) ≡ None }
-    ensures of_a_table { is_reply stack.TableRaft (one ++ (1 ∷ bob_holds_l)) ≡ true }
-    ensures not_of_the_other_machine { is_reply stack.KvRaft (one ++ (1 ∷ bob_holds_l)) ≡ false }
-    ensures asked_of_a_table { is_request stack.TableRaft (one ++ (1 ∷ l_and_bob)) ≡ true }
-    ensures not_asked_of_the_other_machine { is_request stack.KvRaft (one ++ (1 ∷ l_and_bob)) ≡ false }
-    ensures no_reply_of_primary_backup { is_reply stack.KvPb (one ++ (2 ∷ [])) ≡ false }
+    ensures of_a_table { is_message stack.TableRaft kind.Reply (one ++ (1 ∷ bob_holds_l)) ≡ true }
+    ensures not_of_the_other_machine { is_message stack.KvRaft kind.Reply (one ++ (1 ∷ bob_holds_l)) ≡ false }
+    ensures asked_of_a_table { is_message stack.TableRaft kind.Request (one ++ (1 ∷ l_and_bob)) ≡ true }
+    ensures not_asked_of_the_other_machine { is_message stack.KvRaft kind.Request (one ++ (1 ∷ l_and_bob)) ≡ false }
+    ensures no_reply_of_primary_backup { is_message stack.KvPb kind.Reply (one ++ (2 ∷ [])) ≡ false }
 {}
 
 /// The bytes of stacks and of kinds in a heading.
@@ -168,27 +193,29 @@ pub fn worked_headings()
     ensures a_machine_alone_has_none { (stack_field.Fits stack.Kv → ⊥) × (stack_field.Fits stack.Table → ⊥) }
     ensures no_stack_0 { stack_field.read (0 ∷ []) ≡ None }
     ensures no_stack_8 { stack_field.read (8 ∷ []) ≡ None }
-    ensures peer { kind_field.spell kind.Peer ≡ 0 ∷ [] }
-    ensures request { kind_field.spell kind.Request ≡ 1 ∷ [] }
-    ensures reply { kind_field.spell kind.Reply ≡ 2 ∷ [] }
-    ensures no_kind_3 { kind_field.read (3 ∷ []) ≡ None }
+    ensures peer { any_kind.spell kind.Peer ≡ 0 ∷ [] }
+    ensures request { any_kind.spell kind.Request ≡ 1 ∷ [] }
+    ensures reply { any_kind.spell kind.Reply ≡ 2 ∷ [] }
+    ensures no_kind_3 { any_kind.read (3 ∷ []) ≡ None }
+    ensures of_a_cluster { (kind_field stack.TableRaft).read (1 ∷ []) ≡ Some (kind.Request, []) }
+    ensures not_of_primary_backup { (kind_field stack.KvPbSeq).read (2 ∷ []) ≡ None }
 {}
 
 /// What is no datagram.
 #[tactic(auto, unfolding(wire_fields::specs::Bytes::number_bytes, wire_fields::specs::Bytes::number_in, wire_fields::specs::Bytes::has_bytes, wire_fields::specs::Bytes::read_number))]
 pub fn refused_datagrams()
     ensures no_bytes { read_datagram [] ≡ None }
-    ensures cut_short { read_datagram (framed 5 0 1 0 (1 ∷ (one ++ (zero_of_four ++ (zero_of_four ++ (0 ∷ 0 ∷ 0 ∷ [])))))) ≡ None }
-    ensures a_byte_after { read_datagram (framed 5 0 1 0 (asks_for_a_vote ++ (0 ∷ []))) ≡ None }
+    ensures cut_short { read_raft (framed 5 0 1 0 (1 ∷ (one ++ (zero_of_four ++ (zero_of_four ++ (0 ∷ 0 ∷ 0 ∷ [])))))) ≡ None }
+    ensures a_byte_after { read_raft (framed 5 0 1 0 (asks_for_a_vote ++ (0 ∷ []))) ≡ None }
     ensures another_letter { read_datagram (87 ∷ 2 ∷ 5 ∷ 0 ∷ 1 ∷ 0 ∷ (cluster_name ++ asks_for_a_vote)) ≡ None }
     ensures version_3 { read_datagram (86 ∷ 3 ∷ 5 ∷ 0 ∷ 1 ∷ 0 ∷ (cluster_name ++ asks_for_a_vote)) ≡ None }
     ensures version_1 { read_datagram (86 ∷ 1 ∷ 5 ∷ 0 ∷ 1 ∷ 0 ∷ asks_for_a_vote) ≡ None }
     ensures another_kind { read_datagram (framed 5 3 1 0 asks_for_a_vote) ≡ None }
-    ensures term_0 { read_datagram (framed 5 0 1 0 (1 ∷ (zero_of_eight ++ (zero_of_four ++ zero_of_eight)))) ≡ None }
-    ensures term_past_the_greatest { read_datagram (framed 5 0 1 0 (1 ∷ 128 ∷ 0 ∷ 0 ∷ 0 ∷ 0 ∷ 0 ∷ 0 ∷ 0 ∷ (zero_of_four ++ zero_of_eight)))
+    ensures term_0 { read_raft (framed 5 0 1 0 (1 ∷ (zero_of_eight ++ (zero_of_four ++ zero_of_eight)))) ≡ None }
+    ensures term_past_the_greatest { read_raft (framed 5 0 1 0 (1 ∷ 128 ∷ 0 ∷ 0 ∷ 0 ∷ 0 ∷ 0 ∷ 0 ∷ 0 ∷ (zero_of_four ++ zero_of_eight)))
         ≡ None }
-    ensures index_past_the_last { read_datagram (framed 5 0 1 0 (1 ∷ (one ++ (0 ∷ 15 ∷ 66 ∷ 65 ∷ zero_of_eight)))) ≡ None }
-    ensures a_second_yes { read_datagram (framed 5 0 0 1 (2 ∷ (one ++ (2 ∷ [])))) ≡ None }
+    ensures index_past_the_last { read_raft (framed 5 0 1 0 (1 ∷ (one ++ (0 ∷ 15 ∷ 66 ∷ 65 ∷ zero_of_eight)))) ≡ None }
+    ensures a_second_yes { read_raft (framed 5 0 0 1 (2 ∷ (one ++ (2 ∷ [])))) ≡ None }
     ensures a_request_for_the_lock { read_datagram (framed 2 1 1 0 asks_for_the_lock) ≡ None }
     ensures a_tenth_node { read_datagram (framed 5 0 9 0 asks_for_a_vote) ≡ None }
     ensures a_client_past_the_last { read_datagram (framed 5 1 255 0 requests_put) ≡ None }

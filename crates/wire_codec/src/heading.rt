@@ -1,5 +1,5 @@
 ghost use Rattle.std.specs.Prelude.{◌≡◌, ◌++◌, OnErr, OnOk};
-ghost use Rattle.wire_codec.specs.Headings.{heading, kind_field, mark, stack_byte, stack_field};
+ghost use Rattle.wire_codec.specs.Headings.{any_kind, has_clients, has_kind, heading, kind_field, mark, stack_byte, stack_field};
 ghost use Rattle.wire_fields.specs.Fields.{Reads};
 
 use crate::Kind;
@@ -48,8 +48,8 @@ fn read_stack(input: &mut Input<'_>) -> Option<StackId>
     }
 }
 
-fn read_kind(input: &mut Input<'_>) -> Option<Kind>
-    ensures { Reads kind_field input.old input.new result }
+fn read_any_kind(input: &mut Input<'_>) -> Option<Kind>
+    ensures { Reads any_kind input.old input.new result }
 {
     match input.byte()? {
         0 => Some(Kind::Peer),
@@ -57,6 +57,36 @@ fn read_kind(input: &mut Input<'_>) -> Option<Kind>
         2 => Some(Kind::Reply),
         _ => None,
     }
+}
+
+// Whether clients have to do with the stack's nodes.
+fn has_clients(stack: StackId) -> bool
+    ensures { result ≡ has_clients stack }
+{
+    match stack {
+        StackId::KvRaft | StackId::TableRaft => true,
+        _ => false,
+    }
+}
+
+// Whether datagrams of the stack are of the kind.
+fn has_kind(stack: StackId, kind: Kind) -> bool
+    ensures { result ≡ has_kind stack kind }
+{
+    match kind {
+        Kind::Peer => true,
+        Kind::Request | Kind::Reply => has_clients(stack),
+    }
+}
+
+fn read_kind(input: &mut Input<'_>, stack: StackId) -> Option<Kind>
+    ensures { Reads (kind_field stack) input.old input.new result }
+{
+    let kind = read_any_kind(input)?;
+    if !has_kind(stack, kind) {
+        return None;
+    }
+    Some(kind)
 }
 
 // The byte of a stack whose nodes send packets, and 0 of a machine alone.
@@ -86,7 +116,7 @@ impl Heading {
         }
         read_mark(input)?;
         let stack = read_stack(input)?;
-        let kind = read_kind(input)?;
+        let kind = read_kind(input, stack)?;
         let from = input.u8(0, kind.most_from())?;
         let to = input.u8(0, kind.most_to())?;
         let name = input.name()?;

@@ -11,11 +11,11 @@ mod laws;
 pub use datagram::{Datagram, MAX_DATAGRAM, decode, encode_into};
 pub use examples::{
     refused_datagrams, worked_answers, worked_cluster_messages, worked_commands, worked_datagrams,
-    worked_headings, worked_messages, worked_packets, worked_table_commands,
+    worked_headings, worked_messages, worked_packets, worked_stacks, worked_table_commands,
 };
 pub use heading::Heading;
 pub use kind::Kind;
-pub use laws::datagrams_have_one_spelling;
+pub use laws::{datagrams_have_one_spelling, fitting_messages_have_datagrams};
 
 #[cfg(test)]
 mod tests;

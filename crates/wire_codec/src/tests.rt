@@ -1,8 +1,8 @@
-use crate::{Heading, Kind, decode, encode_into};
+use crate::{Datagram, Heading, Kind, decode, encode_into};
 use kv_machine::{KvCmd, KvOut};
 use lock_table::{TableCmd, TableOut};
 use raft_types::RaftMsg;
-use std::alloc::Global;
+use std::alloc::{AllocError, Global};
 use std::process::Abort;
 use std::test::Fail;
 use vst_base::{LockMsg, PbMsg, SeqMsg, StackId};
@@ -42,7 +42,60 @@ const SENDS_AN_ENTRY: [u8; 80] = [
     0, 0, 0, 7, 0, 0, 0, 0, 0, 0, 0, 1, 0, 2, 1, 97, 0, 1, 120,
 ];
 
-// The bytes are a datagram of this heading, and are written again; one byte more or less is none.
+// The datagram put again, if this is a message of the type.
+fn put_again<M: Wire>(
+    alloc: Global,
+    datagram: &Datagram<'_>,
+) -> Result<Option<Vec<u8>>, AllocError> {
+    let Some(message) = from_bytes::<M>(alloc, datagram.body)? else {
+        return Ok(None);
+    };
+    let mut again = Vec::new(alloc);
+    encode_into(&mut again, &datagram.heading, &message)?;
+    Ok(Some(again))
+}
+
+// The same of a message between nodes.
+fn put_peer_again(alloc: Global, datagram: &Datagram<'_>) -> Result<Option<Vec<u8>>, AllocError> {
+    match datagram.heading.stack {
+        StackId::Lock => put_again::<LockMsg>(alloc, datagram),
+        StackId::LockSeq => put_again::<SeqMsg<LockMsg>>(alloc, datagram),
+        StackId::KvPb => put_again::<PbMsg<KvCmd>>(alloc, datagram),
+        StackId::KvPbSeq => put_again::<SeqMsg<PbMsg<KvCmd>>>(alloc, datagram),
+        StackId::KvRaft => put_again::<RaftMsg<KvCmd>>(alloc, datagram),
+        StackId::TablePbSeq => put_again::<SeqMsg<PbMsg<TableCmd>>>(alloc, datagram),
+        StackId::TableRaft => put_again::<RaftMsg<TableCmd>>(alloc, datagram),
+        StackId::Kv | StackId::Table => Ok(None),
+    }
+}
+
+// What is read of the bytes, by the stack and kind of their heading, put again.
+fn read_and_put(alloc: Global, bytes: &[u8]) -> Result<Option<Vec<u8>>, AllocError> {
+    let Some(datagram) = decode(bytes) else {
+        return Ok(None);
+    };
+    match (datagram.heading.kind, datagram.heading.stack) {
+        (Kind::Peer, _) => put_peer_again(alloc, &datagram),
+        (Kind::Request, StackId::KvRaft) => put_again::<ClientRequest<KvCmd>>(alloc, &datagram),
+        (Kind::Request, StackId::TableRaft) => {
+            put_again::<ClientRequest<TableCmd>>(alloc, &datagram)
+        }
+        (Kind::Reply, StackId::KvRaft) => put_again::<ClientReply<KvOut>>(alloc, &datagram),
+        (Kind::Reply, StackId::TableRaft) => put_again::<ClientReply<TableOut>>(alloc, &datagram),
+        _ => Ok(None),
+    }
+}
+
+// Whether the bytes are a datagram. Those of what is read are just these.
+fn is_datagram(rt: &impl Abort, alloc: Global, bytes: &[u8]) -> Result<bool, Fail> {
+    let Some(again) = read_and_put(alloc, bytes)? else {
+        return Ok(false);
+    };
+    assert!(rt; again.as_slice() == bytes);
+    Ok(true)
+}
+
+// The bytes are a datagram of this heading; one byte more or less is none.
 fn is_read(
     rt: &impl Abort,
     alloc: Global,
@@ -61,13 +114,12 @@ fn is_read(
     };
     let datagram = decode(bytes).ok_or("no datagram")?;
     assert!(rt; datagram.heading == heading);
-    let mut again = Vec::new(alloc);
-    encode_into(&mut again, &datagram)?;
-    assert!(rt; again.as_slice() == bytes);
-    again.push(0)?;
-    assert!(rt; decode(&again).is_none(), "a byte after the message");
+    assert!(rt; is_datagram(rt, alloc, bytes)?);
+    let mut more = bytes.to_vec(alloc)?;
+    more.push(0)?;
+    assert!(rt; !is_datagram(rt, alloc, &more)?, "a byte after the message");
     if let [most @ .., _] = bytes {
-        assert!(rt; decode(most).is_none(), "without the last byte");
+        assert!(rt; !is_datagram(rt, alloc, most)?, "without the last byte");
     }
     Ok(())
 }
@@ -124,59 +176,84 @@ fn datagrams_are_read_and_written(rt: HostRuntime) -> Result<(), Fail> {
 }
 
 // Whether the bytes are this datagram's but for one.
-fn with_byte(mut bytes: [u8; 43], at: usize, byte: u8) -> bool {
+fn with_byte(
+    rt: &impl Abort,
+    alloc: Global,
+    mut bytes: [u8; 43],
+    at: usize,
+    byte: u8,
+) -> Result<bool, Fail> {
     if at < 43 {
         bytes[at] = byte;
     }
-    decode(&bytes).is_some()
+    is_datagram(rt, alloc, &bytes)
 }
 
 #[test]
-fn hostile_datagrams_are_none(rt: HostRuntime) {
-    assert!(rt; with_byte(ASKS_FOR_A_VOTE, 0, 0x56));
-    assert!(rt; decode(&[]).is_none());
-    assert!(rt; decode(&ASKS_FOR_A_VOTE[..42]).is_none());
-    assert!(rt; !with_byte(ASKS_FOR_A_VOTE, 0, 0x57), "another letter");
-    assert!(rt; !with_byte(ASKS_FOR_A_VOTE, 1, 3), "version 3");
-    assert!(rt; !with_byte(ASKS_FOR_A_VOTE, 1, 1), "version 1");
-    assert!(rt; !with_byte(ASKS_FOR_A_VOTE, 3, 3), "no kind");
-    assert!(rt; !with_byte(ASKS_FOR_A_VOTE, 30, 0), "term 0");
+fn hostile_datagrams_are_none(rt: HostRuntime) -> Result<(), Fail> {
+    let alloc = rt.alloc();
+    let asks = ASKS_FOR_A_VOTE;
+    assert!(rt; with_byte(&rt, alloc, asks, 0, 0x56)?);
+    assert!(rt; !is_datagram(&rt, alloc, &[])?);
+    assert!(rt; !is_datagram(&rt, alloc, &asks[..42])?);
+    assert!(rt; decode(&asks[..21]).is_none(), "a heading cut short");
+    assert!(rt; decode(&[0x56; 60_001]).is_none(), "too long");
+    assert!(rt; !with_byte(&rt, alloc, asks, 0, 0x57)?, "another letter");
+    assert!(rt; !with_byte(&rt, alloc, asks, 1, 3)?, "version 3");
+    assert!(rt; !with_byte(&rt, alloc, asks, 1, 1)?, "version 1");
+    assert!(rt; !with_byte(&rt, alloc, asks, 3, 3)?, "no kind");
+    assert!(rt; !with_byte(&rt, alloc, asks, 30, 0)?, "term 0");
     assert!(rt;
-        !with_byte(ASKS_FOR_A_VOTE, 23, 0x80),
+        !with_byte(&rt, alloc, asks, 23, 0x80)?,
         "a term past the greatest"
     );
     assert!(rt;
-        !with_byte(ASKS_FOR_A_VOTE, 32, 0x10),
+        !with_byte(&rt, alloc, asks, 32, 0x10)?,
         "an index past the last"
     );
-    assert!(rt; !with_byte(ASKS_FOR_A_VOTE, 2, 8), "no stack");
+    assert!(rt; !with_byte(&rt, alloc, asks, 2, 8)?, "no stack");
+    Ok(())
 }
 
 // Of all datagrams that differ from this one in one byte at most, how many are read, each byte counted by itself.
-fn how_many_are_read(bytes: &mut [u8]) -> u32 {
+fn how_many_are_read(rt: &impl Abort, alloc: Global, bytes: &mut [u8]) -> Result<u32, Fail> {
     let mut count = 0u32;
     for at in 0..bytes.len() {
         let was = bytes[at];
         for byte in 0..=255u8 {
             bytes[at] = byte;
-            if decode(bytes).is_some() {
+            if is_datagram(rt, alloc, bytes)? {
                 count = count.wrapping_add(1);
             }
         }
         bytes[at] = was;
     }
-    count
+    Ok(count)
 }
 
 // The counts are the products of the ranges of the fields, summed over the bytes.
 #[test]
-fn one_byte_changed(rt: HostRuntime) {
-    assert_eq!(rt; how_many_are_read(&mut { ASKS_FOR_A_VOTE }), 8488);
-    assert_eq!(rt; how_many_are_read(&mut { GRANTS_A_VOTE }), 6041);
-    assert_eq!(rt; how_many_are_read(&mut { ASKS_FOR_THE_LOCK }), 6169);
-    assert_eq!(rt; how_many_are_read(&mut { REQUESTS_PUT }), 6605);
-    assert_eq!(rt; how_many_are_read(&mut { REPLIES_X }), 6606);
-    assert_eq!(rt; how_many_are_read(&mut { SENDS_AN_ENTRY }), 15235);
+fn one_byte_changed(rt: HostRuntime) -> Result<(), Fail> {
+    let alloc = rt.alloc();
+    assert_eq!(rt;
+        how_many_are_read(&rt, alloc, &mut { ASKS_FOR_A_VOTE })?,
+        8488
+    );
+    assert_eq!(rt;
+        how_many_are_read(&rt, alloc, &mut { GRANTS_A_VOTE })?,
+        6041
+    );
+    assert_eq!(rt;
+        how_many_are_read(&rt, alloc, &mut { ASKS_FOR_THE_LOCK })?,
+        6169
+    );
+    assert_eq!(rt; how_many_are_read(&rt, alloc, &mut { REQUESTS_PUT })?, 6605);
+    assert_eq!(rt; how_many_are_read(&rt, alloc, &mut { REPLIES_X })?, 6606);
+    assert_eq!(rt;
+        how_many_are_read(&rt, alloc, &mut { SENDS_AN_ENTRY })?,
+        15235
+    );
+    Ok(())
 }
 
 // The bytes are a message, and are put again.

@@ -1,8 +1,7 @@
 -- What the code finds in front of bytes is the number that is read there.
-use Rattle.std.proofs.Common.{◌≡◌, ℕ, zero, suc, ◌<◌, ◌≤◌, true, false, nat_lt, List, [], ◌∷◌, length, take, drop, ◌-◌, slice_index, Option, Some, None, refl, sym, ap, subst, ◌∙◌, arith, length-drop, Fits, w8, get_or, if◌then◌else◌}
+use Rattle.std.proofs.Common.{◌≡◌, ℕ, zero, suc, ◌<◌, ◌≤◌, true, false, nat_lt, List, [], ◌∷◌, length, take, drop, ◌-◌, slice_index, Option, Some, None, refl, sym, ap, subst, ◌∙◌, arith, Fits, w8, get_or, if◌then◌else◌, Result, Ok, Err, OnOk}
 use Rattle.std.specs.List.{list_all}
 use Rattle.std.proofs.lemmas.Bool.{and_from, and_left, and_right, le-leb, lt-leb, lt-ltb}
-use Rattle.std.proofs.lemmas.List.{take_all}
 use Rattle.byteorder.specs.Endian.{big_from}
 use Rattle.wire_fields.specs.ByteLaws.{no_number, number_read}
 use Rattle.wire_fields.specs.Fields.{raw}
@@ -50,3 +49,12 @@ raw_there n bs long small =
 
 pub raw_short : (n : ℕ) (bs : List ℕ) → length bs < n → (raw n).read bs ≡ None
 raw_short n bs less = ap (λ b. let found : Option (List ℕ × List ℕ) = Some (take n bs, drop n bs) in if b then found else None) (short n bs less)
+
+-- each byte of bytes is below 256
+all_small : (bs : List ℕ) → ((k : ℕ) → Fits w8 (get_or bs k 0)) → list_all (λ b. nat_lt b 256) bs ≡ true
+all_small [] small = refl
+all_small (b ∷ bs) small = and_from _ _ (lt-ltb b 256 (omega (arith, small 0))) (all_small bs (λ k. small (suc k)))
+
+pub raw_fits : {T E : Type 0} (r : Result T E) (bs : List ℕ) → ((k : ℕ) → Fits w8 (get_or bs k 0)) → OnOk r ((raw (length bs)).Fits bs)
+raw_fits (Ok x) bs small = (refl, all_small bs small)
+raw_fits (Err e) bs small = tt

@@ -1,29 +1,24 @@
 -- Each field is a format.
-use Rattle.std.proofs.Common.{◌≡◌, ◌==◌, ℕ, Bool, true, false, ◌&&◌, IsTrue, nat_le, nat_lt, List, [], ◌∷◌, ◌++◌, length, take, drop, ◌≤◌, ◌<◌, ◌^◌, Option, Some, None, if◌then◌else◌, refl, sym, ap, subst, ◌∙◌, arith, length-append, lit<}
+use Rattle.std.proofs.Common.{◌≡◌, ℕ, Bool, true, false, ◌&&◌, IsTrue, nat_le, nat_lt, List, [], ◌∷◌, ◌++◌, length, take, drop, ◌≤◌, ◌<◌, ◌^◌, Option, Some, None, if◌then◌else◌, refl, sym, ap, subst, ◌∙◌, arith, length-append, lit<}
 use Rattle.std.proofs.Math.Seq.{take-append_seam, drop-append_seam}
-use Rattle.std.proofs.lemmas.Bool.{and_parts, and_from, eqb-true, leb-true, le-leb}
+use Rattle.std.proofs.lemmas.Bool.{and_parts, and_from, leb-true, le-leb}
 use Rattle.std.proofs.lemmas.List.{length-take-le, take-append-drop}
 use Rattle.std.specs.List.{list_all}
 use Rattle.vst_base.specs.Tokens.{is_token}
+use Rattle.vst_base.specs.declared.token.TheConstants.{MAX_KEY, MAX_VALUE}
 use Rattle.wire_fields.specs.ByteLaws.{number_back, number_one}
 use Rattle.wire_fields.specs.Bytes.{has_bytes}
-use Rattle.wire_fields.specs.Fields.{number, token_of_length, token, flag_byte, read_flag, flag, OptionFits, spell_option, read_option, optional, raw, key, value}
-use Rattle.wire_fields.specs.FormatLaws.{both_read, keyed_is_format, same_answer}
-use Rattle.wire_fields.specs.Formats.{Format, IsFormat, IsSpelled, and_then}
+use Rattle.wire_fields.specs.Fields.{number, token_of_length, token, flag_byte, read_flag, flag, option_kinds, option_part, optional, raw, key, value}
+use Rattle.wire_fields.specs.FormatLaws.{keyed_is_format, nothing_is_format, same_answer}
+use Rattle.wire_fields.specs.Formats.{Format, IsFormat, IsSpelled}
+pub use Rattle.wire_fields.specs.KindLaws.{by_byte}
+use Rattle.wire_fields.specs.KindLaws.{make_of, one_of_is_format}
 
 pub number_is_format : (n low high : ℕ) → high < 256 ^ n → IsFormat (number n low high)
 number_is_format n low high fits = record {
   reads_back = λ x rest range. number_back n low high x rest fits range.0 range.1;
   one_spelling = λ bs x rest e. let is = number_one n low high x bs rest e in record { fits = is.0; bytes = is.1 };
 }
-
--- by the test of a first byte, or by those after it
-pub by_byte : {A : Type 0} {P : Type 0} (b c : ℕ) (here there : Option A) (v : A) → (b ≡ c → here ≡ Some v → P) → (there ≡ Some v → P) → (if b == c then here else there) ≡ Some v → P
-by_byte {A} {P} b c here there v is_here is_there e = by (b == c) (eqb-true b c) e
-  where
-    by : (same : Bool) → (same ≡ true → b ≡ c) → (if same then here else there) ≡ Some v → P
-    by true same e = is_here (same refl) e
-    by false same e = is_there e
 
 token_here : (most n : ℕ) (bs : List ℕ) (token rest : List ℕ) (b : Bool) → (nat_le n (length bs) && is_token most (take n bs)) ≡ b
     → ◌≡◌ {A = Option (List ℕ × List ℕ)} (if b then Some (take n bs, drop n bs) else None) (Some (token, rest)) → IsSpelled (token_of_length most n) bs token rest
@@ -76,27 +71,12 @@ pub flag_is_format : IsFormat flag
 flag_is_format = record { reads_back = λ v rest fits. flag_back v rest; one_spelling = flag_one }
 
 pub optional_is_format : {A : Type 0} (f : Format A) → IsFormat f → IsFormat (optional f)
-optional_is_format {A} f is_f = record { reads_back = back; one_spelling = one }
+optional_is_format {A} f is_f =
+    one_of_is_format (option_kinds f) (option_part f) made ((λ _. refl), ((λ a. refl), tt)) refl (nothing_is_format, (is_f, tt))
   where
-    back : (v : Option A) (rest : List ℕ) → OptionFits f.Fits v → read_option f.read (spell_option f.spell v ++ rest) ≡ Some (v, rest)
-    back None rest fits = refl
-    back (Some a) rest fits = ap (λ o. and_then o (λ a rest. Some (Some a, rest))) (is_f.reads_back a rest fits)
-
-    one : (bs : List ℕ) (v : Option A) (rest : List ℕ) → read_option f.read bs ≡ Some (v, rest) → IsSpelled (optional f) bs v rest
-    one [] v rest e = cc
-    one (b ∷ bs) v rest e =
-        by_byte b 0 _ _ (v, rest)
-        (λ is found. let same = same_answer None v bs rest found in
-        let spelled : IsSpelled (optional f) (b ∷ bs) None bs = record { fits = tt; bytes = ap (λ c. c ∷ bs) is } in
-        subst (λ r. IsSpelled (optional f) (b ∷ bs) v r) same.1 (subst (λ u. IsSpelled (optional f) (b ∷ bs) u bs) same.0 spelled))
-        (by_byte b 1 _ _ (v, rest)
-        (λ is found.
-        let read = both_read (f.read bs) (λ a rest. Some (Some a, rest)) v rest found in
-        let same = same_answer (Some read.value) v read.between rest read.next_is in
-        let inner = is_f.one_spelling bs read.value read.between read.first_is in
-        let spelled : IsSpelled (optional f) (b ∷ bs) (Some read.value) read.between = record { fits = inner.fits; bytes = λ i. is i ∷ inner.bytes i } in
-        subst (λ r. IsSpelled (optional f) (b ∷ bs) v r) same.1 (subst (λ u. IsSpelled (optional f) (b ∷ bs) u read.between) same.0 spelled))
-        (λ none. cc)) e
+    made : (v : Option A) → make_of (option_kinds f) (option_part f v) ≡ v
+    made None = refl
+    made (Some a) = refl
 
 pub raw_there : (n : ℕ) (v rest : List ℕ) → length v ≡ n → list_all (λ b. nat_lt b 256) v ≡ true → (raw n).read (v ++ rest) ≡ Some (v, rest)
 unfolding has_bytes
@@ -121,7 +101,7 @@ pub raw_is_format : (n : ℕ) → IsFormat (raw n)
 raw_is_format n = record { reads_back = λ v rest fits. raw_there n v rest fits.0 fits.1; one_spelling = λ bs v rest e. raw_one n bs v rest (has_bytes n bs) refl e }
 
 pub key_is_format : IsFormat key
-key_is_format = token_is_format 1 64 (lit< tt)
+key_is_format = token_is_format 1 MAX_KEY (lit< tt)
 
 pub value_is_format : IsFormat value
-value_is_format = token_is_format 2 1024 (lit< tt)
+value_is_format = token_is_format 2 MAX_VALUE (lit< tt)

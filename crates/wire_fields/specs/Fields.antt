@@ -2,10 +2,11 @@
 use Rattle.std.specs.Prelude.{◌≡◌, ◌==◌, ℕ, Bool, true, false, ◌&&◌, IsTrue, nat_le, nat_lt, List, [], ◌∷◌, length, take, drop, ◌≤◌, Option, Some, None, if◌then◌else◌}
 use Rattle.std.specs.List.{list_all}
 use Rattle.vst_base.specs.Tokens.{is_token}
+use Rattle.vst_base.specs.declared.token.TheConstants.{MAX_KEY, MAX_VALUE}
 use Rattle.wire_fields.specs.Bytes.{has_bytes, number_bytes, read_number}
 use Rattle.wire_fields.specs.declared.name.TheConstants.{NAME_LEN}
-use Rattle.wire_fields.specs.Formats.{Format, and_then, keyed}
-use Rattle.lists.specs.Prefixes.{IsPrefix}
+use Rattle.wire_fields.specs.Formats.{Format, keyed, nothing}
+use Rattle.wire_fields.specs.Kinds.{Kinds, Part, first, kind, no_more, one_of, second}
 
 -- a number in a range, in so many bytes
 abbrev pub number : ℕ → ℕ → ℕ → Format ℕ
@@ -40,10 +41,10 @@ abbrev pub token : ℕ → ℕ → Format (List ℕ)
 token width most = keyed length (number width 1 most) (token_of_length most)
 
 abbrev pub key : Format (List ℕ)
-key = token 1 64
+key = token 1 MAX_KEY
 
 abbrev pub value : Format (List ℕ)
-value = token 2 1024
+value = token 2 MAX_VALUE
 
 -- no or yes
 abbrev pub flag_byte : Bool → ℕ
@@ -62,30 +63,15 @@ flag = record {
 }
 
 -- a value that may be left out: no, or yes and the value
-abbrev pub OptionFits : {A : Type 0} → (A → Type 0) → Option A → Type 0
-OptionFits Fits None = Unit {0}
-OptionFits Fits (Some a) = Fits a
+abbrev pub option_kinds : {A : Type 0} → Format A → Kinds (Option A)
+option_kinds f = kind 0 nothing (λ _. None) (kind 1 f (λ a. Some a) no_more)
 
-abbrev pub spell_option : {A : Type 0} → (A → List ℕ) → Option A → List ℕ
-spell_option spell None = 0 ∷ []
-spell_option spell (Some a) = 1 ∷ spell a
-
-abbrev pub read_option : {A : Type 0} → (List ℕ → Option (A × List ℕ)) → List ℕ → Option (Option A × List ℕ)
-read_option read [] = None
-read_option read (b ∷ bs) =
-    if b == 0 then Some (None, bs)
-    else if b == 1 then and_then (read bs) (λ a rest. Some (Some a, rest))
-    else None
+abbrev pub option_part : {A : Type 0} (f : Format A) → Option A → Part (option_kinds f)
+option_part f None = first tt
+option_part f (Some a) = second a
 
 abbrev pub optional : {A : Type 0} → Format A → Format (Option A)
-optional f = record {
-  Fits = OptionFits f.Fits;
-  spell = spell_option f.spell;
-  read = read_option f.read;
-}
-
-abbrev pub optional_value : Format (Option (List ℕ))
-optional_value = optional value
+optional f = one_of (option_kinds f) (option_part f)
 
 -- what a reader answers of the bytes before, and what it leaves of them
 abbrev pub Reads : {V : Type 0} → Format V → List ℕ → List ℕ → Option V → Type 0

@@ -2,7 +2,7 @@
 use Rattle.std.proofs.Common.{◌≡◌, ◌≤◌, ◌<◌, ℕ, zero, suc, Bool, true, false, IsTrue, List, [], ◌∷◌, ◌++◌, length, All, Option, Some, None, if◌then◌else◌, refl, sym, ap, subst, ◌∙◌, append_assoc, arith, length-append}
 use Rattle.std.specs.List.{flat_map}
 use Rattle.std.proofs.lemmas.List.Elements.{All-cons, All-head, All-nil, All-tail}
-use Rattle.wire_fields.specs.Formats.{Format, IsSpelled, IsFormat, and_then, pair, linked, mapped, keyed, tested, read_list, listed}
+use Rattle.wire_fields.specs.Formats.{Format, IsSpelled, IsFormat, and_then, pair, linked, mapped, keyed, tested, read_list, listed, nothing, read_as, FitsIfMade, spell_if_made, made_of}
 
 -- both were read
 pub record AreRead {A B : Type 0} (first : Option (A × List ℕ)) (next : A → List ℕ → Option (B × List ℕ)) (b : B) (rest : List ℕ) : Type 0 where
@@ -158,3 +158,29 @@ module _ {A : Type 0} (f : Format A) (is_f : IsFormat f) where
     reads_back = λ v rest fits. subst (λ k. read_list f.read k (flat_map f.spell v ++ rest) ≡ Some (v, rest)) fits.0 (listed_back v rest fits.1);
     one_spelling = listed_one n;
   }
+
+pub nothing_is_format : IsFormat nothing
+nothing_is_format = record {
+  reads_back = λ v rest fits. refl;
+  one_spelling = λ bs v rest e. record { fits = tt; bytes = (same_answer tt v bs rest e).1 };
+}
+
+pub made_of_is_format : {A V : Type 0} (make : A → V) (part : V → Option A) (f : Format A) → ((a : A) → part (make a) ≡ Some a) → ((v : V) (a : A) → part v ≡ Some a → make a ≡ v) → IsFormat f
+    → IsFormat (made_of make part f)
+made_of_is_format {A} {V} make part f parted made is_f = record { reads_back = λ v rest fits. by v rest (part v) refl fits; one_spelling = one }
+  where
+    by : (v : V) (rest : List ℕ) (o : Option A) → part v ≡ o → FitsIfMade f.Fits o → read_as make f (spell_if_made f.spell o ++ rest) ≡ Some (v, rest)
+    by v rest None is fits = absurd fits
+    by v rest (Some a) is fits =
+        ap (λ o. and_then o (λ a rest. Some (make a, rest))) (is_f.reads_back a rest fits) ∙ ap (λ u. let found : Option (V × List ℕ) = Some (u, rest) in found) (made v a is)
+
+    one : (bs : List ℕ) (v : V) (rest : List ℕ) → read_as make f bs ≡ Some (v, rest) → IsSpelled (made_of make part f) bs v rest
+    one bs v rest e =
+        let read = both_read (f.read bs) (λ a rest. Some (make a, rest)) v rest e in
+        let answer = same_answer (make read.value) v read.between rest read.next_is in
+        let is : Some read.value ≡ part v = sym (parted read.value) ∙ ap part answer.0 in
+        let spelled = is_f.one_spelling bs read.value read.between read.first_is in
+        record {
+          fits = subst (FitsIfMade f.Fits) is spelled.fits;
+          bytes = spelled.bytes ∙ ap (λ o. spell_if_made f.spell o ++ read.between) is ∙ ap (λ r. spell_if_made f.spell (part v) ++ r) answer.1;
+        }

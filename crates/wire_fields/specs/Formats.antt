@@ -75,3 +75,27 @@ listed f n = record {
   spell = λ v. flat_map f.spell v;
   read = λ bs. read_list f.read n bs;
 }
+
+-- no bytes at all
+abbrev pub nothing : Format Unit
+nothing = record { Fits = λ _. Unit {0}; spell = λ _. []; read = λ bs. Some (tt, bs) }
+
+-- what is made of the value that is read
+abbrev pub read_as : {A V : Type 0} → (A → V) → Format A → List ℕ → Option (V × List ℕ)
+read_as make f bs = and_then (f.read bs) (λ a rest. Some (make a, rest))
+
+-- a value that is made of another: the others have no bytes
+abbrev pub FitsIfMade : {A : Type 0} → (A → Type 0) → Option A → Type 0
+FitsIfMade Fits None = ⊥
+FitsIfMade Fits (Some a) = Fits a
+
+abbrev pub spell_if_made : {A : Type 0} → (A → List ℕ) → Option A → List ℕ
+spell_if_made spell None = []
+spell_if_made spell (Some a) = spell a
+
+abbrev pub made_of : {A V : Type 0} → (A → V) → (V → Option A) → Format A → Format V
+made_of make part f = record {
+  Fits = λ v. FitsIfMade f.Fits (part v);
+  spell = λ v. spell_if_made f.spell (part v);
+  read = λ bs. read_as make f bs;
+}

@@ -2,6 +2,10 @@ pub mod Bytes
 pub mod ByteLaws
 pub mod Formats
 pub mod FormatLaws
+pub mod Records
+pub mod RecordLaws
+pub mod Kinds
+pub mod KindLaws
 pub mod Fields
 pub mod FieldLaws
 pub mod Fronts

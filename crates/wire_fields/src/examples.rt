@@ -1,5 +1,5 @@
 ghost use Rattle.std.specs.Prelude.{◌≡◌, ◌<◌, ◌^◌, ℕ, true, false, [], ◌∷◌, None, Some, codes};
-ghost use Rattle.wire_fields.specs.Fields.{flag, key, name, number, optional, value};
+ghost use Rattle.wire_fields.specs.Fields.{flag, key, name, number, optional, raw, value};
 ghost use Rattle.wire_fields.specs.Formats.{Format, IsFormat, keyed, listed, mapped, pair, tested};
 
 /// Fields are spelled, and read with what stands after them.
@@ -18,6 +18,8 @@ pub fn worked()
     ensures a_value { value.spell (codes "x") ≡ 0 ∷ 1 ∷ codes "x" }
     ensures no_value_there { (optional value).spell None ≡ 0 ∷ [] }
     ensures a_value_there { (optional value).read (1 ∷ 0 ∷ 1 ∷ codes "x-") ≡ Some (Some (codes "x"), codes "-") }
+    ensures bytes_as_they_are { (raw 2).read (1 ∷ 2 ∷ 9 ∷ []) ≡ Some (1 ∷ 2 ∷ [], 9 ∷ []) }
+    ensures bytes_cut_short { (raw 2).read (1 ∷ []) ≡ None }
     ensures a_yes { flag.read (1 ∷ []) ≡ Some (true, []) }
     ensures no_second_yes { flag.read (2 ∷ []) ≡ None }
     ensures no_second_mark { (optional value).read (2 ∷ 0 ∷ 1 ∷ codes "x") ≡ None }

@@ -1,9 +1,9 @@
 ghost use Rattle.std.specs.Prelude.{◌≡◌, ◌≤◌, [], ◌∷◌, IfSome, IsTrue, MatchOption};
-ghost use Rattle.std.specs.Option.{option_copied, option_map};
+ghost use Rattle.std.specs.Option.{option_copied};
 ghost use Rattle.vst_base.specs.Tokens.{is_key, is_token, is_value};
-ghost use Rattle.wire_fields.specs.Fields.{Reads, flag, key, name, number, optional, token_of_length, value};
+ghost use Rattle.wire_fields.specs.Fields.{Reads, flag, key, name, number, raw, token_of_length, value};
 
-use crate::name::{NAME_LEN, front_name};
+use crate::name::{NAME_LEN, front_bytes, front_name};
 use crate::numbers::{front_u8, front_u16, front_u32, front_u64};
 use std::marker::Model;
 use vst_base::{MAX_KEY, MAX_VALUE, Token};
@@ -112,6 +112,16 @@ impl<'a> Input<'a> {
         Some(name)
     }
 
+    /// So many bytes, whatever they are. `None` comes exactly where fewer are left.
+    #[inline(always)]
+    pub fn bytes(&mut self, count: usize) -> Option<&'a [u8]>
+        ensures { Reads (raw count) self.old self.new (option_copied result) }
+    {
+        let (bytes, rest) = front_bytes(self.rest, count)?;
+        self.rest = rest;
+        Some(bytes)
+    }
+
     /// No or yes, in one byte. `None` comes exactly where the next byte is neither 0 nor 1.
     #[inline(always)]
     pub fn flag(&mut self) -> Option<bool>
@@ -150,7 +160,7 @@ impl<'a> Input<'a> {
         ensures token { Reads key self.old self.new (option_copied result) }
         ensures is_key { IfSome result (λ token. IsTrue (is_key token.now)) }
     {
-        let len = self.u8(1, 64)?;
+        let len = self.u8(1, MAX_KEY as u8)?;
         self.token::<MAX_KEY>(len as usize)
     }
 
@@ -160,35 +170,7 @@ impl<'a> Input<'a> {
         ensures token { Reads value self.old self.new (option_copied result) }
         ensures is_value { IfSome result (λ token. IsTrue (is_value token.now)) }
     {
-        let len = self.u16(1, 1024)?;
+        let len = self.u16(1, MAX_VALUE as u16)?;
         self.token::<MAX_VALUE>(len as usize)
-    }
-
-    /// A key that may be left out, after a flag that says whether it is there. `None` comes exactly where they are
-    /// not whole, or the flag or the key is none.
-    #[inline(always)]
-    pub fn optional_key(&mut self) -> Option<Option<&'a [u8]>>
-        ensures token { Reads (optional key) self.old self.new (option_map (λ token. option_copied token) result) }
-        ensures is_key { IfSome result (λ token. IfSome token (λ token. IsTrue (is_key token.now))) }
-    {
-        if self.flag()? {
-            Some(Some(self.key()?))
-        } else {
-            Some(None)
-        }
-    }
-
-    /// A value that may be left out, after a flag that says whether it is there. `None` comes exactly where they are
-    /// not whole, or the flag or the value is none.
-    #[inline(always)]
-    pub fn optional_value(&mut self) -> Option<Option<&'a [u8]>>
-        ensures token { Reads (optional value) self.old self.new (option_map (λ token. option_copied token) result) }
-        ensures is_value { IfSome result (λ token. IfSome token (λ token. IsTrue (is_value token.now))) }
-    {
-        if self.flag()? {
-            Some(Some(self.value()?))
-        } else {
-            Some(None)
-        }
     }
 }

@@ -15,6 +15,5 @@ pub use input::Input;
 pub use laws::fields_have_one_spelling;
 pub use name::NAME_LEN;
 pub use output::{
-    put_flag, put_key, put_kind_and_key, put_optional_key, put_optional_value, put_u8, put_u16,
-    put_u32, put_u64, put_value,
+    put_bytes, put_flag, put_key, put_kind_and_key, put_u8, put_u16, put_u32, put_u64, put_value,
 };

@@ -1,13 +1,12 @@
-ghost use Rattle.std.specs.Prelude.{◌≤◌, IfSome};
+ghost use Rattle.std.specs.Prelude.{◌≡◌, ◌≤◌, IfSome, option_map};
 ghost use Rattle.wire_fields.specs.Fields.{number};
-ghost use Rattle.wire_fields.specs.Fronts.{ReadsFront};
 
 use byteorder::{ByteOrder, NetworkEndian};
 
 // A number of one byte in this range, and what stands after it.
 #[tactic(auto, using(crate::proofs::Fronts::number_short, crate::proofs::Fronts::number_below, crate::proofs::Fronts::number_above))]
 pub fn front_u8(bytes: &[u8], low: u8, high: u8) -> Option<(u8, &[u8])>
-    ensures value { ReadsFront (number 1 low high) bytes.now result }
+    ensures value { (number 1 low high).read bytes.now ≡ option_map (λ p. (p.0, p.1.now)) result }
     ensures in_range { IfSome result (λ p. (low ≤ p.0) × (p.0 ≤ high)) }
 {
     if bytes.len() < 1 {
@@ -23,7 +22,7 @@ pub fn front_u8(bytes: &[u8], low: u8, high: u8) -> Option<(u8, &[u8])>
 // A number of two bytes in this range, and what stands after it.
 #[tactic(auto, using(crate::proofs::Fronts::number_short, crate::proofs::Fronts::number_below, crate::proofs::Fronts::number_above))]
 pub fn front_u16(bytes: &[u8], low: u16, high: u16) -> Option<(u16, &[u8])>
-    ensures value { ReadsFront (number 2 low high) bytes.now result }
+    ensures value { (number 2 low high).read bytes.now ≡ option_map (λ p. (p.0, p.1.now)) result }
     ensures in_range { IfSome result (λ p. (low ≤ p.0) × (p.0 ≤ high)) }
 {
     if bytes.len() < 2 {
@@ -39,7 +38,7 @@ pub fn front_u16(bytes: &[u8], low: u16, high: u16) -> Option<(u16, &[u8])>
 // A number of four bytes in this range, and what stands after it.
 #[tactic(auto, using(crate::proofs::Fronts::number_short, crate::proofs::Fronts::number_below, crate::proofs::Fronts::number_above))]
 pub fn front_u32(bytes: &[u8], low: u32, high: u32) -> Option<(u32, &[u8])>
-    ensures value { ReadsFront (number 4 low high) bytes.now result }
+    ensures value { (number 4 low high).read bytes.now ≡ option_map (λ p. (p.0, p.1.now)) result }
     ensures in_range { IfSome result (λ p. (low ≤ p.0) × (p.0 ≤ high)) }
 {
     if bytes.len() < 4 {
@@ -55,7 +54,7 @@ pub fn front_u32(bytes: &[u8], low: u32, high: u32) -> Option<(u32, &[u8])>
 // A number of eight bytes in this range, and what stands after it.
 #[tactic(auto, using(crate::proofs::Fronts::number_short, crate::proofs::Fronts::number_below, crate::proofs::Fronts::number_above))]
 pub fn front_u64(bytes: &[u8], low: u64, high: u64) -> Option<(u64, &[u8])>
-    ensures value { ReadsFront (number 8 low high) bytes.now result }
+    ensures value { (number 8 low high).read bytes.now ≡ option_map (λ p. (p.0, p.1.now)) result }
     ensures in_range { IfSome result (λ p. (low ≤ p.0) × (p.0 ≤ high)) }
 {
     if bytes.len() < 8 {

@@ -1,6 +1,6 @@
-ghost use Rattle.std.specs.Prelude.{◌≡◌, ◌∷◌, [], ◌++◌, OnErr, OnOk};
+ghost use Rattle.std.specs.Prelude.{◌≡◌, ◌∷◌, [], ◌++◌, OnErr, OnOk, length};
 ghost use Rattle.wire_fields.specs.Bytes.{number_bytes};
-ghost use Rattle.wire_fields.specs.Fields.{flag_byte, key, optional, token_of_length, value};
+ghost use Rattle.wire_fields.specs.Fields.{flag_byte, key, raw, token_of_length, value};
 ghost use Rattle.lists.specs.Prefixes.{IsPrefix};
 
 use byteorder::{ByteOrder, NetworkEndian};
@@ -91,30 +91,11 @@ pub fn put_value(out: &mut Vec<u8>, token: &Value) -> Result<(), AllocError>
     out.extend_from_slice(bytes)
 }
 
-#[tactic(auto, using(crate::specs::Fronts::front_stays))]
-/// Adds a key that may be left out at the end, or a part of its bytes.
-pub fn put_optional_key(out: &mut Vec<u8>, token: &Option<Key>) -> Result<(), AllocError>
-    ensures ok { OnOk result (out.new.items ≡ out.old.items ++ (optional key).spell token.now) }
-    ensures err { OnErr result (IsPrefix out.old.items out.new.items) }
-    ensures fits { OnOk result ((optional key).Fits token.now) }
+/// Adds bytes as they are at the end, or nothing.
+pub fn put_bytes(out: &mut Vec<u8>, bytes: &[u8]) -> Result<(), AllocError>
+    ensures ok { OnOk result (out.new.items ≡ out.old.items ++ (raw (length bytes.now)).spell bytes.now) }
+    ensures err { OnErr result (out.new.items ≡ out.old.items) }
+    ensures fits { OnOk result ((raw (length bytes.now)).Fits bytes.now) }
 {
-    put_flag(out, token.is_some())?;
-    match token {
-        Some(token) => put_key(out, token),
-        None => Ok(()),
-    }
-}
-
-#[tactic(auto, using(crate::specs::Fronts::front_stays))]
-/// Adds a value that may be left out at the end, or a part of its bytes.
-pub fn put_optional_value(out: &mut Vec<u8>, token: &Option<Value>) -> Result<(), AllocError>
-    ensures ok { OnOk result (out.new.items ≡ out.old.items ++ (optional value).spell token.now) }
-    ensures err { OnErr result (IsPrefix out.old.items out.new.items) }
-    ensures fits { OnOk result ((optional value).Fits token.now) }
-{
-    put_flag(out, token.is_some())?;
-    match token {
-        Some(token) => put_value(out, token),
-        None => Ok(()),
-    }
+    out.extend_from_slice(bytes)
 }

@@ -1,38 +1,42 @@
 -- The bytes of what a client asks a node of a cluster, and is told by it.
-use Rattle.std.specs.Prelude.{◌==◌, ℕ, List, [], ◌∷◌, Option, None, if◌then◌else◌}
-use Rattle.wire_fields.specs.Formats.{Format, mapped, pair}
+use Rattle.wire_fields.specs.Formats.{Format, nothing}
+use Rattle.wire_fields.specs.Kinds.{Kinds, Part, first, kind, no_more, one_of, second, third}
+use Rattle.wire_fields.specs.Records.{FieldsOf, field, last, record_of}
 use Rattle.wire_messages.specs.PeerBytes.{any_number}
-use Rattle.wire_messages.specs.Tagged.{nothing, read_as}
 use Rattle.wire_messages.specs.declared.client.Answer.{Answer}
 use Rattle.wire_messages.specs.declared.client.Answer.TheVariants.{Reply, NotLeader, Full}
 use Rattle.wire_messages.specs.declared.client.ClientReply.{ClientReply}
 use Rattle.wire_messages.specs.declared.client.ClientRequest.{ClientRequest}
 
 -- the number of the request, and the command
+abbrev pub request_fields : {C : Type 0} → Format C → FieldsOf (ClientRequest C)
+request_fields f =
+    field (λ r. r.request) any_number
+    (last (λ r. r.cmd) f)
+
 abbrev pub client_request : {C : Type 0} → Format C → Format (ClientRequest C)
-client_request f = mapped (λ p. record { request = p.0; cmd = p.1 }) (λ r. (r.request, r.cmd)) (pair any_number f)
+client_request f = record_of (request_fields f) (λ request cmd. record { request = request; cmd = cmd })
 
-abbrev pub AnswerFits : {O : Type 0} → Format O → Answer O → Type 0
-AnswerFits f (Reply output) = f.Fits output
-AnswerFits f NotLeader = Unit {0}
-AnswerFits f Full = Unit {0}
+abbrev pub answer_kinds : {O : Type 0} → Format O → Kinds (Answer O)
+answer_kinds f =
+    kind 1 f (λ output. Reply output)
+    (kind 2 nothing (λ _. NotLeader)
+    (kind 3 nothing (λ _. Full)
+    no_more))
 
-abbrev pub spell_answer : {O : Type 0} → Format O → Answer O → List ℕ
-spell_answer f (Reply output) = 1 ∷ f.spell output
-spell_answer f NotLeader = 2 ∷ []
-spell_answer f Full = 3 ∷ []
-
-abbrev pub read_answer : {O : Type 0} → Format O → List ℕ → Option (Answer O × List ℕ)
-read_answer f [] = None
-read_answer f (tag ∷ bs) =
-    if tag == 1 then read_as (λ output. Reply output) f bs
-    else if tag == 2 then read_as (λ _. NotLeader) nothing bs
-    else if tag == 3 then read_as (λ _. Full) nothing bs
-    else None
+abbrev pub answer_part : {O : Type 0} (f : Format O) → Answer O → Part (answer_kinds f)
+answer_part f (Reply output) = first output
+answer_part f NotLeader = second tt
+answer_part f Full = third tt
 
 abbrev pub answer : {O : Type 0} → Format O → Format (Answer O)
-answer f = record { Fits = AnswerFits f; spell = spell_answer f; read = read_answer f }
+answer f = one_of (answer_kinds f) (answer_part f)
 
 -- the number of the request, and the answer
+abbrev pub reply_fields : {O : Type 0} → Format O → FieldsOf (ClientReply O)
+reply_fields f =
+    field (λ r. r.request) any_number
+    (last (λ r. r.answer) (answer f))
+
 abbrev pub client_reply : {O : Type 0} → Format O → Format (ClientReply O)
-client_reply f = mapped (λ p. record { request = p.0; answer = p.1 }) (λ r. (r.request, r.answer)) (pair any_number (answer f))
+client_reply f = record_of (reply_fields f) (λ request answer. record { request = request; answer = answer })

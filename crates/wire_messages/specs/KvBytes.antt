@@ -1,11 +1,12 @@
 -- The bytes of the key-value machine's commands and outputs.
-use Rattle.std.specs.Prelude.{◌==◌, ℕ, List, [], ◌∷◌, Option, None, if◌then◌else◌}
+use Rattle.std.specs.Prelude.{List, ℕ, Option}
 use Rattle.kv_machine.specs.declared.cmd.KvCmd.{KvCmd}
 use Rattle.kv_machine.specs.declared.cmd.KvCmd.TheVariants.{Get, Put, Del, Cas, Cad}
 use Rattle.kv_machine.specs.declared.out.KvOut.{KvOut}
 use Rattle.wire_fields.specs.Fields.{key, optional, value}
-use Rattle.wire_fields.specs.Formats.{Format, mapped, pair}
-use Rattle.wire_messages.specs.Tagged.{read_as}
+use Rattle.wire_fields.specs.Formats.{Format, pair}
+use Rattle.wire_fields.specs.Kinds.{Kinds, Part, fifth, first, fourth, kind, no_more, one_of, second, third}
+use Rattle.wire_fields.specs.Records.{FieldsOf, field, last, record_of}
 
 -- a key and a value
 abbrev pub key_and_value : Format (List ℕ × List ℕ)
@@ -15,33 +16,31 @@ key_and_value = pair key value
 abbrev pub key_and_values : Format (List ℕ × (Option (List ℕ) × List ℕ))
 key_and_values = pair key (pair (optional value) value)
 
-abbrev pub CommandFits : KvCmd → Type 0
-CommandFits (Get k) = key.Fits k
-CommandFits (Put k v) = key_and_value.Fits (k, v)
-CommandFits (Del k) = key.Fits k
-CommandFits (Cas k e v) = key_and_values.Fits (k, (e, v))
-CommandFits (Cad k v) = key_and_value.Fits (k, v)
+abbrev pub kv_kinds : Kinds KvCmd
+kv_kinds =
+    kind 1 key (λ k. Get k)
+    (kind 2 key_and_value (λ (k, v). Put k v)
+    (kind 3 key (λ k. Del k)
+    (kind 4 key_and_values (λ (k, (expected, v)). Cas k expected v)
+    (kind 5 key_and_value (λ (k, v). Cad k v)
+    no_more))))
 
-abbrev pub spell_command : KvCmd → List ℕ
-spell_command (Get k) = 1 ∷ key.spell k
-spell_command (Put k v) = 2 ∷ key_and_value.spell (k, v)
-spell_command (Del k) = 3 ∷ key.spell k
-spell_command (Cas k e v) = 4 ∷ key_and_values.spell (k, (e, v))
-spell_command (Cad k v) = 5 ∷ key_and_value.spell (k, v)
-
-abbrev pub read_command : List ℕ → Option (KvCmd × List ℕ)
-read_command [] = None
-read_command (tag ∷ bs) =
-    if tag == 1 then read_as (λ k. Get k) key bs
-    else if tag == 2 then read_as (λ p. Put p.0 p.1) key_and_value bs
-    else if tag == 3 then read_as (λ k. Del k) key bs
-    else if tag == 4 then read_as (λ p. Cas p.0 p.1.0 p.1.1) key_and_values bs
-    else if tag == 5 then read_as (λ p. Cad p.0 p.1) key_and_value bs
-    else None
+abbrev pub kv_part : KvCmd → Part kv_kinds
+kv_part (Get k) = first k
+kv_part (Put k v) = second (k, v)
+kv_part (Del k) = third k
+kv_part (Cas k expected v) = fourth (k, (expected, v))
+kv_part (Cad k v) = fifth (k, v)
 
 abbrev pub kv_command : Format KvCmd
-kv_command = record { Fits = CommandFits; spell = spell_command; read = read_command }
+kv_command = one_of kv_kinds kv_part
 
 -- the key, its value after the command and before it
+abbrev pub output_fields : FieldsOf KvOut
+output_fields =
+    field (λ o. o.key) key
+    (field (λ o. o.after) (optional value)
+    (last (λ o. o.before) (optional value)))
+
 abbrev pub kv_output : Format KvOut
-kv_output = mapped (λ p. record { key = p.0; after = p.1.0; before = p.1.1 }) (λ o. (o.key, (o.after, o.before))) (pair key (pair (optional value) (optional value)))
+kv_output = record_of output_fields (λ key after before. record { key = key; after = after; before = before })

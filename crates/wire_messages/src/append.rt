@@ -3,7 +3,7 @@ ghost use Rattle.wire_messages.specs.RaftBytes.{append, append_front};
 ghost use Rattle.wire_messages.specs.RaftByteLaws.{append_is_format};
 
 use crate::Wire;
-use crate::entries::{put_each, skip_entries, take_entries};
+use crate::entries::{put_each, take_entries};
 use byteorder::{ByteOrder, NetworkEndian};
 use raft_types::{Append, MAX_INDEX};
 use std::alloc::{AllocError, Global};
@@ -72,23 +72,6 @@ impl<C: Wire> Wire for Append<C> {
             return Ok(None);
         }
         Ok(Some(Append::new(term, prev_index, prev_term, commit, entries)))
-    }
-
-    #[inline(always)]
-    fn skip(input: &mut Input<'_>) -> Option<()> {
-        // One test of the length stands for those of the five numbers.
-        if input.rest().len() < FRONT_LEN {
-            return None;
-        }
-        input.u64(1, MAX_TERM)?;
-        let prev_index = input.u32(0, MAX_INDEX)?;
-        input.u64(0, MAX_TERM)?;
-        input.u32(0, MAX_INDEX)?;
-        let count = skip_entries::<C>(input)?;
-        if prev_index + u32::from(count) > MAX_INDEX {
-            return None;
-        }
-        Some(())
     }
 
     ghost is_format = { append_is_format C.format C.is_format };

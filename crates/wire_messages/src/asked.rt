@@ -1,7 +1,7 @@
 ghost use Rattle.std.specs.Prelude.{IfOk, IfSome};
 ghost use Rattle.vst_base.specs.Entries.{IsOrigin};
 ghost use Rattle.wire_messages.specs.EntryBytes.{asked};
-ghost use Rattle.wire_messages.specs.Wires.{Skips, Takes};
+ghost use Rattle.wire_messages.specs.Wires.{Takes};
 
 use crate::Wire;
 use std::alloc::{AllocError, Global};
@@ -32,7 +32,7 @@ pub fn take_asked<C: Wire>(
     let Some(request) = input.u64(0, u64::MAX) else {
         return Ok(None);
     };
-    let Some(origin) = input.u8(0, 8) else {
+    let Some(origin) = input.u8(0, MAX_NODES - 1) else {
         return Ok(None);
     };
     let Some(origin) = Node::new(origin, MAX_NODES) else {
@@ -47,15 +47,4 @@ pub fn take_asked<C: Wire>(
         origin,
         cmd,
     }))
-}
-
-/// Passes over the request that stands in front.
-#[inline(always)]
-pub fn skip_asked<C: Wire>(input: &mut Input<'_>) -> Option<()>
-    ensures { Skips (asked C.format) input.old input.new result }
-{
-    input.u64(0, u64::MAX)?;
-    input.u64(0, u64::MAX)?;
-    input.u8(0, 8)?;
-    C::skip(input)
 }

@@ -31,13 +31,5 @@ impl<C: Wire> Wire for PbMsg<C> {
         }
     }
 
-    fn skip(input: &mut Input<'_>) -> Option<()> {
-        match input.byte()? {
-            1 => C::skip(input),
-            2 => Some(()),
-            _ => None,
-        }
-    }
-
     ghost is_format = { backup_message_is_format C.format C.is_format };
 }

@@ -55,11 +55,6 @@ impl<C: Wire> Wire for ClientRequest<C> {
         }))
     }
 
-    fn skip(input: &mut Input<'_>) -> Option<()> {
-        input.u64(0, u64::MAX)?;
-        C::skip(input)
-    }
-
     ghost is_format = { client_request_is_format C.format C.is_format };
 }
 
@@ -90,14 +85,6 @@ impl<O: Wire> Wire for Answer<O> {
         }
     }
 
-    fn skip(input: &mut Input<'_>) -> Option<()> {
-        match input.byte()? {
-            1 => O::skip(input),
-            2 | 3 => Some(()),
-            _ => None,
-        }
-    }
-
     ghost is_format = { answer_is_format O.format O.is_format };
 }
 
@@ -121,11 +108,6 @@ impl<O: Wire> Wire for ClientReply<O> {
             request: ReqId::new(request),
             answer,
         }))
-    }
-
-    fn skip(input: &mut Input<'_>) -> Option<()> {
-        input.u64(0, u64::MAX)?;
-        Answer::<O>::skip(input)
     }
 
     ghost is_format = { client_reply_is_format O.format O.is_format };

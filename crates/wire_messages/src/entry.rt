@@ -2,17 +2,14 @@ ghost use Rattle.std.specs.Prelude.{◌≡◌, ◌++◌, IfOk, IfSome, OnErr, On
 ghost use Rattle.vst_base.specs.Entries.{HasOrigin};
 ghost use Rattle.wire_messages.specs.EntryBytes.{entry, held, old_entry, request_front};
 ghost use Rattle.wire_messages.specs.EntryByteLaws.{entry_is_format};
-ghost use Rattle.wire_messages.specs.Wires.{Skips, Takes};
+ghost use Rattle.wire_messages.specs.Wires.{Takes};
 
 use crate::Wire;
-use crate::asked::{skip_asked, take_asked};
+use crate::asked::take_asked;
 use byteorder::{ByteOrder, NetworkEndian};
 use std::alloc::{AllocError, Global};
 use vst_base::{Entry, MAX_TERM, What};
 use wire_fields::{Input, put_u64};
-
-// How many bytes the term and the byte after it take, which says what the entry holds.
-const FRONT_LEN: usize = 9;
 
 // How many bytes stand before the command of an entry with a request.
 const REQUEST_FRONT_LEN: usize = 26;
@@ -60,18 +57,6 @@ fn take_what<C: Wire>(alloc: Global, input: &mut Input<'_>) -> Result<Option<Wha
     }
 }
 
-// Passes over what an entry holds.
-#[inline(always)]
-fn skip_what<C: Wire>(input: &mut Input<'_>) -> Option<()>
-    ensures { Skips (held C.format) input.old input.new result }
-{
-    match input.byte()? {
-        0 => Some(()),
-        1 => skip_asked::<C>(input),
-        _ => None,
-    }
-}
-
 impl<C: Wire> Wire for Entry<C> {
     ghost format = { entry C.format };
 
@@ -103,16 +88,6 @@ impl<C: Wire> Wire for Entry<C> {
             return Ok(None);
         };
         Ok(Some(Entry::new(term, what)))
-    }
-
-    #[inline(always)]
-    fn skip(input: &mut Input<'_>) -> Option<()> {
-        // One test of the length stands for those of the term and of the byte after it.
-        if input.rest().len() < FRONT_LEN {
-            return None;
-        }
-        input.u64(1, MAX_TERM)?;
-        skip_what::<C>(input)
     }
 
     ghost is_format = { entry_is_format C.format C.is_format };

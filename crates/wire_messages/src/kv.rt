@@ -2,11 +2,10 @@ ghost use Rattle.wire_messages.specs.KvBytes.{kv_command, kv_output};
 ghost use Rattle.wire_messages.specs.KvByteLaws.{kv_command_is_format, kv_output_is_format};
 
 use crate::Wire;
-use crate::kv_borrowed::{command, own_value};
 use kv_machine::{KvCmd, KvOut};
 use std::alloc::{AllocError, Global};
-use vst_base::Key;
-use wire_fields::{Input, put_key, put_kind_and_key, put_optional_value, put_value};
+use vst_base::{Key, Value};
+use wire_fields::{Input, put_kind_and_key, put_value};
 
 impl Wire for KvCmd {
     ghost format = { kv_command };
@@ -22,7 +21,7 @@ impl Wire for KvCmd {
             KvCmd::Del(key) => put_kind_and_key(out, 3, key),
             KvCmd::Cas(key, expected, value) => {
                 put_kind_and_key(out, 4, key)?;
-                put_optional_value(out, expected)?;
+                expected.put(out)?;
                 put_value(out, value)
             }
             KvCmd::Cad(key, value) => {
@@ -33,16 +32,29 @@ impl Wire for KvCmd {
     }
 
     fn take(alloc: Global, input: &mut Input<'_>) -> Result<Option<KvCmd>, AllocError> {
-        let Some(command) = command(input) else {
-            return Ok(None);
-        };
-        Ok(Some(command.own(alloc)?))
-    }
-
-    #[inline(always)]
-    fn skip(input: &mut Input<'_>) -> Option<()> {
-        command(input)?;
-        Some(())
+        match input.byte() {
+            Some(1) => match Key::take(alloc, input)? {
+                Some(key) => Ok(Some(KvCmd::Get(key))),
+                None => Ok(None),
+            },
+            Some(2) => match <(Key, Value)>::take(alloc, input)? {
+                Some((key, value)) => Ok(Some(KvCmd::Put(key, value))),
+                None => Ok(None),
+            },
+            Some(3) => match Key::take(alloc, input)? {
+                Some(key) => Ok(Some(KvCmd::Del(key))),
+                None => Ok(None),
+            },
+            Some(4) => match <(Key, (Option<Value>, Value))>::take(alloc, input)? {
+                Some((key, (expected, value))) => Ok(Some(KvCmd::Cas(key, expected, value))),
+                None => Ok(None),
+            },
+            Some(5) => match <(Key, Value)>::take(alloc, input)? {
+                Some((key, value)) => Ok(Some(KvCmd::Cad(key, value))),
+                None => Ok(None),
+            },
+            _ => Ok(None),
+        }
     }
 
     ghost is_format = { kv_command_is_format };
@@ -53,33 +65,16 @@ impl Wire for KvOut {
 
     #[tactic(auto, using(wire_fields::specs::Fronts::front_stays))]
     fn put(&self, out: &mut Vec<u8>) -> Result<(), AllocError> {
-        put_key(out, &self.key)?;
-        put_optional_value(out, &self.after)?;
-        put_optional_value(out, &self.before)
+        self.key.put(out)?;
+        self.after.put(out)?;
+        self.before.put(out)
     }
 
     fn take(alloc: Global, input: &mut Input<'_>) -> Result<Option<KvOut>, AllocError> {
-        let Some(key) = input.key() else {
-            return Ok(None);
-        };
-        let Some(after) = input.optional_value() else {
-            return Ok(None);
-        };
-        let Some(before) = input.optional_value() else {
-            return Ok(None);
-        };
-        Ok(Some(KvOut {
-            key: Key::from_token(alloc, key)?,
-            after: own_value(alloc, after)?,
-            before: own_value(alloc, before)?,
-        }))
-    }
-
-    fn skip(input: &mut Input<'_>) -> Option<()> {
-        input.key()?;
-        input.optional_value()?;
-        input.optional_value()?;
-        Some(())
+        match <(Key, (Option<Value>, Option<Value>))>::take(alloc, input)? {
+            Some((key, (after, before))) => Ok(Some(KvOut { key, after, before })),
+            None => Ok(None),
+        }
     }
 
     ghost is_format = { kv_output_is_format };

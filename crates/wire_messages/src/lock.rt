@@ -35,10 +35,5 @@ impl Wire for LockMsg {
         Ok(message(input))
     }
 
-    fn skip(input: &mut Input<'_>) -> Option<()> {
-        message(input)?;
-        Some(())
-    }
-
     ghost is_format = { lock_message_is_format };
 }

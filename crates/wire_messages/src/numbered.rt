@@ -25,10 +25,5 @@ impl<M: Wire> Wire for SeqMsg<M> {
         Ok(Some(SeqMsg { number, inner }))
     }
 
-    fn skip(input: &mut Input<'_>) -> Option<()> {
-        input.u64(0, u64::MAX)?;
-        M::skip(input)
-    }
-
     ghost is_format = { numbered_is_format M.format M.is_format };
 }

@@ -53,16 +53,5 @@ impl<C: Wire> Wire for RaftMsg<C> {
         }
     }
 
-    #[inline(always)]
-    fn skip(input: &mut Input<'_>) -> Option<()> {
-        match input.byte()? {
-            1 => RequestVote::skip(input),
-            2 => Vote::skip(input),
-            3 => Append::<C>::skip(input),
-            4 => Appended::skip(input),
-            _ => None,
-        }
-    }
-
     ghost is_format = { raft_message_is_format C.format C.is_format };
 }

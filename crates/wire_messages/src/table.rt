@@ -2,12 +2,10 @@ ghost use Rattle.wire_messages.specs.TableBytes.{table_command, table_output};
 ghost use Rattle.wire_messages.specs.TableByteLaws.{table_command_is_format, table_output_is_format};
 
 use crate::Wire;
-use crate::kv_borrowed::own_key;
-use crate::table_borrowed::command;
 use lock_table::{TableCmd, TableOut};
 use std::alloc::{AllocError, Global};
 use vst_base::Key;
-use wire_fields::{Input, put_flag, put_key, put_kind_and_key, put_optional_key};
+use wire_fields::{Input, put_flag, put_key, put_kind_and_key};
 
 impl Wire for TableCmd {
     ghost format = { table_command };
@@ -28,16 +26,21 @@ impl Wire for TableCmd {
     }
 
     fn take(alloc: Global, input: &mut Input<'_>) -> Result<Option<TableCmd>, AllocError> {
-        let Some(command) = command(input) else {
-            return Ok(None);
-        };
-        Ok(Some(command.own(alloc)?))
-    }
-
-    #[inline(always)]
-    fn skip(input: &mut Input<'_>) -> Option<()> {
-        command(input)?;
-        Some(())
+        match input.byte() {
+            Some(1) => match <(Key, Key)>::take(alloc, input)? {
+                Some((name, owner)) => Ok(Some(TableCmd::Acquire(name, owner))),
+                None => Ok(None),
+            },
+            Some(2) => match <(Key, Key)>::take(alloc, input)? {
+                Some((name, owner)) => Ok(Some(TableCmd::Release(name, owner))),
+                None => Ok(None),
+            },
+            Some(3) => match Key::take(alloc, input)? {
+                Some(name) => Ok(Some(TableCmd::Holder(name))),
+                None => Ok(None),
+            },
+            _ => Ok(None),
+        }
     }
 
     ghost is_format = { table_command_is_format };
@@ -48,33 +51,19 @@ impl Wire for TableOut {
 
     #[tactic(auto, using(wire_fields::specs::Fronts::front_stays))]
     fn put(&self, out: &mut Vec<u8>) -> Result<(), AllocError> {
-        put_key(out, &self.name)?;
-        put_optional_key(out, &self.holder)?;
+        self.name.put(out)?;
+        self.holder.put(out)?;
         put_flag(out, self.yes)
     }
 
     fn take(alloc: Global, input: &mut Input<'_>) -> Result<Option<TableOut>, AllocError> {
-        let Some(name) = input.key() else {
-            return Ok(None);
-        };
-        let Some(holder) = input.optional_key() else {
+        let Some((name, holder)) = <(Key, Option<Key>)>::take(alloc, input)? else {
             return Ok(None);
         };
         let Some(yes) = input.flag() else {
             return Ok(None);
         };
-        Ok(Some(TableOut {
-            name: Key::from_token(alloc, name)?,
-            holder: own_key(alloc, holder)?,
-            yes,
-        }))
-    }
-
-    fn skip(input: &mut Input<'_>) -> Option<()> {
-        input.key()?;
-        input.optional_key()?;
-        input.flag()?;
-        Some(())
+        Ok(Some(TableOut { name, holder, yes }))
     }
 
     ghost is_format = { table_output_is_format };

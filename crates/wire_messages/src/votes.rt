@@ -49,11 +49,6 @@ impl Wire for RequestVote {
         Ok(read_request_vote(input))
     }
 
-    fn skip(input: &mut Input<'_>) -> Option<()> {
-        read_request_vote(input)?;
-        Some(())
-    }
-
     ghost is_format = { request_vote_is_format };
 }
 
@@ -68,11 +63,6 @@ impl Wire for Vote {
 
     fn take(_alloc: Global, input: &mut Input<'_>) -> Result<Option<Vote>, AllocError> {
         Ok(read_vote(input))
-    }
-
-    fn skip(input: &mut Input<'_>) -> Option<()> {
-        read_vote(input)?;
-        Some(())
     }
 
     ghost is_format = { vote_is_format };
@@ -90,11 +80,6 @@ impl Wire for Appended {
 
     fn take(_alloc: Global, input: &mut Input<'_>) -> Result<Option<Appended>, AllocError> {
         Ok(read_appended(input))
-    }
-
-    fn skip(input: &mut Input<'_>) -> Option<()> {
-        read_appended(input)?;
-        Some(())
     }
 
     ghost is_format = { appended_is_format };

@@ -1,7 +1,7 @@
-ghost use Rattle.std.specs.Prelude.{◌≡◌, IfOk, is_some};
+ghost use Rattle.std.specs.Prelude.{◌≡◌, IfOk};
 ghost use Rattle.wire_fields.specs.Formats.{IsFormat};
 ghost use Rattle.wire_messages.specs.EntryBytes.{old_entry};
-ghost use Rattle.wire_messages.specs.Wires.{read_whole};
+ghost use Rattle.wire_messages.specs.Wires.{HasOneSpelling, read_whole};
 
 use crate::Wire;
 use std::alloc::{AllocError, Global};
@@ -21,16 +21,11 @@ pub fn from_bytes<M: Wire>(alloc: Global, bytes: &[u8]) -> Result<Option<M>, All
     }
 }
 
-/// Whether all of the bytes are a message, which takes no memory.
-pub fn is_message<M: Wire>(bytes: &[u8]) -> bool
-    ensures { result ≡ is_some (read_whole M.format bytes.now) }
-{
-    let mut input = Input::new(bytes);
-    match M::skip(&mut input) {
-        Some(()) => input.rest().is_empty(),
-        None => false,
-    }
-}
+/// Messages have one spelling, in front of other bytes and alone.
+pub fn messages_have_one_spelling<M: Wire>()
+    ensures in_front { IsFormat M.format }
+    ensures alone { HasOneSpelling M.format }
+{}
 
 /// Entries of version 1 have one spelling too.
 pub fn old_entries_have_one_spelling<C: Wire>()

@@ -1,6 +1,6 @@
 ghost use Rattle.std.specs.Prelude.{◌≡◌, ◌++◌, OnErr, OnOk};
 ghost use Rattle.wire_fields.specs.Formats.{Format, IsFormat};
-ghost use Rattle.wire_messages.specs.Wires.{Skips, Takes};
+ghost use Rattle.wire_messages.specs.Wires.{Takes};
 ghost use Rattle.lists.specs.Prefixes.{IsPrefix};
 
 use std::alloc::{AllocError, Global};
@@ -21,11 +21,6 @@ pub trait Wire: Drop {
     /// an `Err` is not said.
     fn take(alloc: Global, input: &mut Input<'_>) -> Result<Option<Self>, AllocError>
         ensures { Takes format input.old input.new result };
-
-    /// Passes over the bytes of a value, which takes no memory. `None` comes exactly where none stands in front. Where
-    /// entries of a log are read it is inlined always, as `Input`'s methods are.
-    fn skip(input: &mut Input<'_>) -> Option<()>
-        ensures { Skips format input.old input.new result };
 
     /// What is put reads back, and what is read has no other bytes.
     ghost is_format: { IsFormat format };

@@ -1,17 +1,13 @@
 -- What a node sends is heard: the bytes of a message, from the node that they come from, are that message.
-use Rattle.std.specs.Prelude.{◌≡◌, ◌==◌, ℕ, Bool, true, ◌&&◌, List, [], None, Some, ◌≤◌, length, is_some, bytes_eq, if◌then◌else◌, refl}
-use Rattle.std.proofs.Common.{ap, arith, ◌∙◌, sym, length-append}
+use Rattle.std.specs.Prelude.{◌≡◌, ◌==◌, ℕ, Bool, true, ◌&&◌, List, None, Some, ◌≤◌, length, bytes_eq, if◌then◌else◌, refl}
+use Rattle.std.proofs.Common.{ap, arith, ◌∙◌}
 use Rattle.std.proofs.lemmas.Bool.{eq-eqb}
-use Rattle.std.proofs.lemmas.List.{append-nil}
 use Rattle.std.proofs.lemmas.Slice.Eq.{bytes_eq-Decides}
 use Rattle.vst_base.specs.declared.stack.StackId.{StackId}
-use Rattle.wire_codec.specs.DatagramLaws.{datagram_back}
-use Rattle.wire_codec.specs.Datagrams.{message_of}
+use Rattle.wire_codec.specs.DatagramLaws.{fitting, typed_back}
 use Rattle.wire_codec.specs.Headings.{HasByte, stack_byte}
-use Rattle.wire_fields.specs.ByteLaws.{length-number_bytes}
 use Rattle.wire_fields.specs.Fields.{name}
 use Rattle.wire_fields.specs.Formats.{Format, IsFormat}
-use Rattle.wire_messages.specs.Wires.{read_whole, whole}
 use Rattle.wired.specs.WiredRuns.{HasBytes, IsFormatOf}
 use Rattle.wired.specs.Wiring.{heard, is_peer_heading, message_in, packet, peer_heading}
 
@@ -24,26 +20,14 @@ own_heading stack label from to =
     (eq-eqb (stack_byte stack) (stack_byte stack) refl) (eq-eqb from from refl) (eq-eqb to to refl) ((bytes_eq-Decides label label).1 refl)
 
 module _ {M : Type 0} (f : Format M) (is_f : IsFormat f) where
-  pub whole_back : (message : M) → f.Fits message → read_whole f (f.spell message) ≡ Some message
-  whole_back message fits = ap whole (ap f.read (sym (append-nil (f.spell message))) ∙ is_f.reads_back message [] fits)
-
   pub heard_back : (stack : StackId) (label : List ℕ) (from to : ℕ) (message : M) → HasBytes f stack label from to message
       → heard f stack label from to (packet f stack label from to message) ≡ Some message
   heard_back stack label from to message has =
-      ap (message_in f stack label from to) (datagram_back (message_of (peer_heading stack label from to) (f.spell message)) has.datagram)
-      ∙ ap (λ b. if b then read_whole f (f.spell message) else None) (own_heading stack label from to)
-      ∙ whole_back message has.fits
+      ap (message_in f stack label from to) (typed_back f is_f (peer_heading stack label from to) message (packet f stack label from to message) has)
+      ∙ ap (λ b. if b then Some message else None) (own_heading stack label from to)
 
   -- a message that fits, of at most 60,000 bytes with those of the heading, has bytes
   pub fitting_has_bytes : (stack : StackId) (n : List ℕ) (from to : ℕ) (message : M) → IsFormatOf stack f → HasByte stack → name.Fits n → from ≤ 8 → to ≤ 8
       → f.Fits message → length (f.spell message) ≤ 59978 → HasBytes f stack n from to message
   fitting_has_bytes stack n from to message is_of stack_has named from_few to_few fits short =
-      let sixteen : length n ≡ 16 = named.0 in
-      record {
-        fits = fits;
-        datagram = record {
-          heading = (tt, (stack_has, (tt, ((omega arith, from_few), ((omega arith, to_few), named)))));
-          body = is_of (f.spell message) ∙ ap is_some (whole_back message fits);
-          size = simp (length-append, length-number_bytes) (omega arith);
-        };
-      }
+      fitting f (peer_heading stack n from to) message is_of (tt, (stack_has, ((tt, refl), ((omega arith, from_few), ((omega arith, to_few), named))))) fits short

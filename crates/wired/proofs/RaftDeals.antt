@@ -16,14 +16,14 @@ use Rattle.vst_base.specs.Machines.{MachineMeaning}
 use Rattle.vst_base.specs.declared.stack.StackId.{StackId}
 use Rattle.wire_fields.specs.Fields.{name}
 use Rattle.wire_fields.specs.Formats.{Format}
-use Rattle.wire_messages.specs.RaftBytes.{RaftFits}
+use Rattle.wire_messages.specs.RaftBytes.{raft_message}
 use Rattle.wired.specs.Dealing.{AreSent, DealsInBytes, GoesOn}
 use Rattle.wired.specs.RaftSaving.{IsAsked, raft_saving, who_at}
 use Rattle.wired.specs.RaftSavingLaws.{among_if}
 use Rattle.wired.proofs.RaftFits.{AreFit, Fine, LogFits, fit_in_range, input_fine, message_fine, tick_fine}
 
 abbrev pub HasRaft : {C : Type 0} → Format C → ℕ → ℕ → RaftMsg C → Type 0
-HasRaft f from to x = RaftFits f x
+HasRaft f from to x = (raft_message f).Fits x
 
 -- a sound node, whose log has bytes
 abbrev pub GoodRaft : {S C O : Type 0} → Format C → ℕ → ℕ → ℕ → RaftView S C O → Type 0

@@ -33,7 +33,7 @@ use Rattle.vst_base.specs.declared.what.What.TheVariants.{Noop, Request}
 use Rattle.wire_fields.specs.ByteLaws.{length-number_bytes}
 use Rattle.wire_fields.specs.Formats.{Format}
 use Rattle.wire_messages.specs.EntryBytes.{entry}
-use Rattle.wire_messages.specs.RaftBytes.{RaftFits, raft_message}
+use Rattle.wire_messages.specs.RaftBytes.{raft_message}
 use Rattle.wired.specs.RaftSaving.{IsAsked}
 
 -- a leader is in a term in which a node may be elected
@@ -61,22 +61,22 @@ module _ {C : Type 0} (f : Format C) where
   -- each of these messages fits
   abbrev pub AreFit : List (ℕ × RaftMsg C) → Type 0
   AreFit [] = Unit {0}
-  AreFit (p ∷ ps) = RaftFits f p.1 × AreFit ps
+  AreFit (p ∷ ps) = (raft_message f).Fits p.1 × AreFit ps
 
-  pub fit_in_range : (x : RaftMsg C) → RaftFits f x → IsInRange x
+  pub fit_in_range : (x : RaftMsg C) → (raft_message f).Fits x → IsInRange x
   fit_in_range (msg.RequestVote r) fits = fits.0.1
   fit_in_range (msg.Vote v) fits = fits.0.1
   fit_in_range (msg.Append a) fits = (fits.0.0.1, leb-true (a.prev_index + length a.entries) MAX_INDEX fits.1)
   fit_in_range (msg.Appended a) fits = fits.0.1
 
-  some_term : (x : RaftMsg C) → RaftFits f x → 1 ≤ term_of x
+  some_term : (x : RaftMsg C) → (raft_message f).Fits x → 1 ≤ term_of x
   some_term (msg.RequestVote r) fits = fits.0.0
   some_term (msg.Vote v) fits = fits.0.0
   some_term (msg.Append a) fits = fits.0.0.0
   some_term (msg.Appended a) fits = fits.0.0
 
   -- the bytes of a message: those of eight entries at most
-  pub raft_fits : ((c : C) → f.Fits c → length (f.spell c) ≤ 2119) → (from to : ℕ) (x : RaftMsg C) → RaftFits f x → (raft_message f).Fits x × (length ((raft_message f).spell x) ≤ 59978)
+  pub raft_fits : ((c : C) → f.Fits c → length (f.spell c) ≤ 2119) → (from to : ℕ) (x : RaftMsg C) → (raft_message f).Fits x → (raft_message f).Fits x × (length ((raft_message f).spell x) ≤ 59978)
   raft_fits short from to (msg.RequestVote r) fits = (fits, simp (length-append, length-number_bytes) (omega arith))
   raft_fits short from to (msg.Vote v) fits = (fits, simp (length-append, length-number_bytes) (omega arith))
   raft_fits short from to (msg.Append a) fits =
@@ -109,11 +109,11 @@ module _ {C : Type 0} (f : Format C) where
   fit_both [] qs a b = b
   fit_both (p ∷ ps) qs a b = (a.0, fit_both ps qs a.1 b)
 
-  others_fit : (nodes me : ℕ) (message : ℕ → RaftMsg C) → ((n : ℕ) → n < nodes → RaftFits f (message n)) → AreFit (to_others nodes me message)
+  others_fit : (nodes me : ℕ) (message : ℕ → RaftMsg C) → ((n : ℕ) → n < nodes → (raft_message f).Fits (message n)) → AreFit (to_others nodes me message)
   others_fit zero me message h = tt
   others_fit (suc n) me message h = fit_both (to_others n me message) _ (others_fit n me message (λ k l. h k (omega arith))) (go (n == me) (h n (omega arith)))
     where
-      go : (b : Bool) → RaftFits f (message n) → AreFit (cond b [] ((n, message n) ∷ []))
+      go : (b : Bool) → (raft_message f).Fits (message n) → AreFit (cond b [] ((n, message n) ∷ []))
       go true k = tt
       go false k = (k, tt)
 
@@ -142,7 +142,7 @@ module _ {C : Type 0} (f : Format C) where
         go false = l
 
     module _ {nodes me : ℕ} where
-      append_fits : {s : RaftView S C O} → IsSoundNode nodes me s → IsTrue (is_leader s.role) → LogFits s.log → (n : ℕ) → n < nodes → RaftFits f (append s n)
+      append_fits : {s : RaftView S C O} → IsSoundNode nodes me s → IsTrue (is_leader s.role) → LogFits s.log → (n : ℕ) → n < nodes → (raft_message f).Fits (append s n)
       append_fits {s} k leads l n below =
           let ps = k.peers leads in
           let p : IsPeer (length s.log) (peer_at s.peers n) = All-get_or (IsPeer (length s.log)) s.peers n (new_peer 0) (omega (arith, ps.each)) ps.within in
@@ -200,7 +200,7 @@ module _ {C : Type 0} (f : Format C) where
           (λ _. lead_fine (sound_voted k from) (candidate_in_a_term s.role s.ballot.term (and_parts _ _ (and_parts _ _ counts).0).0 k.in_a_term) l m) (λ _. record { log = l; sends = tt }))
           (λ _. record { log = l; sends = tt })
 
-      append_answer_fine : {s : RaftView S C O} → IsSoundNode nodes me s → 1 ≤ s.ballot.term → LogFits s.log → (m : MachineMeaning S C O) (from : ℕ) (a : AppendView C) → RaftFits f (msg.Append a)
+      append_answer_fine : {s : RaftView S C O} → IsSoundNode nodes me s → 1 ≤ s.ballot.term → LogFits s.log → (m : MachineMeaning S C O) (from : ℕ) (a : AppendView C) → (raft_message f).Fits (msg.Append a)
           → Fine (on_append m me s from a)
       append_answer_fine {s} k some l m from a fits =
           let new : a.prev_index + length a.entries ≤ MAX_INDEX = leb-true (a.prev_index + length a.entries) MAX_INDEX fits.1 in
@@ -222,7 +222,7 @@ module _ {C : Type 0} (f : Format C) where
       moved_fine k leads l m from below moves.Back = record { log = l; sends = (append_fits k leads l from below, tt) }
       moved_fine k leads l m from below moves.Nothing = record { log = l; sends = tt }
 
-      by_message_fine : {s : RaftView S C O} → IsSoundNode nodes me s → 1 ≤ s.ballot.term → LogFits s.log → (m : MachineMeaning S C O) (from : ℕ) → from < nodes → (x : RaftMsg C) → RaftFits f x
+      by_message_fine : {s : RaftView S C O} → IsSoundNode nodes me s → 1 ≤ s.ballot.term → LogFits s.log → (m : MachineMeaning S C O) (from : ℕ) → from < nodes → (x : RaftMsg C) → (raft_message f).Fits x
           → Fine (by_message m nodes me s from x)
       by_message_fine {s} k some l m from below (msg.RequestVote r) fits =
           either (grants s.ballot r.term from (sees_up_to_date s r)) (λ _. record { log = l; sends = (((some, k.term), tt), tt) }) (λ _. record { log = l; sends = (((some, k.term), tt), tt) })
@@ -231,7 +231,7 @@ module _ {C : Type 0} (f : Format C) where
       by_message_fine {s} k some l m from below (msg.Appended a) fits = either (is_leader s.role && a.term == s.ballot.term)
           (λ leads. let leader = (and_parts _ _ leads).0 in moved_fine (sound_known k leader from below a) leader l m from below (moved_by s from a)) (λ _. record { log = l; sends = tt })
 
-      pub message_fine : {s : RaftView S C O} → IsSoundNode nodes me s → LogFits s.log → (m : MachineMeaning S C O) (from : ℕ) → from < nodes → (x : RaftMsg C) → RaftFits f x
+      pub message_fine : {s : RaftView S C O} → IsSoundNode nodes me s → LogFits s.log → (m : MachineMeaning S C O) (from : ℕ) → from < nodes → (x : RaftMsg C) → (raft_message f).Fits x
           → Fine (on_message m nodes me s from x)
       message_fine {s} k l m from below x fits =
           let term = term_of x in

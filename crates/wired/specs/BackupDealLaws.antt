@@ -1,5 +1,5 @@
 -- Primary-backup sends only commands that clients gave.
-use Rattle.std.specs.Prelude.{ℕ, ◌+◌, ◌≤◌, ◌==◌, Bool, true, false, List, [], ◌∷◌, length, Option, None, Some, cond, slice_get}
+use Rattle.std.specs.Prelude.{ℕ, ◌+◌, ◌≤◌, ◌==◌, Bool, true, false, List, [], ◌∷◌, length, Option, None, Some, IfSome, cond, slice_get}
 use Rattle.std.specs.List.{All}
 use Rattle.std.proofs.Common.{arith}
 use Rattle.std.proofs.lemmas.List.Elements.{All-drop, All-head, All-nil, All-push}
@@ -9,7 +9,6 @@ use Rattle.primary_backup.specs.Backup.{Backed, BackupEffect, acked, applied, ap
 use Rattle.vst_base.specs.Machines.{MachineMeaning}
 use Rattle.vst_base.specs.declared.pb_msg.PbMsg.{PbMsg}
 use Rattle.vst_base.specs.declared.pb_msg.PbMsg.TheVariants as msg
-use Rattle.wire_fields.specs.Fields.{OptionFits}
 use Rattle.wire_fields.specs.Formats.{Format}
 use Rattle.wire_messages.specs.PeerBytes.{backup_message}
 use Rattle.wired.specs.Dealing.{AreSent, DealsInBytes, GoesOn, nothing_saved}
@@ -21,11 +20,11 @@ module _ {C : Type 0} (f : Format C) where
   backup_fits short from to (msg.Apply c) fits = (fits, omega (arith, short c fits))
   backup_fits short from to msg.Ack fits = (tt, omega arith)
 
-  first_fits : (cs : List C) → All f.Fits cs → OptionFits f.Fits (slice_get cs 0)
+  first_fits : (cs : List C) → All f.Fits cs → IfSome (slice_get cs 0) f.Fits
   first_fits [] fits = tt
   first_fits (c ∷ cs) fits = All-head f.Fits c cs fits
 
-  next_sent : (n : ℕ) (o : Option C) → OptionFits f.Fits o → AreSent (HasBackup f) 2 n (apply_of o)
+  next_sent : (n : ℕ) (o : Option C) → IfSome o f.Fits → AreSent (HasBackup f) 2 n (apply_of o)
   next_sent n None fits = tt
   next_sent n (Some c) fits = ((omega arith, fits), tt)
 
@@ -35,7 +34,7 @@ module _ {C : Type 0} (f : Format C) where
 
   module _ {S O : Type 0} (m : MachineMeaning S C O) where
     abbrev Goes : ℕ → BackupEffect S C O → Type 0
-    Goes n e = GoesOn (HasBackup f) 2 (λ s. OptionFits f.Fits s.out × All f.Fits s.waiting) n e
+    Goes n e = GoesOn (HasBackup f) 2 (λ s. IfSome s.out f.Fits × All f.Fits s.waiting) n e
 
     goes_unless : (n : ℕ) (b : Bool) (e d : BackupEffect S C O) → Goes n e → Goes n d → Goes n (cond b e d)
     goes_unless n true e d first second = first

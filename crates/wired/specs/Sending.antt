@@ -1,14 +1,13 @@
 -- What the messages and the states of handlers whose nodes never stop keep to, so that all that they send has bytes.
-use Rattle.std.specs.Prelude.{ℕ, ◌*◌, ◌≤◌}
+use Rattle.std.specs.Prelude.{ℕ, ◌*◌, ◌≤◌, IfSome}
 use Rattle.std.specs.List.{All}
 use Rattle.primary_backup.specs.Backup.{Backed}
 use Rattle.seqnum_xform.specs.Numbering.{Numbered}
 use Rattle.vst_base.specs.declared.lock.LockMsg.{LockMsg}
 use Rattle.vst_base.specs.declared.pb_msg.PbMsg.{PbMsg}
 use Rattle.vst_base.specs.declared.seq.SeqMsg.{SeqMsg}
-use Rattle.wire_fields.specs.Fields.{OptionFits}
 use Rattle.wire_fields.specs.Formats.{Format}
-use Rattle.wire_messages.specs.PeerBytes.{BackupFits}
+use Rattle.wire_messages.specs.PeerBytes.{backup_message}
 
 -- any message of a lock server
 abbrev pub Any : ℕ → ℕ → LockMsg → Type 0
@@ -16,11 +15,11 @@ Any from to x = Unit {0}
 
 -- a message of primary-backup whose command has bytes
 abbrev pub HasBackup : {C : Type 0} → Format C → ℕ → ℕ → PbMsg C → Type 0
-HasBackup f from to x = BackupFits f x
+HasBackup f from to x = (backup_message f).Fits x
 
 -- the commands that are out and that wait have bytes
 abbrev pub GoodBackup : {S C : Type 0} → Format C → ℕ → ℕ → Backed S C → Type 0
-GoodBackup f t n s = OptionFits f.Fits s.out × All f.Fits s.waiting
+GoodBackup f t n s = IfSome s.out f.Fits × All f.Fits s.waiting
 
 -- a message that keeps to this, with a number of at most 8,000,000
 abbrev pub HasNumbered : {M : Type 0} → (ℕ → ℕ → M → Type 0) → ℕ → ℕ → SeqMsg M → Type 0

@@ -1,5 +1,5 @@
 -- What it is that handlers whose packets are bytes do as the handlers within.
-use Rattle.std.specs.Prelude.{◌≡◌, ℕ, List, map}
+use Rattle.std.specs.Prelude.{ℕ, List, map}
 use Rattle.std.specs.List.{All}
 use Rattle.handler_trait.specs.Handling.{Meaning, Recovery}
 use Rattle.net_semantics.specs.Runs.{run}
@@ -7,21 +7,21 @@ use Rattle.net_semantics.specs.Worlds.{Packet, World}
 use Rattle.vst_base.specs.declared.net.Net.{Net}
 use Rattle.vst_base.specs.declared.stack.StackId.{StackId}
 use Rattle.vst_base.specs.declared.step.Step.{Step}
-use Rattle.wire_codec.specs.Bodies.{is_peer_message, is_spelling}
-use Rattle.wire_codec.specs.Datagrams.{IsMessage, message_of}
+use Rattle.wire_codec.specs.Bodies.{AreMessagesOf}
+use Rattle.wire_codec.specs.Datagrams.{AreBytesOf}
+use Rattle.wire_codec.specs.declared.kind.Kind.TheVariants as kind
 use Rattle.wire_fields.specs.Formats.{Format}
 use Rattle.wired.specs.Same.{RunsTheSame}
 use Rattle.wired.specs.Wiring.{packet, peer_heading, wired}
 
--- a message from one node to another has bytes, and so has the datagram that it is sent as: between nodes up to 8, under a name of 16
--- bytes, of a stack whose messages it is one of, and of at most 60,000 bytes
-pub record HasBytes {M : Type 0} (f : Format M) (stack : StackId) (name : List ℕ) (from to : ℕ) (message : M) : Type 0 where
-  pub fits : f.Fits message
-  pub datagram : IsMessage (message_of (peer_heading stack name from to) (f.spell message))
+-- What a message from one node to another is sent as is its datagram: so it has bytes, between nodes up to 8, under a name of 16 bytes,
+-- of a stack whose messages it is one of, and at most 60,000.
+abbrev pub HasBytes : {M : Type 0} → Format M → StackId → List ℕ → ℕ → ℕ → M → Type 0
+HasBytes f stack name from to message = AreBytesOf f (peer_heading stack name from to) message (packet f stack name from to message)
 
 -- these are the messages between the nodes of the stack
 abbrev pub IsFormatOf : {M : Type 0} → StackId → Format M → Type 0
-IsFormatOf stack f = (bytes : List ℕ) → is_peer_message stack bytes ≡ is_spelling f bytes
+IsFormatOf stack f = AreMessagesOf stack kind.Peer f
 
 module _ {M : Type 0} (f : Format M) (stack : StackId) (name : List ℕ) where
   abbrev pub IsSpelledPacket : Packet M → Type 0

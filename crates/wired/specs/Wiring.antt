@@ -2,13 +2,12 @@
 use Rattle.std.specs.Prelude.{ℕ, ◌==◌, Bool, ◌&&◌, List, [], ◌∷◌, Option, None, Some, bytes_eq, replicate, if◌then◌else◌}
 use Rattle.handler_trait.specs.Handling.{Meaning, Effect}
 use Rattle.vst_base.specs.declared.stack.StackId.{StackId}
-use Rattle.wire_codec.specs.Datagrams.{Message, message_of, read_datagram, spell_datagram}
+use Rattle.wire_codec.specs.Datagrams.{read_typed, spell_datagram}
 use Rattle.wire_codec.specs.Headings.{heading_of, kind_byte, stack_byte}
 use Rattle.wire_codec.specs.declared.heading.Heading.{Heading}
 use Rattle.wire_codec.specs.declared.kind.Kind.TheVariants as kind
 use Rattle.wire_fields.specs.Formats.{Format}
 use Rattle.wire_fields.specs.declared.name.TheConstants.{NAME_LEN}
-use Rattle.wire_messages.specs.Wires.{read_whole}
 
 -- the name of a cluster that has no other: sixteen bytes 0
 abbrev pub no_name : List ℕ
@@ -36,16 +35,16 @@ pub record Named (H : Type 0) : Type 0 where
 module _ {M : Type 0} (f : Format M) (stack : StackId) (name : List ℕ) where
   -- the bytes of a message
   abbrev pub packet : ℕ → ℕ → M → List ℕ
-  packet from to message = spell_datagram (message_of (peer_heading stack name from to) (f.spell message))
+  packet from to message = spell_datagram f (peer_heading stack name from to) message
 
-  abbrev pub message_in : ℕ → ℕ → Option Message → Option M
+  abbrev pub message_in : ℕ → ℕ → Option (Heading × M) → Option M
   message_in from to None = None
-  message_in from to (Some d) = if is_peer_heading stack name from to d.heading then read_whole f d.body else None
+  message_in from to (Some p) = if is_peer_heading stack name from to p.0 then Some p.1 else None
 
-  -- the message that these bytes are to a node that they come to from another: none where they are no datagram, are of another
-  -- stack, kind or name, name another sender or another receiver, or hold no message of these handlers
+  -- the message that these bytes are to a node that they come to from another: none where they are no datagram of a message of these
+  -- handlers, are of another stack, kind or name, or name another sender or another receiver
   abbrev pub heard : ℕ → ℕ → List ℕ → Option M
-  heard from to bytes = message_in from to (read_datagram bytes)
+  heard from to bytes = message_in from to (read_typed f bytes)
 
   -- what a node sends, with its messages as packets
   abbrev pub sent : ℕ → List (ℕ × M) → List (ℕ × List ℕ)

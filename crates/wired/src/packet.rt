@@ -5,7 +5,7 @@ use crate::Cluster;
 use std::alloc::{AllocError, Global};
 use std::marker::Model;
 use vst_base::Node;
-use wire_codec::{Heading, Kind};
+use wire_codec::{Heading, Kind, encode_into};
 use wire_messages::Wire;
 
 // How many bytes a packet has room for from the first: those of an append with one put, of a key and a value with 18 bytes in all.
@@ -67,8 +67,7 @@ impl Packet {
             name: cluster.name,
         };
         let mut bytes = Vec::with_capacity(alloc, ROOM)?;
-        heading.put(&mut bytes)?;
-        message.put(&mut bytes)?;
+        encode_into(&mut bytes, &heading, message)?;
         Ok(Packet { bytes })
     }
 }

@@ -1,5 +1,6 @@
 use Rattle.std.proofs.Common.{arith}
-use Rattle.node_datagrams.proofs.Listed.{packet_to, sent_each}
+use Rattle.node_datagrams.proofs.Listed.{sent_each}
+use Rattle.node_run.specs.Events.{packet_to}
 use Rattle.node_datagrams.proofs.Sayings.{counts_both, on_err, says_all, says_more, stops_there}
 use Rattle.node_datagrams.specs.Configured.{settings_of}
 use Rattle.node_datagrams.proofs.shipping.ship_packets.Goals as goal

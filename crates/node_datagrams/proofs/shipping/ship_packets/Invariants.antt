@@ -1,7 +1,7 @@
 use Rattle.std.proofs.Common.{◌≡◌, true, take}
 use Rattle.std.specs.List.{flat_map}
 use Rattle.node_device.specs.Telling.{WhereTold}
-use Rattle.node_datagrams.proofs.Listed.{packet_to}
+use Rattle.node_run.specs.Events.{packet_to}
 use Rattle.node_datagrams.specs.Configured.{settings_of}
 use Rattle.node_datagrams.specs.Saying.{HasSaid, SendsOnly}
 use Rattle.node_datagrams.proofs.shipping.ship_packets.Given as goal

@@ -13,7 +13,7 @@ invariant-loop-bytes g l =
       len : vec_len l.bytes ≤ l.most;
       some : 1 ≤ l.most;
       need : IfSome (k.told l.initial.device) (λ told.
-          IsByNeed g.C.Commands.stack g.C.Wire.format g.O.Commands.stack g.O.Wire.format l.who (area_at told.disk l.area).bytes l.most);
+          IsByNeed g.C.Commands.stack g.C.Wire.format l.who (area_at told.disk l.area).bytes l.most);
       begun : k.begun l.device ≡ true;
       counts : k.faults l.device ≡ k.faults l.initial.device;
       wants : k.wants l.device ≡ k.wants l.initial.device;

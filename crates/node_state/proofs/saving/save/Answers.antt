@@ -7,5 +7,5 @@ use Rattle.node_state.proofs.saving.save.Goals as goal
 pub returns-clause-keeps : goal.returns-clause-keeps
 returns-clause-keeps g c =
     let same = kept_same (kept_as c.term.result c.voted.result c.log.result.now) c.args.kept.now c.term.ensures.value c.voted.ensures c.log.ensures.value in
-    subst (λ k. OnOk c.save_change.result (IfSome (g.D.Device.told c.args.device.now) (Saves g.C.Commands.stack g.C.Wire.format g.O.Commands.stack g.O.Wire.format c.args.store.now k))) same
+    subst (λ k. OnOk c.save_change.result (IfSome (g.D.Device.told c.args.device.now) (Saves g.C.Commands.stack g.C.Wire.format c.args.store.now k))) same
     c.save_change.ensures.keeps

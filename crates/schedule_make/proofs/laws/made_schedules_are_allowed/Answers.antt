@@ -7,5 +7,5 @@ pub returns-clause-steps : goal.returns-clause-steps
 returns-clause-steps g c = λ net m r inputs seed steps. as-many net m r inputs (first_world m) 0 (generator seed) steps
 
 pub returns-clause-allowed : goal.returns-clause-allowed
-returns-clause-allowed g c = λ net m r inputs seed steps ticks free some.
-    all-allowed net m r inputs (first_world m) 0 (generator seed) steps (first-has-steps net m r inputs ticks free some)
+returns-clause-allowed g c = λ net m r inputs seed steps ticks some.
+    all-allowed net m r inputs (first_world m) 0 (generator seed) steps (first-has-steps net m r inputs ticks some)

@@ -35,9 +35,9 @@ pub returns-clause-told : goal.returns-clause-told
 returns-clause-told g c =
     let left = g.S.Source.left c.args.source.now in
     let mid = g.S.Source.left c.read_header.new.source in
-    let left' = g.S.Source.left c.on_stack.new.b in
+    let left' = g.S.Source.left c.on_stack.new.a in
     let out = g.K.Sink.written c.args.sink.now in
-    let out' = g.K.Sink.written c.on_stack.new.c in
+    let out' = g.K.Sink.written c.on_stack.new.b in
     let new = c.read_header.new.reader in
     let r = c.in_ok-reader.reader in
     let h = c.in-Ok.header in
@@ -66,9 +66,9 @@ pub returns-clause-kept_up : goal.returns-clause-kept_up
 returns-clause-kept_up g c =
     let left = g.S.Source.left c.args.source.now in
     let mid = g.S.Source.left c.read_header.new.source in
-    let left' = g.S.Source.left c.on_stack.new.b in
+    let left' = g.S.Source.left c.on_stack.new.a in
     let out = g.K.Sink.written c.args.sink.now in
-    let out' = g.K.Sink.written c.on_stack.new.c in
+    let out' = g.K.Sink.written c.on_stack.new.b in
     let new = c.read_header.new.reader in
     let r = c.in_ok-reader.reader in
     let h = c.in-Ok.header in

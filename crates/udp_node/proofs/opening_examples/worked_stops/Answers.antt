@@ -6,7 +6,6 @@ use Rattle.slots.specs.Opening.{named}
 use Rattle.vst_base.specs.declared.stack.StackId.TheVariants as stack
 use Rattle.wire_fields.specs.Bytes.{has_bytes, number_bytes, number_in, read_number}
 use Rattle.wire_messages.specs.KvBytes.{kv_command}
-use Rattle.wire_messages.specs.TableBytes.{table_command}
 use Rattle.node_body.specs.Bodies.{body, body_of}
 use Rattle.node_body.specs.Examples.{first_kept, old_held, who_as}
 use Rattle.node_body.specs.Journals.{from_gate}
@@ -21,12 +20,12 @@ first_of (n ∷ ns) = n
 
 -- the slot of a cluster with a name is not that of a node whose cluster has none
 of_another_name : (selector : ℕ) (found : Held KvCmd) → 0 ≡ selector →
-    slot_found stack.KvRaft kv_command stack.TableRaft table_command (who_as 0 3 []) (area_at begun_held.disk (named selector)).bytes ≡ Ok found →
+    slot_found stack.KvRaft kv_command (who_as 0 3 []) (area_at begun_held.disk (named selector)).bytes ≡ Ok found →
     ⊥
 unfolding number_bytes number_in has_bytes read_number from_gate
 of_another_name selector found e is =
     cc (subst (λ (n : ℕ).
-    slot_found stack.KvRaft kv_command stack.TableRaft table_command (who_as 0 3 []) (area_at begun_held.disk (named n)).bytes ≡ Ok found)
+    slot_found stack.KvRaft kv_command (who_as 0 3 []) (area_at begun_held.disk (named n)).bytes ≡ Ok found)
     (sym e) is)
 
 pub returns-clause-fits_what_is_held : goal.returns-clause-fits_what_is_held

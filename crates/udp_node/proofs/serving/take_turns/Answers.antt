@@ -7,9 +7,9 @@ use Rattle.udp_node.proofs.serving.take_turns.Goals as goal
 
 pub returns-in_err-room-clause-halted : goal.returns-in_err-room-clause-halted
 returns-in_err-room-clause-halted g c =
-    on_err _ _ (told_halts_at_once g.C.Commands.stack c.args.config.now (g.M.Machine.meaning c.args.raft.now.machine) g.C.Wire.format g.O.Wire.format g.X.Commands.stack g.X.Wire.format
+    on_err _ _ (told_halts_at_once g.C.Commands.stack c.args.config.now (g.M.Machine.meaning c.args.raft.now.machine) g.C.Wire.format g.O.Wire.format
     c.args.node.replica c.args.turns _
-    (told_nowhere g.C.Commands.stack c.args.config.now (g.M.Machine.meaning c.args.raft.now.machine) g.C.Wire.format g.O.Wire.format g.X.Commands.stack g.X.Wire.format
+    (told_nowhere g.C.Commands.stack c.args.config.now (g.M.Machine.meaning c.args.raft.now.machine) g.C.Wire.format g.O.Wire.format
     c.args.node.replica c.requires.who _ c.requires.holds))
 
 pub loop-init : goal.loop-init
@@ -21,16 +21,16 @@ loop-init g c = record {
   counts = sends_none _;
   holds = c.requires.holds;
   tells = tells_same _;
-  went = told_nowhere g.C.Commands.stack c.args.config.now (g.M.Machine.meaning c.args.raft.now.machine) g.C.Wire.format g.O.Wire.format g.X.Commands.stack g.X.Wire.format
+  went = told_nowhere g.C.Commands.stack c.args.config.now (g.M.Machine.meaning c.args.raft.now.machine) g.C.Wire.format g.O.Wire.format
       c.args.node.replica c.requires.who _ c.requires.holds;
-  each = told_none g.C.Commands.stack c.args.config.now (g.M.Machine.meaning c.args.raft.now.machine) g.C.Wire.format g.O.Wire.format g.X.Commands.stack g.X.Wire.format
+  each = told_none g.C.Commands.stack c.args.config.now (g.M.Machine.meaning c.args.raft.now.machine) g.C.Wire.format g.O.Wire.format
       c.args.node.replica _;
 }
 
 pub returns-in_err-node-clause-halted : goal.returns-in_err-node-clause-halted
 returns-in_err-node-clause-halted g c =
     let below : c.loop.counter + 1 ≤ c.args.turns = omega (arith, c.loop-test.true) in
-    on_err _ _ (told_halts g.C.Commands.stack c.args.config.now (g.M.Machine.meaning c.args.raft.now.machine) g.C.Wire.format g.O.Wire.format g.X.Commands.stack g.X.Wire.format
+    on_err _ _ (told_halts g.C.Commands.stack c.args.config.now (g.M.Machine.meaning c.args.raft.now.machine) g.C.Wire.format g.O.Wire.format
     c.args.node.replica c.loop.node.replica c.loop.counter c.args.turns below _ _ _ c.loop.invariant.tells c.loop.invariant.went c.in_err-node.ensures.halted)
 
 pub returns-in_err-node-clause-causes : goal.returns-in_err-node-clause-causes
@@ -47,9 +47,9 @@ loop-preserved g c = record {
   counts = sends_twice _ (g.D.Device.faults c.loop.device) _ c.loop.invariant.counts c.in_ok-node.ensures.causes;
   holds = c.in_ok-node.ensures.holds;
   tells = tells_both c.loop.counter 1 _ _ _ c.loop.invariant.tells c.in_ok-node.ensures.tells;
-  went = told_on g.C.Commands.stack c.args.config.now (g.M.Machine.meaning c.args.raft.now.machine) g.C.Wire.format g.O.Wire.format g.X.Commands.stack g.X.Wire.format
+  went = told_on g.C.Commands.stack c.args.config.now (g.M.Machine.meaning c.args.raft.now.machine) g.C.Wire.format g.O.Wire.format
       c.args.node.replica c.loop.node.replica c.in_ok-node.node.replica c.loop.counter _ _ _ c.loop.invariant.tells c.loop.invariant.went c.in_ok-node.ensures.went;
-  each = told_each g.C.Commands.stack c.args.config.now (g.M.Machine.meaning c.args.raft.now.machine) g.C.Wire.format g.O.Wire.format g.X.Commands.stack g.X.Wire.format
+  each = told_each g.C.Commands.stack c.args.config.now (g.M.Machine.meaning c.args.raft.now.machine) g.C.Wire.format g.O.Wire.format
       c.args.node.replica c.loop.node.replica c.in_ok-node.node.replica c.loop.counter _ _ _ c.loop.invariant.tells c.loop.invariant.each c.in_ok-node.ensures.went;
 }
 
@@ -65,13 +65,13 @@ returns-clause-each g c =
 
 pub returns-in_err-room-clause-halted_each : goal.returns-in_err-room-clause-halted_each
 returns-in_err-room-clause-halted_each g c =
-    on_err _ _ (told_halts_each_at_once g.C.Commands.stack c.args.config.now (g.M.Machine.meaning c.args.raft.now.machine) g.C.Wire.format g.O.Wire.format g.X.Commands.stack g.X.Wire.format
+    on_err _ _ (told_halts_each_at_once g.C.Commands.stack c.args.config.now (g.M.Machine.meaning c.args.raft.now.machine) g.C.Wire.format g.O.Wire.format
     c.args.node.replica c.args.turns c.requires.who _ c.requires.holds)
 
 pub returns-in_err-node-clause-halted_each : goal.returns-in_err-node-clause-halted_each
 returns-in_err-node-clause-halted_each g c =
     let below : c.loop.counter + 1 ≤ c.args.turns = omega (arith, c.loop-test.true) in
-    on_err _ _ (told_halts_each g.C.Commands.stack c.args.config.now (g.M.Machine.meaning c.args.raft.now.machine) g.C.Wire.format g.O.Wire.format g.X.Commands.stack g.X.Wire.format
+    on_err _ _ (told_halts_each g.C.Commands.stack c.args.config.now (g.M.Machine.meaning c.args.raft.now.machine) g.C.Wire.format g.O.Wire.format
     c.args.node.replica c.loop.node.replica c.loop.counter c.args.turns below _ _ _ c.loop.invariant.tells c.loop.invariant.each c.in_err-node.ensures.halted)
 
 pub returns-in_err-room-clause-tells : goal.returns-in_err-room-clause-tells

@@ -17,11 +17,11 @@ invariant-loop g l =
       begun : k.begun l.device ≡ true;
       counts : SendsOnly (k.faults l.initial.device) (k.faults l.device);
       holds : IfSome (k.told l.device) (λ told.
-          Holds g.C.Commands.stack g.C.Wire.format g.X.Commands.stack g.X.Wire.format l.node.replica.store (kept_of l.node.replica.state) told.disk);
+          Holds g.C.Commands.stack g.C.Wire.format l.node.replica.store (kept_of l.node.replica.state) told.disk);
       tells : TellsOn l.counter (k.told l.initial.device) (k.told l.device);
       went : StillTold l.counter (k.told l.initial.device) (k.told l.device)
-          (Went g.C.Commands.stack l.config (g.M.Machine.meaning l.raft.machine) g.C.Wire.format g.O.Wire.format g.X.Commands.stack g.X.Wire.format l.initial.node.replica l.counter l.node.replica);
+          (Went g.C.Commands.stack l.config (g.M.Machine.meaning l.raft.machine) g.C.Wire.format g.O.Wire.format l.initial.node.replica l.counter l.node.replica);
       each : StillTold l.counter (k.told l.initial.device) (k.told l.device)
-          (WentEach g.C.Commands.stack l.config (g.M.Machine.meaning l.raft.machine) g.C.Wire.format g.O.Wire.format g.X.Commands.stack g.X.Wire.format l.counter
+          (WentEach g.C.Commands.stack l.config (g.M.Machine.meaning l.raft.machine) g.C.Wire.format g.O.Wire.format l.counter
           l.initial.node.replica l.node.replica);
     }

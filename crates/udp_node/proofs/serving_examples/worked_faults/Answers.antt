@@ -11,7 +11,6 @@ use Rattle.vst_base.specs.declared.stack.StackId.TheVariants as stack
 use Rattle.wire_fields.specs.Bytes.{number_bytes}
 use Rattle.wire_messages.specs.KvByteLaws.{kv_command_is_format}
 use Rattle.wire_messages.specs.KvBytes.{kv_command, kv_output}
-use Rattle.wire_messages.specs.TableBytes.{table_command}
 use Rattle.node_body.specs.CommandLengths.{kv_length}
 use Rattle.node_acts.proofs.StateOpens.{opening_leaves}
 use Rattle.node_core.specs.Replicas.{view_of, who_of}
@@ -47,20 +46,20 @@ returns-clause-in_a_receive c =
         middle = booted;
         mid = started_at;
         each = (refl, refl);
-        last = at_most stack.KvRaft config kv kv_command kv_output stack.TableRaft table_command (Between (view_of booted)) first known 0 1
+        last = at_most stack.KvRaft config kv kv_command kv_output (Between (view_of booted)) first known 0 1
             started_at now (omega arith)
-            (heard_halts (settings_of config) kv stack.KvRaft kv_command stack.TableRaft table_command kv_output (who_of config)
+            (heard_halts (settings_of config) kv stack.KvRaft kv_command kv_output (who_of config)
             (Between (view_of booted)) Broken first known [] 0 (Now 0 ∷ ReceiveFailed 300 ∷ []) started_at hears_fault (omega arith) held refl);
       };
-      all = at_most stack.KvRaft config kv kv_command kv_output stack.TableRaft table_command (Starting first) first known 0 3 opened now
+      all = at_most stack.KvRaft config kv kv_command kv_output (Starting first) first known 0 3 opened now
           (omega arith)
-          (heard_halts (settings_of config) kv stack.KvRaft kv_command stack.TableRaft table_command kv_output (who_of config) (Starting first)
+          (heard_halts (settings_of config) kv stack.KvRaft kv_command kv_output (who_of config) (Starting first)
           Broken first known [] 0 (Now 0 ∷ Now 0 ∷ ReceiveFailed 300 ∷ []) opened hears_all (omega arith) held refl);
     }
 
 -- what a run that was interrupted did after its opening
 acts_of : (acts : List Act)
-    (x : Interrupted stack.KvRaft config kv kv_command kv_output stack.TableRaft table_command 3 begun (told_after begun acts)) →
+    (x : Interrupted stack.KvRaft config kv kv_command kv_output 3 begun (told_after begun acts)) →
     begun.acts ++ acts ≡ (begun.acts ++ opens_by begun) ++ x.all.did
 acts_of acts x = x.all.acts ∙ ap (λ (told : Told). told.acts ++ x.all.did) x.starts.opening.is
 
@@ -77,14 +76,14 @@ returns-clause-after_another_wait c = λ x.
     (subst (λ acts. AreOrderly (settings_of config) kv kv_command kv_output (Starting x.starts.kept) acts) (sym did) x.all.stopped.orderly))
 
 unopened : (did : List Act) → IsCutShort (opens_by begun) did →
-    Unopened stack.KvRaft config kv_command stack.TableRaft table_command begun (told_after begun did)
+    Unopened stack.KvRaft config kv_command begun (told_after begun did)
 unopened did short = record {
   stopped = (did, short, record { acts = refl; disk = λ image m. m });
   leaves = record {
     did = did;
     acts = refl;
     each = λ n image m third.
-        opening_leaves stack.KvRaft kv_command stack.TableRaft table_command kv_command_is_format kv_length (who_of config) begun.disk
+        opening_leaves stack.KvRaft kv_command kv_command_is_format kv_length (who_of config) begun.disk
         (take n did) image (fronts_are_cut_short (opens_by begun) did n short) fits m third;
   };
 }

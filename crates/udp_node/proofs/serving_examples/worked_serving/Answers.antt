@@ -7,7 +7,6 @@ use Rattle.kv_machine.specs.Kv.{kv}
 use Rattle.vst_base.specs.declared.stack.StackId.TheVariants as stack
 use Rattle.wire_fields.specs.Bytes.{has_bytes, number_bytes, number_in, read_number}
 use Rattle.wire_messages.specs.KvBytes.{kv_command, kv_output}
-use Rattle.wire_messages.specs.TableBytes.{table_command}
 use Rattle.node_body.specs.Examples.{first_slot, vote_record}
 use Rattle.node_body.specs.Journals.{from_gate}
 use Rattle.node_acts.specs.Stores.{found_by}
@@ -54,7 +53,7 @@ returns-clause-not_answered c = λ x.
 abbrev closed : Image
 closed = record { slot0 = first_slot ++ 0 ∷ (vote_record ++ 0 ∷ []); slot1 = first_slot ++ 0 ∷ []; selector = 0 ∷ [] }
 
-no_vote : IsAt (settings_of config) kv kv_command kv_output (found_by stack.KvRaft kv_command stack.TableRaft table_command (who_of config))
+no_vote : IsAt (settings_of config) kv kv_command kv_output (found_by stack.KvRaft kv_command (who_of config))
     (Starting first) first (three_turns ++ (take 3 save ++ answered ∷ [])) closed → ⊥
 unfolding number_bytes number_in has_bytes read_number from_gate
 no_vote = search rules

@@ -1,19 +1,21 @@
 use Rattle.std.proofs.Common.{◌≡◌, ◌≤◌, ◌∷◌, false, length, refl, arith, []}
+use Rattle.vst_base.specs.declared.lock.LockMsg.TheVariants as lock
 use Rattle.vst_base.specs.declared.net.Net.TheVariants as net
 use Rattle.vst_base.specs.declared.stack.StackId.TheVariants as stack
-use Rattle.wire_codec.specs.Bodies.{is_peer_message}
-use Rattle.wire_codec.specs.Datagrams.{message_of, spell_datagram}
+use Rattle.wire_codec.specs.Bodies.{is_message}
+use Rattle.wire_codec.specs.declared.kind.Kind.TheVariants as kind
 use Rattle.wire_fields.specs.Bytes.{has_bytes, number_bytes, read_number}
 use Rattle.wired.specs.Examples.{gets_the_lock}
-use Rattle.wired.specs.Wiring.{no_name, peer_heading}
+use Rattle.wire_messages.specs.PeerBytes.{lock_message}
+use Rattle.wired.specs.Wiring.{no_name, packet}
 use Rattle.wired.proofs.examples.worked_runs.Goals as goal
 
 -- one byte is no numbered packet: its number alone has eight
-too_short_for_a_number : is_peer_message stack.LockSeq (1 ∷ []) ≡ false
+too_short_for_a_number : is_message stack.LockSeq kind.Peer (1 ∷ []) ≡ false
 unfolding has_bytes read_number
 too_short_for_a_number = refl
 
-its_length : length (spell_datagram (message_of (peer_heading stack.Lock no_name 1 0) (1 ∷ []))) ≡ 23
+its_length : length (packet lock_message stack.Lock no_name 1 0 lock.Lock) ≡ 23
 unfolding number_bytes
 its_length = refl
 
@@ -32,13 +34,13 @@ pub returns-clause-not_alike : goal.returns-clause-not_alike
 returns-clause-not_alike c = λ h. cc ((h.allowed refl).trace)
 
 pub returns-clause-not_of_another_stack : goal.returns-clause-not_of_another_stack
-returns-clause-not_of_another_stack c = λ h. cc (h.datagram.body, too_short_for_a_number)
+returns-clause-not_of_another_stack c = λ h. cc (h.of (1 ∷ []), too_short_for_a_number)
 
 pub returns-clause-not_to_a_tenth_node : goal.returns-clause-not_to_a_tenth_node
-returns-clause-not_to_a_tenth_node c = λ h. let e : 9 ≤ 8 = h.datagram.heading.1.1.1.1.0.1 in omega (arith, e)
+returns-clause-not_to_a_tenth_node c = λ h. let e : 9 ≤ 8 = h.heading.1.1.1.1.0.1 in omega (arith, e)
 
 pub returns-clause-not_under_no_name : goal.returns-clause-not_under_no_name
-returns-clause-not_under_no_name c = λ h. cc (h.datagram.heading.1.1.1.1.1.0)
+returns-clause-not_under_no_name c = λ h. cc (h.heading.1.1.1.1.1.0)
 
 pub returns-clause-not_of_numbered : goal.returns-clause-not_of_numbered
 returns-clause-not_of_numbered c = λ h. cc (h (1 ∷ []), too_short_for_a_number)
@@ -51,10 +53,9 @@ returns-clause-is_format c = λ bytes. refl
 
 pub returns-clause-has_bytes : goal.returns-clause-has_bytes
 returns-clause-has_bytes c = record {
-  fits = tt;
-  datagram = record {
-    heading = (tt, (tt, (tt, ((omega arith, omega arith), ((omega arith, omega arith), (refl, refl))))));
-    body = refl;
-    size = omega (arith, its_length);
-  };
+  of = λ bytes. refl;
+  heading = (tt, (tt, ((tt, refl), ((omega arith, omega arith), ((omega arith, omega arith), (refl, refl))))));
+  message = tt;
+  size = omega (arith, its_length);
+  bytes = refl;
 }

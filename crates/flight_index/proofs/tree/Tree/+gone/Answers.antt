@@ -2,7 +2,7 @@ use Rattle.std.proofs.Common.{◌≡◌, ◌<◌, ◌≤◌, ◌-◌, ℕ, List,
 use Rattle.std.proofs.lemmas.List.{length-set}
 use Rattle.flight_index.specs.Flights.{IsCounted}
 use Rattle.flight_index.specs.Trees.{packets_of, HasPackets}
-use Rattle.flight_index.proofs.Trees.{gone-left, was-left, gone-right, was-right}
+use Rattle.flight_index.proofs.Trees.{changed-left, was-left, changed-right, was-right}
 use Rattle.flight_index.proofs.tree.Tree.+gone.Goals as goal
 
 pub returns-then-k-len-clause-gone : goal.returns-then-k-len-clause-gone
@@ -10,7 +10,7 @@ returns-then-k-len-clause-gone t c =
     let e : c.args.self.now ≡ c.in-Fork.left.value ++ c.in-Fork.right.value = sym c.self.view_is ∙ ap packets_of c.in-Fork.is in
     let n = c.len.ensures ∙ ap length c.deref.ensures in
     let inside : c.args.k < length c.in-Fork.left.value = omega (arith, n, c.if-k-len.true) in
-    gone-left c.in-Fork.left.value c.in-Fork.right.value c.args.k e inside (c.gone.ensures.gone ∙ ap (λ xs. set xs c.args.k None) c.deref_mut.ensures.value)
+    changed-left c.in-Fork.left.value c.in-Fork.right.value c.args.k None e inside (c.gone.ensures.gone ∙ ap (λ xs. set xs c.args.k None) c.deref_mut.ensures.value)
 
 pub invariant_of-self-then-k-len : goal.invariant_of-self-then-k-len
 invariant_of-self-then-k-len t c =
@@ -18,7 +18,7 @@ invariant_of-self-then-k-len t c =
     let n = c.len.ensures ∙ ap length c.deref.ensures in
     let inside : c.args.k < length c.in-Fork.left.value = omega (arith, n, c.if-k-len.true) in
     let new = c.gone.ensures.gone ∙ ap (λ xs. set xs c.args.k None) c.deref_mut.ensures.value in
-    let whole = gone-left c.in-Fork.left.value c.in-Fork.right.value c.args.k e inside new in
+    let whole = changed-left c.in-Fork.left.value c.in-Fork.right.value c.args.k None e inside new in
     let h = subst (λ (ps : List (Option ℕ)). IsCounted ps c.self.inside.len c.self.inside.counts) c.self.view_is c.self.invariant.1 in
     let some = subst HasPackets c.in-Fork.is c.self.invariant.0 in
     let is = was-left c.in-Fork.left.value c.in-Fork.right.value c.args.k e inside ∙ sym (c.gone.ensures.destination ∙ ap (λ xs. get_or xs c.args.k None) c.deref_mut.ensures.value) in (
@@ -33,7 +33,7 @@ returns-else-k-len-clause-gone t c =
     let n = c.len.ensures ∙ ap length c.deref.ensures in
     let m = c.len-else-k-len.ensures ∙ ap length c.deref-else-k-len.ensures in
     let after : c.len-else-k-len.result ≤ c.args.k = omega (arith, n, m, c.if-k-len.false) in
-    gone-right c.in-Fork.left.value c.in-Fork.right.value c.args.k c.len-else-k-len.result e (sym m) after
+    changed-right c.in-Fork.left.value c.in-Fork.right.value c.args.k c.len-else-k-len.result None e (sym m) after
     (c.gone-else-k-len.ensures.gone ∙ ap (λ xs. set xs (c.args.k - c.len-else-k-len.result) None) c.deref_mut-else-k-len.ensures.value)
 
 pub invariant_of-self-else-k-len : goal.invariant_of-self-else-k-len
@@ -44,7 +44,7 @@ invariant_of-self-else-k-len t c =
     let after : c.len-else-k-len.result ≤ c.args.k = omega (arith, n, m, c.if-k-len.false) in
     let j = c.args.k - c.len-else-k-len.result in
     let new = c.gone-else-k-len.ensures.gone ∙ ap (λ xs. set xs j None) c.deref_mut-else-k-len.ensures.value in
-    let whole = gone-right c.in-Fork.left.value c.in-Fork.right.value c.args.k c.len-else-k-len.result e (sym m) after new in
+    let whole = changed-right c.in-Fork.left.value c.in-Fork.right.value c.args.k c.len-else-k-len.result None e (sym m) after new in
     let h = subst (λ (ps : List (Option ℕ)). IsCounted ps c.self.inside.len c.self.inside.counts) c.self.view_is c.self.invariant.1 in
     let some = subst HasPackets c.in-Fork.is c.self.invariant.0 in
     let is = was-right c.in-Fork.left.value c.in-Fork.right.value c.args.k c.len-else-k-len.result e (sym m) after

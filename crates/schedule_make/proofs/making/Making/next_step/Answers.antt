@@ -19,6 +19,6 @@ returns-clause-made g c =
     let inputs = g.T.MakesInputs.inputs in
     c.step_of.ensures
     ∙ ap (λ i. step_of i c.in_ok-kind.kind c.in_ok-kind.at) (c.in_ok-input.ensures ∙ ap (λ n. inputs words.input n) (c.taken.ensures ∙ made.taken.counted))
-    ∙ ap (λ at. step_of (inputs words.input (length ss)) c.in_ok-kind.kind at) (c.in_ok-kind.ensures.chosen ss made.taken.followed made.flights)
-    ∙ ap (λ k. step_of (inputs words.input (length ss)) k (chosen (candidates sys.meaning w k) words.number)) (c.in_ok-kind.ensures.kind ss made.taken.followed made.flights ∙ ap (λ k. made_kind sys.net sys.meaning w k) c.drawn_kind-drawn.ensures)
-    ∙ ap (λ (x : Words). let k = made_kind sys.net sys.meaning w (drawn_kind x.kind) in step_of (inputs x.input (length ss)) k (chosen (candidates sys.meaning w k) x.number)) c.next_words-words.ensures.words)
+    ∙ ap (λ at. step_of (inputs words.input (length ss)) c.in_ok-kind.kind at) (c.in_ok-kind.ensures.chosen ss made.taken.followed made.flights made.turns)
+    ∙ ap (λ k. step_of (inputs words.input (length ss)) k (chosen (candidates sys.net sys.meaning w k) words.number)) (c.in_ok-kind.ensures.kind ss made.taken.followed made.flights made.turns ∙ ap (λ k. made_kind sys.net sys.meaning w k) c.drawn_kind-drawn.ensures)
+    ∙ ap (λ (x : Words). let k = made_kind sys.net sys.meaning w (drawn_kind x.kind) in step_of (inputs x.input (length ss)) k (chosen (candidates sys.net sys.meaning w k) x.number)) c.next_words-words.ensures.words)

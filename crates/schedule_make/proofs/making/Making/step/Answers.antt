@@ -1,14 +1,15 @@
-use Rattle.std.proofs.Common.{◌≡◌, ◌++◌, ◌∷◌, [], List, None, Some, Err, length, take, sym, ap, subst, ◌∙◌}
+use Rattle.std.proofs.Common.{◌≡◌, ◌++◌, ◌∷◌, [], ℕ, List, Option, None, Some, Err, length, take, sym, ap, subst, ◌∙◌}
 use Rattle.net_semantics.specs.Steps.{IsAnswer, refusal_of}
 use Rattle.vst_base.specs.declared.step.Step.{Step}
 use Rattle.net_semantics.specs.declared.fault.StepFault.{StepFault}
 use Rattle.xform_stack.specs.Running.{HasTaken, Progress}
 use Rattle.xform_stack.specs.Systems.{System, world_of}
 use Rattle.flight_index.specs.Flights.{Flights}
-use Rattle.schedule_make.specs.Flying.{AreInFlightFrom, IsWithin, flights_of, seen}
+use Rattle.schedule_make.specs.Flying.{AreInFlightFrom, IsInTurn, IsWithin, flights_of, seen, seen_in_order, turns_of}
 use Rattle.schedule_make.specs.Making.{MakingView}
-use Rattle.schedule_make.proofs.Following.{length-flights, length-seen, taken-within}
-use Rattle.schedule_make.proofs.Stepping.{fly-on, knows-more, saw, was-so-far}
+use Rattle.schedule_make.proofs.Following.{length-after, length-flights, length-seen, taken-within}
+use Rattle.schedule_make.proofs.InTurn.{taken-in-turn}
+use Rattle.schedule_make.proofs.Stepping.{fly-on, knows-more, knows-turns-more, saw, turns-before, turns-so-far, was-so-far}
 use Rattle.schedule_make.proofs.making.Making.step.Given as given
 use Rattle.schedule_make.proofs.making.Making.step.Goals as goal
 
@@ -53,6 +54,19 @@ see-requires-clause-within g c =
     subst (λ (f : Flights). IsWithin (r.system c.forget_trace.new.self).meaning.nodes f c.in_ok-step.step) (sym flights)
     (subst (λ (x : SystemOf g). IsWithin x.meaning.nodes c.args.self.now.flights c.in_ok-step.step) (sym system) within)
 
+pub see-requires-clause-turn : goal.see-requires-clause-turn
+see-requires-clause-turn g c =
+    let r = g.W.Network in
+    let was = c.requires.allowed.made in
+    let ss = c.requires.allowed.steps in
+    let same = c.self-2.view_is ∙ c.in_ok-step.ensures.rest in
+    let sys = r.system c.args.self.now.network in
+    let none : refusal_of sys.net sys.meaning (world_of sys ss) c.in_ok-step.step ≡ None =
+    ap (refusal_of sys.net sys.meaning (world_of sys ss)) (c.in_ok-step.ensures.made ss was) ∙ c.requires.allowed.allowed in
+    let turns : c.self-2.inside.turns ≡ c.args.self.now.turns = ap (λ (v : ViewOf g). v.turns) same in
+    subst (λ (o : Option (List (Option (ℕ × ℕ)))). IsInTurn o c.in_ok-step.step) (sym turns)
+    (taken-in-turn sys.net sys.meaning (world_of sys ss) c.args.self.now.turns was.turns c.in_ok-step.step none)
+
 pub see_sent-requires-clause-sound : goal.see_sent-requires-clause-sound
 see_sent-requires-clause-sound g c = subst g.W.Network.sound (sym c.see.ensures.network) (c.forget_trace.ensures.sound c.in-Ok.ensures.sound)
 
@@ -85,6 +99,30 @@ see_sent-requires-clause-before g c =
     ∙ ap (λ (f : Flights). length f.packets) flights
     ∙ ap length was.flights.packets ∙ length-flights (world_of (r.system c.args.self.now.network) ss).packets
     ∙ sym (c.sent-before.ensures ss first ∙ ap (λ (v : ViewOf g). length (world_of (r.system v.network) ss).packets) c.self.view_is)
+
+pub see_sent-requires-clause-turns : goal.see_sent-requires-clause-turns
+see_sent-requires-clause-turns g c =
+    let r = g.W.Network in
+    let s = c.in_ok-step.step in
+    let v0 = c.args.self.now in
+    let was = c.requires.allowed.made in
+    let ss = c.requires.allowed.steps in
+    let sys = r.system v0.network in
+    let same = c.self-2.view_is ∙ c.in_ok-step.ensures.rest in
+    let ran = subst (λ (v : ViewOf g). HasTaken (r.system v.network) r.follows r.progress ss v.network) (sym same) was.taken in
+    let none : refusal_of sys.net sys.meaning (world_of sys ss) s ≡ None =
+    ap (refusal_of sys.net sys.meaning (world_of sys ss)) (c.in_ok-step.ensures.made ss was) ∙ c.requires.allowed.allowed in
+    let next = c.in-Ok.ensures.next ss ran in
+    let follows = c.forget_trace.ensures.follows (ss ++ s ∷ []) next.followed in
+    let after : r.system c.forget_trace.new.self ≡ sys =
+    c.forget_trace.ensures.system ∙ (c.in-Ok.ensures.system ∙ ap (λ (v : ViewOf g). r.system v.network) same) in
+    let is : c.see.new.self.turns ≡ seen_in_order (world_of sys (ss ++ s ∷ [])) s v0.turns =
+    c.see.ensures.in_order (ss ++ s ∷ []) follows
+    ∙ ap (λ (x : SystemOf g). seen_in_order (world_of x (ss ++ s ∷ [])) s c.self-2.inside.turns) after
+    ∙ ap (λ (v : ViewOf g). seen_in_order (world_of sys (ss ++ s ∷ [])) s v.turns) same in
+    let first = subst (λ (v : ViewOf g). r.follows v.network ss) (sym c.self.view_is) was.taken.followed in
+    let before = c.sent-before.ensures ss first ∙ ap (λ (v : ViewOf g). length (world_of (r.system v.network) ss).packets) c.self.view_is in
+    turns-before sys ss s v0.turns c.see.new.self.turns was.turns none is c.sent-before.result (before ∙ sym (length-after sys.recovery (world_of sys ss) s))
 
 pub returns-clause-next : goal.returns-clause-next
 returns-clause-next g c = λ ss was.
@@ -125,7 +163,18 @@ returns-clause-next g c = λ ss was.
     let packets = subst (λ (x : SystemOf g). AreInFlightFrom c.sent-before.result (world_of x (ss ++ s ∷ [])).packets
     → f1.packets ≡ take c.sent-before.result (flights_of (world_of x (ss ++ s ∷ [])).packets)
     → c.see_sent.new.self.flights.packets ≡ flights_of (world_of x (ss ++ s ∷ [])).packets) at (c.in_ok-see_sent.ensures.packets (ss ++ s ∷ []) followed) fly so-far in
+    let in-order : c.see.new.self.turns ≡ seen_in_order (world_of sys (ss ++ s ∷ [])) s v0.turns =
+    c.see.ensures.in_order (ss ++ s ∷ []) follows
+    ∙ ap (λ (x : SystemOf g). seen_in_order (world_of x (ss ++ s ∷ [])) s c.self-2.inside.turns) after
+    ∙ ap (λ (v : ViewOf g). seen_in_order (world_of sys (ss ++ s ∷ [])) s v.turns) same in
+    let sent-before = c.sent-before.ensures ss first ∙ ap (λ (v : ViewOf g). length (world_of (r.system v.network) ss).packets) c.self.view_is
+    ∙ sym (length-after sys.recovery (world_of sys ss) s) in
+    let turns = subst (λ (x : SystemOf g). AreInFlightFrom c.sent-before.result (world_of x (ss ++ s ∷ [])).packets
+    → c.see.new.self.turns ≡ turns_of sys.net (take c.sent-before.result (world_of x (ss ++ s ∷ [])).packets)
+    → c.see_sent.new.self.turns ≡ turns_of sys.net (world_of x (ss ++ s ∷ [])).packets) at (c.in_ok-see_sent.ensures.in_order sys.net (ss ++ s ∷ []) followed) fly
+    (turns-so-far sys ss s v0.turns c.see.new.self.turns was.turns none in-order c.sent-before.result sent-before) in
     record {
+      turns = knows-turns-more sys ss s v0.turns c.see.new.self.turns was.turns none in-order c.see_sent.new.self.turns turns;
       taken = subst (λ q. HasTaken sys r.follows r.progress (ss ++ s ∷ []) q) (sym run_is)
           (subst (λ (x : SystemOf g). HasTaken x r.follows r.progress (ss ++ s ∷ []) c.forget_trace.new.self) here forgot);
       flights = knows-more sys c.requires.nodes ss s v0.flights f1 was.flights none is c.see_sent.new.self.flights packets

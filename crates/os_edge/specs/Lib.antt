@@ -1,0 +1,9 @@
+pub mod Faults
+pub mod Streams
+pub mod StreamExamples
+pub mod RealViews
+pub mod Outcomes
+pub mod Looks
+pub mod Answers
+pub mod Leaving
+pub mod DeviceExamples

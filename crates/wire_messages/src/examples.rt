@@ -1,0 +1,35 @@
+ghost use Rattle.std.specs.Prelude.{◌≡◌, ◌∷◌, ◌++◌, [], None, Some, codes};
+ghost use Rattle.kv_machine.specs.declared.cmd.KvCmd.TheVariants as command;
+ghost use Rattle.lock_table.specs.declared.cmd.TableCmd.TheVariants as table;
+ghost use Rattle.raft_types.specs.declared.msg.RaftMsg.TheVariants as message;
+ghost use Rattle.vst_base.specs.declared.what.What.TheVariants as what;
+ghost use Rattle.wire_fields.specs.Fields.{key};
+ghost use Rattle.wire_fields.specs.Formats.{listed};
+ghost use Rattle.wire_messages.specs.EntryBytes.{entry, entry_of, old_entry};
+ghost use Rattle.wire_messages.specs.Examples.{one, put_asked, zero_of_four, zero_of_eight};
+ghost use Rattle.wire_messages.specs.KvBytes.{kv_command};
+ghost use Rattle.wire_messages.specs.RaftBytes.{append_of, raft_message};
+ghost use Rattle.wire_messages.specs.TableBytes.{table_command};
+ghost use Rattle.wire_messages.specs.Wires.{read_whole};
+
+/// Entries as version 1 wrote them and as they are now: the byte that says what one holds is new.
+#[tactic(auto, unfolding(wire_fields::specs::Bytes::number_bytes, wire_fields::specs::Bytes::number_in, wire_fields::specs::Bytes::has_bytes, wire_fields::specs::Bytes::read_number))]
+pub fn worked_entries()
+    ensures old { (old_entry kv_command).spell (entry_of 1 (what.Request 7 1 0 (command.Put (codes "a") (codes "x")))) ≡ one ++ put_asked }
+    ensures reads_old { (old_entry kv_command).read (one ++ put_asked)
+        ≡ Some (entry_of 1 (what.Request 7 1 0 (command.Put (codes "a") (codes "x"))), []) }
+    ensures no_old_no_op { (old_entry kv_command).Fits (entry_of 1 what.Noop) → ⊥ }
+    ensures new { (entry kv_command).spell (entry_of 1 (what.Request 7 1 0 (command.Put (codes "a") (codes "x")))) ≡ one ++ (1 ∷ put_asked) }
+    ensures no_op { (entry kv_command).spell (entry_of 1 what.Noop) ≡ one ++ (0 ∷ []) }
+    ensures sent { (raft_message kv_command).spell (message.Append (append_of 1 0 0 0 (entry_of 1 what.Noop ∷ [])))
+        ≡ 3 ∷ (one ++ (zero_of_four ++ (zero_of_eight ++ (zero_of_four ++ (1 ∷ (one ++ (0 ∷ []))))))) }
+{}
+
+/// Values one after the other, and a value that all of the bytes are.
+#[tactic(auto, unfolding(wire_fields::specs::Bytes::number_bytes, wire_fields::specs::Bytes::number_in, wire_fields::specs::Bytes::has_bytes, wire_fields::specs::Bytes::read_number))]
+pub fn worked_lists()
+    ensures two_keys { (listed key 2).read (1 ∷ 97 ∷ 1 ∷ 98 ∷ 9 ∷ []) ≡ Some (codes "a" ∷ codes "b" ∷ [], 9 ∷ []) }
+    ensures one_key_of_two { (listed key 2).read (1 ∷ 97 ∷ []) ≡ None }
+    ensures whole { read_whole table_command (3 ∷ 1 ∷ 108 ∷ []) ≡ Some (table.Holder (codes "l")) }
+    ensures a_byte_after { read_whole table_command (3 ∷ 1 ∷ 108 ∷ 0 ∷ []) ≡ None }
+{}
