@@ -16,7 +16,7 @@ import sys
 import time
 
 SCHEDULE = os.path.join(os.path.dirname(os.path.dirname(os.path.abspath(__file__))), "tools", "schedule")
-STACKS = ["lock", "lock/seq", "kv/pb", "kv/pb/seq", "kv/raft", "table/pb/seq", "table/raft"]
+STACKS = ["lock", "lock/seq", "kv/pb", "kv/pb/seq", "kv/raft", "table/pb/seq", "table/raft", "mirror", "mirror/fifo"]
 
 
 def run(program, words, text=b""):

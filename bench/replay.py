@@ -14,6 +14,21 @@ One round of `lock`, on three nodes, is five events and three packets. The clien
 
 A round of `lock/seq` has two events more: packet k is copied, and its copy comes too, which the image leaves out.
 
+A round of `mirror`, on three nodes, is two events and one packet. The nodes 1 and 2 take turns:
+
+    in c put ..      packet k goes to node 0
+    deliver k        node 0 says it
+
+A round of `mirror/fifo` is seven events and two packets, of which the second comes first and is held back:
+
+    in c put ..      packet k goes to node 0
+    in c put ..      and packet k + 1
+    dup k            which the image leaves out
+    deliver k + 1    so is this
+    deliver k        node 0 says the first
+    tick 0           and the second: in the image this is the delivery of packet k + 1
+    deliver k        and this is left out again
+
 A round of `kv` is one command, of `kv/pb` three events and two packets:
 
     in 0 put ..      packet k goes to the backup
@@ -73,6 +88,26 @@ def copied_round(turn, packet):
     return (asked, (f"dup {packet}", 0, None), taken, (f"deliver {packet}", 0, None), *rest)
 
 
+def mirror_round(turn, packet):
+    """A value, which node 0 says at once."""
+    asked = f"in {1 + turn % 2} put value-{turn}"
+    return ((asked, 1, asked), (f"deliver {packet}", 1, f"deliver {packet}"))
+
+
+def ordered_round(turn, packet):
+    """Two values, of which the second comes first and is given by a tick; a copy of the first comes last."""
+    first, second = (f"in {1 + turn % 2} put {part}-{turn}" for part in ("first", "second"))
+    return (
+        (first, 1, first),
+        (second, 1, second),
+        (f"dup {packet}", 0, None),
+        (f"deliver {packet + 1}", 0, None),
+        (f"deliver {packet}", 1, f"deliver {packet}"),
+        ("tick 0", 1, f"deliver {packet + 1}"),
+        (f"deliver {packet}", 0, None),
+    )
+
+
 def command(turn):
     """The command of a round of the key-value machine."""
     key = f"key-{turn // 2 % 1000}"
@@ -125,6 +160,8 @@ def cluster_round(turn, packet):
 STACKS = {
     "lock": ("schedule 1 bag lock 3", "schedule 1 bag lock 3", (), lock_round, 3),
     "lock/seq": ("schedule 1 dup lock/seq 3", "schedule 1 bag lock 3", (), copied_round, 3),
+    "mirror": ("schedule 1 ord mirror 3", "schedule 1 ord mirror 3", (), mirror_round, 1),
+    "mirror/fifo": ("schedule 1 dup mirror/fifo 3", "schedule 1 ord mirror 3", (), ordered_round, 2),
     "kv": ("schedule 1 one kv 1", "schedule 1 one kv 1", (), kv_round, 0),
     "kv/pb": ("schedule 1 bag kv/pb 2", "schedule 1 one kv 1", (), backed_round, 2),
     "kv/pb/seq": ("schedule 1 dup kv/pb/seq 2", "schedule 1 one kv 1", (), copied_backed_round, 2),

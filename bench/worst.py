@@ -8,6 +8,7 @@ kinds:
     inputs first     all inputs, and then each packet in the order of sending
     newest first     all inputs, and then each packet, the last one first: numbers are seen from the greatest down
     at random        the same in an order that is drawn from a number
+                     (of `mirror/fifo` what comes early waits, and in both as many ticks follow, of which each gives one)
     a follower down  node 2 of three is down while the others take the entries, and then takes them from the leader, eight at a time
     crashes          a node of a cluster of one with 20,000 entries crashes and reboots so many times
     keys             so many keys are put, and then deleted in another order
@@ -22,18 +23,24 @@ import replay
 ENTRIES = 20_000
 
 
-def asked(count):
-    """Client 1 asks for the lock so many times, each with a packet to the server."""
-    yield from ("in 1 lock" for _ in range(count))
+def asked(stack, count):
+    """Node 1 asks for the lock, or puts a value, so many times, each with a packet to node 0."""
+    text = "put value-{}" if stack.startswith("mirror") else "lock"
+    yield from (f"in 1 {text.format(turn)}" for turn in range(count))
+
+
+def ticks(stack, count):
+    """Over FIFO channels what came early is given by ticks, one in each."""
+    yield from ("tick 0" for _ in range(count if stack == "mirror/fifo" else 0))
 
 
 def inputs_first(stack):
-    """All inputs, and then the packets in order, of a lock server on three nodes."""
+    """All inputs, and then the packets in order, of a lock server or a mirror on three nodes."""
     header = replay.STACKS[stack][0]
 
     def lines(count):
         yield header
-        yield from asked(count)
+        yield from asked(stack, count)
         yield from (f"deliver {packet}" for packet in range(count))
 
     return lines
@@ -45,8 +52,9 @@ def newest_first(stack):
 
     def lines(count):
         yield header
-        yield from asked(count)
+        yield from asked(stack, count)
         yield from (f"deliver {packet}" for packet in reversed(range(count)))
+        yield from ticks(stack, count)
 
     return lines
 
@@ -57,10 +65,11 @@ def at_random(stack):
 
     def lines(count):
         yield header
-        yield from asked(count)
+        yield from asked(stack, count)
         packets = list(range(count))
         random.Random(1).shuffle(packets)
         yield from (f"deliver {packet}" for packet in packets)
+        yield from ticks(stack, count)
 
     return lines
 
@@ -122,16 +131,20 @@ def keys(count):
     yield from (f"in 0 del key-{number}" for number in numbers)
 
 
-MANY, SOME = (30_000, 300_000), (10_000, 100_000)
+MOST, MANY, SOME = (50_000, 500_000), (30_000, 300_000), (10_000, 100_000)
 KINDS = {
     "inputs first, lock": (inputs_first("lock"), MANY, "inputs"),
     "inputs first, lock/seq": (inputs_first("lock/seq"), MANY, "inputs"),
+    "inputs first, mirror": (inputs_first("mirror"), MOST, "inputs"),
+    "inputs first, mirror/fifo": (inputs_first("mirror/fifo"), MOST, "inputs"),
     "inputs first, kv/pb": (backed_inputs_first("kv/pb"), MANY, "inputs"),
     "inputs first, kv/pb/seq": (backed_inputs_first("kv/pb/seq"), MANY, "inputs"),
     "inputs first, kv/raft": (cluster_inputs_first, SOME, "inputs"),
     "newest first, lock": (newest_first("lock"), MANY, "inputs"),
     "newest first, lock/seq": (newest_first("lock/seq"), MANY, "inputs"),
+    "newest first, mirror/fifo": (newest_first("mirror/fifo"), MANY, "inputs"),
     "at random, lock/seq": (at_random("lock/seq"), SOME, "inputs"),
+    "at random, mirror/fifo": (at_random("mirror/fifo"), MANY, "inputs"),
     "a follower down, kv/raft": (follower_down, SOME, "entries"),
     "crashes, kv/raft": (crashes, (200, 2_000), "crashes"),
     "keys, kv": (keys, SOME, "keys"),

@@ -11,13 +11,14 @@ from dataclasses import dataclass, field
 from functools import cache
 from itertools import zip_longest
 
-from vstmachines import MACHINES, outputs_of
+from vstmachines import MACHINES, VALUE, outputs_of
 from vstraft import Request
 from vstworld import MAX_LINE, MAX_REQUEST, STACKS, Alone, Refused, Replay, Stack, Step, World
 from vstworld import handlers_of, header_of, number_in, read_header, read_request, read_step, take_line
 
 MAX_CLAIM_LINES, MAX_EACH = 8_000_000, 1_000_000
-TRACE_NODES = {"lock": 9, "pb": 2, "raft": 9, "one": 1}
+TRACE_NODES = {"lock": 9, "mirror": 9, "pb": 2, "raft": 9, "one": 1}
+SAID = re.compile(rf"from [0-8] {VALUE}")
 
 
 @dataclass(frozen=True)
@@ -98,6 +99,8 @@ def is_output(stack: Stack, text: str) -> bool:
     """Whether a text is that of an output."""
     if stack.over == "lock":
         return text == "locked"
+    if stack.over == "mirror":
+        return SAID.fullmatch(text) is not None
     form = MACHINES[stack.app].OUTPUT
     if stack.over != "raft":
         return form.fullmatch(text) is not None or (stack.over == "pb" and text == "redirect")
@@ -164,7 +167,7 @@ def read_image_line(claim: Claim, line: int, text: str) -> None:
 
 def image_stack(stack: Stack) -> Stack:
     """The stack of an image's schedule."""
-    return STACKS["lock" if stack.over == "lock" else stack.app]
+    return STACKS[stack.app]
 
 
 def read_claim(stack: Stack, lines: list[str]) -> Claim:
@@ -317,6 +320,7 @@ def wrong_at_backup(claim: Claim) -> int | None:
 CONDITIONS = {
     "raft": ((1, unrequested), (2, unexplained), (3, late)),
     "lock": ((4, refused_step), (5, differs)),
+    "mirror": ((4, refused_step), (5, differs)),
     "one": ((4, refused_step), (5, differs)),
     "pb": ((6, other_image), (7, wrong_answer), (8, wrong_at_backup)),
 }

@@ -23,6 +23,7 @@ WHYS = {
     "no such node": "there is no such node",
     "no input here": "this node takes no input",
     "no copy": "no copy of this packet is in flight: it was never sent, or has come already",
+    "not first": "an earlier packet of the same node to the same node is in flight, and this network keeps their order",
 }
 
 
@@ -131,6 +132,10 @@ def explain_refused_step(claim: Claim, found: Explanation) -> None:
     found.says.append(f"The network {image_stack(claim.stack).net} refuses this step of the image: {WHYS.get(replay.why, replay.why)}.")
     found.lines[found.verdict.line] = replay.why
     step = next(step for line, step in claim.steps if line == found.verdict.line)
+    if replay.why == "not first":
+        assert replay.world is not None
+        earlier = next(packet for packet in replay.world.in_flight() if replay.world.packets[packet].ends() == replay.world.packets[step.number].ends())
+        found.says.append(f"This is packet {earlier}.")
     if step.kind == "deliver":
         found.lines |= {line: "it came here" for line, other in claim.steps if other == step and line < found.verdict.line}
 

@@ -55,10 +55,11 @@ WHYS = {
     "text": "the node does not take this input: `tools/vst help stacks` has the texts",
     "not this network": "this network has no steps of this kind",
     "no such node": "nodes are numbered from 0, and there are fewer",
-    "no input here": "node 0 of the lock server takes no input",
+    "no input here": "node 0 of the lock server and of the mirror takes no input",
     "node down": "the node is down, or the packet goes to one that is",
     "node up": "the node is up, so it can't start again",
     "no copy": "no copy of this packet is in flight: it was not sent yet, or it came, or was lost",
+    "not first": "an earlier packet of the same node to the same node is in flight, and this network keeps their order",
 }
 KEYS = {
     "text": "the configuration is no document in TOML, or has more than 65,536 bytes",
@@ -75,6 +76,7 @@ TEXTS = {
     "lock": "`lock`, `unlock`",
     "kv": "`get KEY`, `put KEY VALUE`, `del KEY`, `cas KEY EXPECTED VALUE` (`-` or `=VALUE` is expected), `cad KEY VALUE`",
     "table": "`acquire NAME OWNER`, `release NAME OWNER`, `holder NAME`",
+    "mirror": "`put VALUE`",
 }
 
 
@@ -85,7 +87,7 @@ def stacks() -> str:
         nodes = str(stack.least) if stack.least == stack.most else f"{stack.least}..{stack.most}"
         lines.append(f"schedule 1 {stack.net:<4} {stack.word:<13} {nodes:<4}  {', '.join(KINDS[stack.net])}")
     lines += ["", "inputs"] + [f"{app:<6} {text}" for app, text in TEXTS.items()]
-    return "\n".join(lines + ["raft   CLIENT REQUEST in front of these, two numbers"])
+    return "\n".join(lines + ["raft   CLIENT REQUEST in front of those of kv and table, two numbers"])
 
 
 def say(doc: str | None, topics: list[str]) -> int:

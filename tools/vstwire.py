@@ -23,6 +23,7 @@ NAME_BYTES = 16
 NO_VOTE = 0xFF
 
 STACK_BYTES = {"lock": 1, "lock/seq": 2, "kv/pb": 3, "kv/pb/seq": 4, "kv/raft": 5, "table/pb/seq": 6, "table/raft": 7}
+STACK_BYTES |= {"mirror": 8, "mirror/fifo": 9}
 STACK_WORDS = {number: word for word, number in STACK_BYTES.items()}
 CLUSTER_STACKS = ("kv/raft", "table/raft")
 PEER, REQUEST, REPLY = 0, 1, 2

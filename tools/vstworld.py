@@ -1,4 +1,4 @@
-"""Schedules and what a replay makes of them, as a model in Python of all nine stacks.
+"""Schedules and what a replay makes of them, as a model in Python of all stacks.
 
 It is written from the page of formats, tested against the golden cases, and proves nothing: the tools use it where they have to know what is in
 flight, who leads, and what a step would do.
@@ -10,16 +10,19 @@ from collections import Counter
 from collections.abc import Iterable
 from dataclasses import dataclass, field
 
-from vstmachines import MACHINES
+from vstmachines import MACHINES, VALUE
 from vstraft import LEADER, Effect, Node, Request
 
 MAX_LINE, MAX_LINES, MAX_EVENTS = 4_096, 2_000_000, 1_000_000
 MAX_NUMBER, MAX_REQUEST = 2**32 - 1, 2**64 - 1
-KINDS = {"one": ("in",), "bag": ("in", "tick", "deliver"), "dup": ("in", "tick", "deliver", "dup")}
+KINDS = {"one": ("in",), "bag": ("in", "tick", "deliver"), "ord": ("in", "tick", "deliver"), "dup": ("in", "tick", "deliver", "dup")}
 KINDS["fail"] = (*KINDS["dup"], "lose", "crash", "reboot")
 WORDS = (*KINDS["fail"], "act", "stop")
 OF_NODES = ("in", "tick", "crash", "reboot")
 DIGITS = re.compile(r"0|[1-9][0-9]{0,19}")
+PUT = re.compile(rf"put {VALUE}")
+# applications of which node 0 takes no input, and whose image is a schedule of their own
+SERVERS = ("lock", "mirror")
 
 
 @dataclass(frozen=True)
@@ -38,9 +41,9 @@ class Stack:
 
     @property
     def over(self) -> str:
-        """What carries the application: `lock` itself, `one`, `pb` or `raft`."""
-        if self.app == "lock":
-            return "lock"
+        """What carries the application: `lock` or `mirror` itself, `one`, `pb` or `raft`."""
+        if self.app in SERVERS:
+            return self.app
         return self.word.split("/")[1] if "/" in self.word else "one"
 
 
@@ -49,7 +52,7 @@ STACKS = {
     for stack in (
         Stack("lock", "bag", 2, 9), Stack("lock/seq", "dup", 2, 9), Stack("kv", "one", 1, 1), Stack("table", "one", 1, 1),
         Stack("kv/pb", "bag", 2, 2), Stack("kv/pb/seq", "dup", 2, 2), Stack("table/pb/seq", "dup", 2, 2),
-        Stack("kv/raft", "fail", 1, 9), Stack("table/raft", "fail", 1, 9),
+        Stack("kv/raft", "fail", 1, 9), Stack("table/raft", "fail", 1, 9), Stack("mirror", "ord", 2, 9), Stack("mirror/fifo", "dup", 2, 9),
     )
 }
 
@@ -171,6 +174,100 @@ class Lock(Alone):
         return Effect()
 
 
+class Mirror(Alone):
+    """The mirror: node 0 says what was put at the others."""
+
+    def __init__(self, _app: str, _nodes: int) -> None:
+        """It remembers nothing."""
+
+    def is_input(self, text: str) -> bool:
+        """There is one, with a value."""
+        return PUT.fullmatch(text) is not None
+
+    def input(self, _node: int, text: str) -> Effect:
+        """A value goes to node 0."""
+        return Effect(sends=[(0, text.removeprefix("put "))])
+
+    def message(self, node: int, sender: int, message: object) -> Effect:
+        """Node 0 says from whom a value came."""
+        return Effect() if node else Effect([f"from {sender} {message}"])
+
+
+@dataclass(frozen=True)
+class Numbered:
+    """A message over FIFO channels: its number among those to its destination, and its content."""
+
+    number: int
+    content: object
+
+
+@dataclass
+class Peer:
+    """What a node keeps of another over FIFO channels: the next number that goes there, the one expected from there, and what came early."""
+
+    next: int = 0
+    expected: int = 0
+    held: dict[int, object] = field(default_factory=dict)
+
+
+class Fifo(Alone):
+    """Handlers over FIFO channels: packets are numbered by destination, and the contents of each sender are given in order."""
+
+    def __init__(self, within: Alone, nodes: int) -> None:
+        self.within = within
+        self.peers = [[Peer() for _ in range(nodes)] for _ in range(nodes)]
+        # of the last event, whose content it gave, and under which number
+        self.given: tuple[int, int] | None = None
+
+    def is_input(self, text: str) -> bool:
+        """Those of the handlers within."""
+        return self.within.is_input(text)
+
+    def numbered(self, node: int, effect: Effect) -> Effect:
+        """An effect of the handlers within, whose packets get their numbers."""
+        sends: list[tuple[int, object]] = []
+        for to, content in effect.sends:
+            sends.append((to, Numbered(self.peers[node][to].next, content)))
+            self.peers[node][to].next += 1
+        return Effect(effect.outputs, sends)
+
+    def give(self, node: int, sender: int, content: object) -> Effect:
+        """The expected content of a sender is given."""
+        peer = self.peers[node][sender]
+        self.given = sender, peer.expected
+        peer.held.pop(peer.expected, None)
+        peer.expected += 1
+        return self.numbered(node, self.within.message(node, sender, content))
+
+    def ready(self, node: int) -> int | None:
+        """The least node of which the expected content is held."""
+        return next((sender for sender, peer in enumerate(self.peers[node]) if peer.expected in peer.held), None)
+
+    def input(self, node: int, text: str) -> Effect:
+        """An input is that of the handlers within."""
+        self.given = None
+        return self.numbered(node, self.within.input(node, text))
+
+    def message(self, node: int, sender: int, message: object) -> Effect:
+        """What is expected is given, and what is early is held."""
+        assert isinstance(message, Numbered)
+        peer = self.peers[node][sender]
+        self.given = None
+        if message.number == peer.expected:
+            return self.give(node, sender, message.content)
+        if message.number > peer.expected:
+            peer.held.setdefault(message.number, message.content)
+        return Effect()
+
+    def timeout(self, node: int) -> Effect:
+        """What is ready is given, else the timer within fires."""
+        sender = self.ready(node)
+        self.given = None
+        if sender is None:
+            return self.numbered(node, self.within.timeout(node))
+        return self.give(node, sender, self.peers[node][sender].held[self.peers[node][sender].expected])
+
+
 class Backed(Alone):
     """A machine at a primary, node 0, and its backup, node 1."""
 
@@ -243,8 +340,9 @@ class Cluster(Alone):
 
 def handlers_of(stack: Stack, nodes: int) -> Alone:
     """The handlers of a stack."""
-    kinds: dict[str, type[Alone]] = {"one": Alone, "lock": Lock, "pb": Backed, "raft": Cluster}
-    return kinds[stack.over](stack.app, nodes)
+    kinds: dict[str, type[Alone]] = {"one": Alone, "lock": Lock, "mirror": Mirror, "pb": Backed, "raft": Cluster}
+    within = kinds[stack.over](stack.app, nodes)
+    return Fifo(within, nodes) if stack.word.endswith("/fifo") else within
 
 
 @dataclass(frozen=True)
@@ -254,6 +352,10 @@ class Packet:
     sender: int
     to: int
     message: object
+
+    def ends(self) -> tuple[int, int]:
+        """Its source and its destination."""
+        return self.sender, self.to
 
 
 @dataclass
@@ -271,6 +373,8 @@ class World:
         self.handlers = handlers_of(self.stack, self.nodes)
         self.up = set(range(self.nodes))
         self.came: set[int] = set()
+        # of a channel that numbers its packets, each by its ends and its number
+        self.numbered: dict[tuple[int, int, int], int] = {}
         # the steps that were events of the handlers within
         self.events: list[Step] = []
 
@@ -288,7 +392,7 @@ class World:
         node = step.number if step.kind in OF_NODES else sent.to if sent and step.kind == "deliver" else None
         if step.kind in OF_NODES and step.number >= self.nodes:
             raise Refused("no such node")
-        if step.kind == "in" and self.stack.over == "lock" and not node:
+        if step.kind == "in" and self.stack.over in SERVERS and not node:
             raise Refused("no input here")
         if step.kind == "reboot" and node in self.up:
             raise Refused("node up")
@@ -296,6 +400,13 @@ class World:
             raise Refused("node down")
         if step.kind not in OF_NODES and step.number not in self.copies:
             raise Refused("no copy")
+        if step.kind not in OF_NODES and not self.is_first(step.number):
+            raise Refused("not first")
+
+    def is_first(self, packet: int) -> bool:
+        """Whether no earlier packet of its source and destination is in flight, where the network keeps their order."""
+        ends = self.packets[packet].ends()
+        return self.stack.net != "ord" or all(other >= packet or self.packets[other].ends() != ends for other in self.copies)
 
     def take(self, step: Step) -> None:
         """Takes a step, or raises why it is refused."""
@@ -332,7 +443,6 @@ class World:
 
     def happen(self, node: int, step: Step) -> None:
         """An event at a node, with its line and outputs, and what it sends."""
-        self.events.append(step)
         if step.kind == "in":
             self.trace.append(f"in {node} {step.text}")
             effect = self.handlers.input(node, step.text)
@@ -340,10 +450,26 @@ class World:
             effect = self.handlers.timeout(node)
         else:
             effect = self.handlers.message(node, self.packets[step.number].sender, self.packets[step.number].message)
+        self.events += self.event_within(node, step)
         self.trace += [f"out {node} {text}" for text in effect.outputs]
         for to, message in effect.sends:
-            self.copies[len(self.packets)] += 1
-            self.packets.append(Packet(node, to, message))
+            self.send(Packet(node, to, message))
+
+    def event_within(self, node: int, step: Step) -> list[Step]:
+        """What an event is to the handlers within: itself, or over FIFO channels the delivery of the packet that was given, if one was."""
+        if not isinstance(self.handlers, Fifo):
+            return [step]
+        if self.handlers.given is not None:
+            sender, number = self.handlers.given
+            return [Step("deliver", self.numbered[sender, node, number])]
+        return [] if step.kind == "deliver" else [step]
+
+    def send(self, packet: Packet) -> None:
+        """A packet is in flight."""
+        if isinstance(packet.message, Numbered):
+            self.numbered[packet.sender, packet.to, packet.message.number] = len(self.packets)
+        self.copies[len(self.packets)] += 1
+        self.packets.append(packet)
 
     def in_flight(self) -> list[int]:
         """The packets with a copy in flight, ascending."""
@@ -351,15 +477,15 @@ class World:
 
     def image(self) -> list[str]:
         """The lines of the image, with its header if it has one."""
-        word, app = self.stack.word, self.stack.app
+        app = self.stack.app
         if self.stack.over == "raft":
             return [f"order {request.text()}" for request in self.cluster.order]
         if self.stack.over == "pb":
             inputs = [line.removeprefix("in 0 ") for line in self.trace if line.startswith("in 0 ")]
             replies = sum(line.startswith("out 0 ") for line in self.trace)
             return [f"schedule 1 one {app} 1", *(f"in 0 {text}" for text in inputs[:replies])]
-        if word == "lock/seq":
-            return [f"schedule 1 bag lock {self.nodes}", *(step.line() for step in self.events)]
+        if self.stack.over in SERVERS and app != self.stack.word:
+            return [header_of(STACKS[app], self.nodes), *(step.line() for step in self.events)]
         return [header_of(self.stack, self.nodes), *(step.line() for step in self.taken)]
 
 

@@ -6,7 +6,7 @@ from collections.abc import Iterator
 from dataclasses import dataclass, field
 
 from support import TOOLS
-from vstworld import KINDS, STACKS, Step, World
+from vstworld import KINDS, SERVERS, STACKS, Step, World
 
 STDOUT = TOOLS.parent / "crates" / "vst_transcripts" / "stdout"
 MOST_BYTES = 100_000
@@ -77,6 +77,8 @@ def made_text(world: World, word: int, step: int) -> str:
     key, place = word % 8, f"v{step}"
     if world.stack.app == "lock":
         return "unlock" if word % 2 else "lock"
+    if world.stack.app == "mirror":
+        return f"put {place}"
     if world.stack.app == "kv":
         text = (f"get k{key}", f"put k{key} {place}", f"del k{key}", f"cas k{key} - {place}")[word // 8 % 4]
     else:
@@ -92,13 +94,18 @@ def candidates(world: World, kind: str) -> list[int]:
     if kind == "reboot":
         return [node for node in range(world.nodes) if node not in world.up]
     if kind in ("in", "tick", "crash"):
-        return [node for node in sorted(world.up) if kind != "in" or world.stack.over != "lock" or node]
-    return [packet for packet in world.in_flight() if kind != "deliver" or world.packets[packet].to in world.up]
+        return [node for node in sorted(world.up) if kind != "in" or world.stack.over not in SERVERS or node]
+    return [packet for packet in world.in_flight() if kind != "deliver" or may_come(world, packet)]
+
+
+def may_come(world: World, packet: int) -> bool:
+    """Whether a packet in flight may be delivered."""
+    return world.packets[packet].to in world.up and world.is_first(packet)
 
 
 def make(stack: str, seed: int, steps: int) -> World:
     """What a schedule of `vst make` runs to."""
-    world, words = World(STACKS[stack], {"lock": 4, "pb": 2, "raft": 5}[STACKS[stack].over]), random_words(seed)
+    world, words = World(STACKS[stack], {"lock": 4, "mirror": 4, "pb": 2, "raft": 5}[STACKS[stack].over]), random_words(seed)
     for step in range(steps):
         first, second, third = next(words), next(words), next(words)
         kind = ("in", "in", "in", "in", "tick", "dup", "lose", "crash", "reboot", *["deliver"] * 7)[first % 16]

@@ -91,6 +91,12 @@ class Words(unittest.TestCase):
         told = self.explained("table/pb/seq", "in 0 acquire l bob", "out 0 l =al yes", "below", "schedule 1 one table 1", "in 0 acquire l bob")
         self.assertIn("says `l =bob yes`", told)
 
+    def test_the_order_of_packets(self) -> None:
+        image = ("schedule 1 ord mirror 2", "in 1 put a", "in 1 put b", "deliver 1")
+        told = self.explained("mirror/fifo", "in 1 put a", "in 1 put b", "out 0 from 1 b", "below", *image)
+        self.assertIn("The network ord refuses this step of the image: an earlier packet of the same node to the same node is in flight", told)
+        self.assertIn("This is packet 0.", told)
+
     def test_command(self) -> None:
         done = tool("explain", "--stack", "kv/raft", STALE)
         self.assertEqual(done.returncode, 1, done.stderr)

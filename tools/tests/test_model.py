@@ -6,8 +6,14 @@ import unittest
 import golden
 import vstworld
 from support import TOOLS
+from vstworld import STACKS
 
 EXAMPLES = TOOLS.parent / "examples"
+
+
+def values_of(trace: list[str], front: str) -> list[str]:
+    """What stands behind this in the lines of a trace that begin so."""
+    return [line.removeprefix(front) for line in trace if line.startswith(front)]
 
 
 class Model(unittest.TestCase):
@@ -15,7 +21,7 @@ class Model(unittest.TestCase):
 
     def test_examples(self) -> None:
         schedules = sorted(EXAMPLES.glob("*.schedule"))
-        self.assertGreaterEqual(len(schedules), 9)
+        self.assertGreaterEqual(len(schedules), 11)
         for schedule in schedules:
             with self.subTest(schedule.name):
                 output = vstworld.replay(vstworld.lines_of(schedule.read_bytes())).output()
@@ -30,6 +36,24 @@ class Model(unittest.TestCase):
                 self.assertEqual((found.output(), error), (case.output, case.error))
                 tried += 1
         self.assertGreater(tried, 60)
+
+    def test_order_is_kept_and_explained(self) -> None:
+        for stack in ("mirror", "mirror/fifo"):
+            for seed in range(20):
+                with self.subTest(stack=stack, seed=seed):
+                    world = golden.make(stack, seed, 300)
+                    below = vstworld.replay(world.image()).world
+                    self.assertEqual((world.trace, len(world.image())), (below and below.trace, len(below.taken if below else []) + 1))
+                    for node in range(1, world.nodes):
+                        put, said = (values_of(world.trace, front) for front in (f"in {node} put ", f"out 0 from {node} "))
+                        self.assertEqual(said, put[: len(said)])
+
+    def test_what_is_early_is_held_once(self) -> None:
+        world = vstworld.World(STACKS["mirror/fifo"], 2)
+        for line in ("in 1 put a", "in 1 put b", "dup 1", "deliver 1", "deliver 1", "tick 0", "deliver 0", "tick 0", "tick 0"):
+            world.take(vstworld.read_step(line))
+        self.assertEqual(world.trace[2:], ["out 0 from 1 a", "out 0 from 1 b"])
+        self.assertEqual(world.image()[3:], ["tick 0", "deliver 0", "deliver 1", "tick 0"])
 
     def test_made_schedules(self) -> None:
         tried = set()

@@ -43,6 +43,12 @@ class Made(unittest.TestCase):
         self.assertGreater(len(kind.led), 3)
         self.assertGreater(len(kind.world.image()), 20)
 
+    def test_what_comes_early_is_given_by_ticks(self) -> None:
+        world = schedule.make("mirror/fifo", 4, 300, 1, rates(STACKS["mirror/fifo"], reorder=0.5)).world
+        ticks = sum(step.kind == "tick" for step in world.taken)
+        self.assertGreater(ticks, 5 + sum(line.startswith("tick ") for line in world.image()))
+        self.assertGreater(len(world.trace), 100)
+
     def test_the_words_decide(self) -> None:
         first, again, other = (schedule.make("kv/raft", 3, 100, seed, UNKIND).world.taken for seed in (1, 1, 2))
         self.assertEqual(first, again)

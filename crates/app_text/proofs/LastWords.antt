@@ -1,12 +1,16 @@
 -- The last word of a text may be read whole: what stands after a space in it is no word's.
-use Rattle.std.proofs.Common.{◌≡◌, ℕ, Bool, true, false, ◌&&◌, List, [], ◌∷◌, Option, None, Some, refl, sym, ap, ◌∙◌, if◌then◌else◌}
+use Rattle.std.proofs.Common.{◌≡◌, ℕ, Bool, true, false, ◌&&◌, List, [], ◌∷◌, Option, None, Some, codes, refl, sym, ap, ◌∙◌, if◌then◌else◌}
 use Rattle.std.specs.Option.{option_and_then, option_map}
+use Rattle.std.specs.Str.{bytes_eq}
 use Rattle.std.proofs.lemmas.Bool.{and_right, false_from_ne_true, both_ways}
 use Rattle.kv_machine.specs.declared.cmd.KvCmd.TheVariants.{Cas}
 use Rattle.lock_table.specs.Table.{told}
+use Rattle.mirror.specs.declared.messages.MirrorInput.TheVariants.{Put}
+use Rattle.mirror.specs.declared.messages.MirrorOutput.TheVariants.{From}
 use Rattle.vst_base.specs.Tokens.{is_token, token_of, is_key, is_value}
 use Rattle.app_text.specs.KvTexts.{cas_of, kv_out}
 use Rattle.app_text.specs.KvTexts as kv
+use Rattle.app_text.specs.MirrorTexts as mirror
 use Rattle.app_text.specs.TableTexts as table
 use Rattle.app_text.specs.TableTextLaws.{answer_read, answer_visible}
 use Rattle.app_text.specs.WordForms.{key_of, key_and_token_of, keyed_reply_of}
@@ -71,3 +75,14 @@ last_of_kv_output k a w = last_of_reply 1024 (λ w. optional_of 1024 w) kv_out k
 
 pub last_of_table_output : (l h w : List ℕ) → table.output_by_words (l ∷ h ∷ words_of w) ≡ parts_of told l (optional_of 64 h) (table.answer_of w)
 last_of_table_output l h w = last_of_reply 64 table.answer_of told l h w (no_answer w)
+
+pub last_of_put : (name w : List ℕ) → mirror.input_by_words (name ∷ words_of w) ≡ (if bytes_eq name (codes "put") && is_value w then Some (Put w) else None)
+last_of_put name w =
+    last_word (λ ws. mirror.input_by_words (name ∷ ws)) w (λ x y more. refl)
+    (λ none. ap (λ b. if b then Some (Put w) else None) (and_right (bytes_eq name (codes "put")) (is_value w) (no_token 1024 w none)))
+
+pub last_of_from : (name s w : List ℕ) → mirror.output_by_words (name ∷ s ∷ words_of w)
+    ≡ (if bytes_eq name (codes "from") && is_value w then option_map (λ n. From n w) (mirror.sender_of s) else None)
+last_of_from name s w =
+    last_word (λ ws. mirror.output_by_words (name ∷ s ∷ ws)) w (λ x y more. refl)
+    (λ none. ap (λ b. if b then option_map (λ n. From n w) (mirror.sender_of s) else None) (and_right (bytes_eq name (codes "from")) (is_value w) (no_token 1024 w none)))

@@ -3,6 +3,8 @@ pub mod KvTextLaws
 pub mod KvTexts
 pub mod LockTextLaws
 pub mod LockTexts
+pub mod MirrorTextLaws
+pub mod MirrorTexts
 pub mod PbTextLaws
 pub mod PbTexts
 pub mod Printing

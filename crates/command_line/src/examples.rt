@@ -45,6 +45,10 @@ pub fn worked()
     ensures check_table { command_of (codes "vst" ∷ codes "check" ∷ codes "--stack" ∷ codes "table" ∷ []) ≡ Some (Command.Check StackId.Table) }
     ensures check_table_pb_seq { command_of (codes "vst" ∷ codes "check" ∷ codes "--stack" ∷ codes "table/pb/seq" ∷ []) ≡ Some (Command.Check StackId.TablePbSeq) }
     ensures check_table_raft { command_of (codes "vst" ∷ codes "check" ∷ codes "--stack" ∷ codes "table/raft" ∷ []) ≡ Some (Command.Check StackId.TableRaft) }
+    ensures check_mirror { command_of (codes "vst" ∷ codes "check" ∷ codes "--stack" ∷ codes "mirror" ∷ [])
+        ≡ Some (Command.Check StackId.Mirror) }
+    ensures check_mirror_fifo { command_of (codes "vst" ∷ codes "check" ∷ codes "--stack" ∷ codes "mirror/fifo" ∷ [])
+        ≡ Some (Command.Check StackId.MirrorFifo) }
     ensures attached { command_of (codes "vst" ∷ codes "check" ∷ codes "--stack=lock" ∷ []) ≡ Some (Command.Check StackId.Lock) }
     ensures check_end_of_options { command_of (codes "vst" ∷ codes "check" ∷ codes "--stack" ∷ codes "lock" ∷ codes "--" ∷ []) ≡ Some (Command.Check StackId.Lock) }
     ensures check_taken { takes_words (codes "vst" ∷ codes "check" ∷ codes "--stack" ∷ codes "lock" ∷ []) ≡ true }
@@ -97,7 +101,7 @@ pub fn worked()
 pub fn worked_schedules()
     // The stacks of which schedules can be made.
     ensures stacks { packet_stack_words ≡ codes "lock" ∷ codes "lock/seq" ∷ codes "kv/pb" ∷ codes "kv/pb/seq" ∷ codes "kv/raft"
-        ∷ codes "table/pb/seq" ∷ codes "table/raft" ∷ [] }
+        ∷ codes "table/pb/seq" ∷ codes "table/raft" ∷ codes "mirror" ∷ codes "mirror/fifo" ∷ [] }
 
     // In any order, and in each spelling that clap takes.
     ensures apart { command_of (codes "vst" ∷ codes "make" ∷ codes "--stack" ∷ codes "lock" ∷ codes "--seed" ∷ codes "5" ∷ codes "--steps" ∷ codes "3" ∷ [])
@@ -112,6 +116,8 @@ pub fn worked_schedules()
         ≡ Some (Command.Make (made_schedule StackId.LockSeq 0 0)) }
     ensures greatest { command_of (codes "vst" ∷ codes "make" ∷ codes "--stack=kv/raft" ∷ codes "--seed=4294967295" ∷ codes "--steps=1000000" ∷ codes "--summary" ∷ [])
         ≡ Some (Command.Summarize (made_schedule StackId.KvRaft 4294967295 1000000)) }
+    ensures in_order { command_of (codes "vst" ∷ codes "make" ∷ codes "--stack=mirror/fifo" ∷ codes "--seed=1" ∷ codes "--steps=20" ∷ [])
+        ≡ Some (Command.Make (made_schedule StackId.MirrorFifo 1 20)) }
 
     // An option that is missing, or has no value.
     ensures no_options { takes_words (codes "vst" ∷ codes "make" ∷ []) ≡ false }

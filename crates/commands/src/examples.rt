@@ -7,6 +7,7 @@ use line_reader::Why;
 use vst_base::StackId;
 
 /// Worked runs: the status, the text on the output and the line on the error stream.
+#[tactic(auto, unfolding(schedule_text::specs::Headers::header_of))]
 pub fn worked()
     ensures no_command { answer_by None [] ≡ record { status = 2; out = []; err = codes "usage\n" } }
     ensures handed_over { answer_by (Some command.Replay) handover
@@ -23,6 +24,7 @@ pub fn worked()
 {}
 
 /// What a command has written for the whole lines of an input that broke off, and which of them is refused.
+#[tactic(auto, unfolding(schedule_text::specs::Headers::header_of))]
 pub fn worked_breaks()
     ensures replayed { so_far_by (Some command.Replay) (codes "schedule 1 bag lock 2\nin 1 lock\nin 1") ≡ record { out = codes "in 1 lock\n"; refused = None } }
     ensures replayed_up_to_a_refused_line { (so_far_by (Some command.Replay) (codes "schedule 1 bag lock 2\ndeliver 7\nin 1")).refused ≡ Some (2, Why.NoCopy) }

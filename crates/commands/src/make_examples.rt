@@ -10,6 +10,7 @@ use crate::Complaint;
 use made_schedules::made_schedules_are_replayed;
 
 /// What the two commands that read nothing write.
+#[tactic(auto, unfolding(schedule_text::specs::Headers::header_of))]
 pub fn worked_making()
     ensures made { answer_by (Some (command.Make one_tick)) (codes "left alone") ≡ record { status = 0; out = one_tick_text; err = [] } }
     ensures summarized { answer_by (Some (command.Summarize one_tick)) []
@@ -20,6 +21,7 @@ pub fn worked_making()
 {}
 
 /// What each status says of them: a run that it fits, and one that it does not fit.
+#[tactic(auto, unfolding(schedule_text::specs::Headers::header_of))]
 pub fn worked_make_statuses()
     ensures made { IsDone (Some (command.Make one_tick)) (quiet_run (codes "left alone") (codes "left alone") one_tick_text []) }
     ensures a_step_missing { IsDone (Some (command.Make one_tick)) (quiet_run [] [] (codes "schedule 1 bag lock 4\n") []) → ⊥ }

@@ -17,6 +17,7 @@ use trace_check::permitted_claims_are_explained;
 use vst_base::StackId;
 
 /// What a run may say on its error stream. A run in which a call failed may say no other line than of that.
+#[tactic(auto, unfolding(schedule_text::specs::Headers::header_of))]
 pub fn worked_complaints()
     ensures usage { MaySay None (quiet_run [] [] [] []) usage_line }
     ensures usage_of_no_command { HasCause (Some command.Replay) (quiet_run [] [] [] []) Complaint.Words → ⊥ }
@@ -40,6 +41,7 @@ pub fn worked_complaints()
 {}
 
 /// What telling a complaint comes to: want of memory only where its line is made of numbers.
+#[tactic(auto, unfolding(schedule_text::specs::Headers::header_of))]
 pub fn worked_tellings()
     ensures said { Told Complaint.Read (quiet_sink []) (quiet_sink read_failed_line) 4 }
     ensures another_status { Told Complaint.Read (quiet_sink []) (quiet_sink read_failed_line) 8 → ⊥ }
@@ -51,6 +53,7 @@ pub fn worked_tellings()
 {}
 
 /// Which status comes where no call failed, and that no count falls.
+#[tactic(auto, unfolding(schedule_text::specs::Headers::header_of))]
 pub fn worked_counts()
     ensures complete { IsComplete (Some command.Replay) (quiet_run idle [] [] []) 0 }
     ensures wanting { IsComplete (Some command.Replay) (quiet_run idle [] [] []) 8 }
@@ -64,6 +67,7 @@ pub fn worked_counts()
 {}
 
 /// What each status says: a run that it fits, and one that it does not fit.
+#[tactic(auto, unfolding(schedule_text::specs::Headers::header_of))]
 pub fn worked_statuses()
     ensures replayed { IsDone (Some command.Replay) (quiet_run idle [] idle_claim []) }
     ensures replayed_without_an_image { IsDone (Some command.Replay) (quiet_run idle [] (codes "below\n") []) → ⊥ }

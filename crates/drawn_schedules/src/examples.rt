@@ -12,6 +12,7 @@ use line_reader::Why;
 use schedule_replay::ReplayFault;
 
 /// What drawing a text comes to: it is drawn, or the first line that a replay refuses is named, with the cause.
+#[tactic(auto, unfolding(schedule_text::specs::Headers::header_of))]
 pub fn worked_drawing()
     ensures drawn { DrawsTo taken_text (Ok tt) }
     ensures drawn_without_a_step { DrawsTo idle (Ok tt) }
@@ -34,6 +35,7 @@ pub fn worked_drawing()
 {}
 
 /// What drawing does to an output that held `a`, on which one write had failed and two had wanted memory.
+#[tactic(auto, unfolding(schedule_text::specs::Headers::header_of))]
 pub fn worked_writes()
     ensures drawn { Writes (sink (codes "a") 1 2) (sink (codes "a<svg>") 1 2) (Ok tt) }
     ensures drawn_and_a_fault_hidden { ¬ Writes (sink (codes "a") 1 2) (sink (codes "a<svg>") 2 2) (Ok tt) }
@@ -53,6 +55,7 @@ pub fn worked_writes()
 {}
 
 /// What each status says of a run: runs that it fits, and such as it does not fit.
+#[tactic(auto, unfolding(schedule_text::specs::Headers::header_of))]
 pub fn worked_endings()
     ensures drawn { EndsAs (quiet_run taken_text [] (codes "<svg>") []) 0 }
     ensures an_untold_text_drawn { EndsAs (untold (quiet_run refused_text [] (codes "<svg>") [])) 0 }

@@ -2,6 +2,7 @@ use crate::words::push_number;
 use app_text::{AppText, KvText, TableText};
 use kv_machine::KvCmd;
 use lock_table::TableCmd;
+use mirror::MirrorMsg;
 use std::alloc::AllocError;
 use vst_base::{LockMsg, PbMsg, SeqMsg};
 
@@ -28,6 +29,18 @@ impl Says for LockMsg {
     }
 }
 
+impl Says for MirrorMsg {
+    fn say(&self, out: &mut Vec<u8>) -> Result<(), AllocError> {
+        match self {
+            MirrorMsg::Item(value) => {
+                out.extend_from_slice(b"item ")?;
+                out.extend_from_slice(value.as_bytes())
+            }
+        }
+    }
+}
+
+// Its number, of all packets of its sender or of those to its destination.
 impl<M: Says> Says for SeqMsg<M> {
     fn say(&self, out: &mut Vec<u8>) -> Result<(), AllocError> {
         self.inner.say(out)?;

@@ -3,12 +3,14 @@ ghost use Rattle.vst_base.specs.Nets.{stops_no_node};
 
 use crate::pictures::Rest;
 use crate::{Says, Telling};
-use app_text::{AppText, KvText, LockText, PbText, TableText};
+use app_text::{AppText, KvText, LockText, MirrorText, PbText, TableText};
 use drawing::Picture;
+use fifo_xform::Fifo;
 use handler_trait::Handlers;
 use kv_machine::KvMachine;
 use lock_server::LockServer;
 use lock_table::TableMachine;
+use mirror::Mirror;
 use net_semantics::FailWorld;
 use primary_backup::PrimaryBackup;
 use raft_text::RaftText;
@@ -53,6 +55,8 @@ impl Rest {
         let n = header.nodes;
         let kv = PrimaryBackup::new(KvMachine);
         let table = PrimaryBackup::new(TableMachine);
+        // A header of a mirror names at most so many nodes.
+        let mirror = Mirror::new(n.min(MAX_NODES));
         match header.stack {
             StackId::Lock => self.on::<_, LockText>(net, LockServer::new(n)),
             StackId::LockSeq => self.on::<_, LockText>(net, SeqNum::new(LockServer::new(n))),
@@ -63,6 +67,8 @@ impl Rest {
             StackId::TableRaft => self.on_cluster::<_, TableText>(TableMachine, n),
             StackId::Kv => self.on::<_, KvText>(net, SingleNode::new(KvMachine)),
             StackId::Table => self.on::<_, TableText>(net, SingleNode::new(TableMachine)),
+            StackId::Mirror => self.on::<_, MirrorText>(net, mirror),
+            StackId::MirrorFifo => self.on::<_, MirrorText>(net, Fifo::new(mirror)),
         }
     }
 }

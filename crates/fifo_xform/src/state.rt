@@ -1,5 +1,5 @@
-ghost use Rattle.std.specs.Prelude.{◌≡◌};
-ghost use Rattle.fifo_xform.specs.Peers.{ready_number};
+ghost use Rattle.std.specs.Prelude.{◌≡◌, nat_eq};
+ghost use Rattle.fifo_xform.specs.Peers.{peer_of, ready_number};
 
 use crate::Peers;
 use std::marker::Model;
@@ -28,5 +28,12 @@ impl<S, M: Drop> FifoState<S, M> {
         ensures { result ≡ ready_number nodes self.now.peers }
     {
         self.peers.ready(nodes)
+    }
+
+    /// Whether a packet of the node with this number is given to the handlers within when it comes: whether it is the next of that node.
+    pub fn expects(&self, from: Node, number: u64) -> bool
+        ensures { result ≡ nat_eq number (peer_of self.now.peers from).expected }
+    {
+        self.peers.expects(from, number)
     }
 }

@@ -1,10 +1,18 @@
--- An event of the lock server, of a machine alone or under primary-backup, or of numbered handlers sends few packets.
-use Rattle.std.specs.Prelude.{ℕ, ◌≤◌, Bool, true, false, [], ◌∷◌, length, cond}
+-- An event of the lock server, of the mirror, of a machine alone or under primary-backup, or of handlers that are numbered or whose messages
+-- come in order sends few packets.
+use Rattle.std.specs.Prelude.{ℕ, ◌≤◌, ◌==◌, Bool, true, false, [], ◌∷◌, length, Option, Some, None, cond}
 use Rattle.std.proofs.Common.{arith}
+use Rattle.fifo_xform.specs.Fifo.{FifoState, fifo, gives, gives_nothing, numbering, on_timeout}
+use Rattle.fifo_xform.specs.FifoLaws.{length-numbered_by}
+use Rattle.fifo_xform.specs.Peers.{Peers, passing, peer_of, ready}
 use Rattle.handler_trait.specs.Handling.{Effect, Meaning}
 use Rattle.lock_server.specs.Locks.{lock_server}
 use Rattle.lock_server.specs.declared.state.LockState.{LockState}
 use Rattle.lock_server.specs.declared.state.LockState.TheVariants.{Server, Client}
+use Rattle.mirror.specs.MirrorLaws as mirror_laws
+use Rattle.mirror.specs.Mirroring.{mirror}
+use Rattle.mirror.specs.declared.messages.MirrorInput.{MirrorInput}
+use Rattle.mirror.specs.declared.messages.MirrorInput.TheVariants.{Put}
 use Rattle.primary_backup.specs.Backup.{primary_backup}
 use Rattle.primary_backup.specs.BackupLaws as backup
 use Rattle.seqnum_xform.specs.Numbering.{Numbered, Seen, has_seen, with_seen, nothing, numbered, sequence_numbered}
@@ -39,6 +47,16 @@ lock-message nodes n (Client held) from msg.Unlock = omega arith
 pub lock-few : (nodes : ℕ) → SendsFew (lock_server nodes)
 lock-few nodes = record { input = lock-input nodes; message = lock-message nodes; timeout = λ n s. omega arith }
 
+mirror-input : (nodes n : ℕ) (s : Unit {0}) (i : MirrorInput) → length ((mirror nodes).input n s i).sends ≤ MAX_NODES
+mirror-input nodes n s (Put value) = omega arith
+
+pub mirror-few : (nodes : ℕ) → SendsFew (mirror nodes)
+mirror-few nodes = record {
+  input = mirror-input nodes;
+  message = λ n s from c. omega (arith, (mirror_laws.modest_message nodes n from c).few);
+  timeout = λ n s. omega arith;
+}
+
 pub backup-few : {S C O : Type 0} (m : MachineMeaning S C O) → SendsFew (primary_backup m)
 backup-few m = record {
   input = λ n s i. omega (arith, (backup.modest_input m n s i).few);
@@ -65,4 +83,28 @@ module _ {S I O M : Type 0} (m : Meaning S I O M) (few : SendsFew m) where
         unless-seen s (has_seen s.seen from p.number) _
         (numbered-sends s.next (with_seen s.seen from p.number) (m.message n s.inner from p.inner) (few.message n s.inner from p.inner));
     timeout = λ n s. numbered-sends s.next s.seen (m.timeout n s.inner) (few.timeout n s.inner);
+  }
+
+  numbering-sends : (ps : Peers M) (e : Effect S O M) → length e.sends ≤ MAX_NODES → length (numbering ps e).sends ≤ MAX_NODES
+  numbering-sends ps e h = omega (arith, length-numbered_by ps e.sends, h)
+
+  gives-few : (n : ℕ) (s : FifoState S M) (from : ℕ) (content : M) → length (gives m n s from content).sends ≤ MAX_NODES
+  gives-few n s from content = numbering-sends (passing s.peers from) (m.message n s.inner from content) (few.message n s.inner from content)
+
+  -- a message that is held or ignored sends nothing
+  if-expected : (n : ℕ) (s : FifoState S M) (from : ℕ) (content : M) (ps : Peers M) (b : Bool)
+      → length (cond b (gives m n s from content) (gives_nothing s.inner ps)).sends ≤ MAX_NODES
+  if-expected n s from content ps true = gives-few n s from content
+  if-expected n s from content ps false = omega arith
+
+  -- a tick gives one that is held, or fires the timer within
+  by-ready : (n : ℕ) (s : FifoState S M) (o : Option (ℕ × M)) → length (on_timeout m n s o).sends ≤ MAX_NODES
+  by-ready n s None = numbering-sends s.peers (m.timeout n s.inner) (few.timeout n s.inner)
+  by-ready n s (Some held) = gives-few n s held.0 held.1
+
+  pub fifo-few : SendsFew (fifo m)
+  fifo-few = record {
+    input = λ n s i. numbering-sends s.peers (m.input n s.inner i) (few.input n s.inner i);
+    message = λ n s from p. if-expected n s from p.inner _ (p.number == (peer_of s.peers from).expected);
+    timeout = λ n s. by-ready n s (ready m.nodes s.peers);
   }

@@ -1,19 +1,21 @@
 -- Schedules are made for the kind of each stack: a line an application or a transformer, and a line a stack.
 use Rattle.app_text.specs.KvTextLaws as kv_text
 use Rattle.app_text.specs.LockTextLaws as lock_text
+use Rattle.app_text.specs.MirrorTextLaws as mirror_text
 use Rattle.app_text.specs.TableTextLaws as table_text
-use Rattle.schedule_make.specs.Inputs.{kv_input, lock_input, table_input}
+use Rattle.schedule_make.specs.Inputs.{kv_input, lock_input, mirror_input, table_input}
 use Rattle.std.proofs.Common.{refl}
 use Rattle.stacks.specs.Plays.{IfFound}
 use Rattle.stacks.specs.Kinds.{Service}
-use Rattle.stacks.specs.Table.{kind_at, kv_texts, lock_table, lock_texts, locks, store, table_texts}
+use Rattle.stacks.specs.Table.{kind_at, kv_texts, lock_table, lock_texts, locks, mirror_texts, mirrors, store, table_texts}
+use Rattle.transformers.specs.Ordering.{ordering}
 use Rattle.transformers.specs.Numbering.{numbering}
 use Rattle.vst_base.specs.Stacks.{row_of}
 use Rattle.vst_base.specs.declared.stack.StackId.{StackId}
 use Rattle.vst_base.specs.declared.stack.StackId.TheVariants as stack
 use Rattle.made_schedules.specs.Makes.{KeepsFew, KindMakes, MachineMakes, OwnMakes}
 use Rattle.made_schedules.proofs.KindLines.{by-spelling}
-use Rattle.made_schedules.proofs.Sends.{lock-few, numbered-few}
+use Rattle.made_schedules.proofs.Sends.{fifo-few, lock-few, mirror-few, numbered-few}
 use Rattle.made_schedules.proofs.Texts as texts
 
 locks-make : OwnMakes locks
@@ -21,6 +23,13 @@ locks-make = record {
   nodes = λ n. refl;
   sends = lock-few;
   inputs = by-spelling lock_texts lock_text.inputs_are_spelled 4000 lock_input texts.lock-texts;
+}
+
+mirrors-make : OwnMakes mirrors
+mirrors-make = record {
+  nodes = λ n. refl;
+  sends = mirror-few;
+  inputs = by-spelling mirror_texts mirror_text.inputs_are_spelled 4000 mirror_input texts.mirror-texts;
 }
 
 store-makes : MachineMakes store
@@ -32,6 +41,9 @@ table-makes = by-spelling table_texts table_text.inputs_are_spelled 3900 table_i
 numbering-keeps : (s : Service) → KeepsFew numbering s
 numbering-keeps s = record { nodes = λ m. refl; sends = numbered-few }
 
+ordering-keeps : (s : Service) → KeepsFew ordering s
+ordering-keeps s = record { nodes = λ m. refl; sends = fifo-few }
+
 pub stacks-make : (i : StackId) → IfFound (kind_at (row_of i).net i) KindMakes
 stacks-make stack.Lock = locks-make
 stacks-make stack.LockSeq = (numbering-keeps _, locks-make)
@@ -42,3 +54,5 @@ stacks-make stack.TablePbSeq = (numbering-keeps _, table-makes)
 stacks-make stack.TableRaft = table-makes
 stacks-make stack.Kv = store-makes
 stacks-make stack.Table = table-makes
+stacks-make stack.Mirror = mirrors-make
+stacks-make stack.MirrorFifo = (ordering-keeps _, mirrors-make)

@@ -6,10 +6,11 @@ use Rattle.std.proofs.lemmas.Bool.{and_from}
 use Rattle.std.proofs.lemmas.Nat.{mod_below}
 use Rattle.app_text.specs.KvTexts as kv
 use Rattle.app_text.specs.LockTexts as lock
+use Rattle.app_text.specs.MirrorTexts as mirror
 use Rattle.app_text.specs.TableTexts as table
 use Rattle.raft_text.specs.RaftTexts.{IsRaftInput, raft_input_text}
 use Rattle.schedule_make.proofs.Letters.{digits-few, letter-number}
-use Rattle.schedule_make.specs.Inputs.{asked_by_client, kv_input, kv_key, kv_value, lock_input, lock_name, lock_owner, table_input}
+use Rattle.schedule_make.specs.Inputs.{asked_by_client, kv_input, kv_key, kv_value, lock_input, lock_name, lock_owner, mirror_input, table_input}
 use Rattle.vst_base.specs.Tokens.{is_key, is_value}
 use Rattle.vst_base.specs.declared.lock.LockInput.TheVariants.{Lock, Unlock}
 use Rattle.vst_base.specs.declared.step.TheConstants.{MAX_STEPS}
@@ -106,6 +107,10 @@ lock-short false = omega arith
 
 pub lock-texts : HaveShortTexts (λ c. Unit {0}) lock.input_text lock_input
 lock-texts = record { has_text = λ x i below. tt; short = λ x i below. lock-short (x % 2 == 0) }
+
+-- `put v` and the place
+pub mirror-texts : HaveShortTexts (λ i. IsTrue (mirror.is_input i)) mirror.input_text mirror_input
+mirror-texts = record { has_text = λ x i below. value-fits i below; short = λ x i below. omega (arith, length-value i below) }
 
 pub kv-texts : HaveCommandTexts (λ c. IsTrue (kv.is_command c)) kv.input_text kv_input
 kv-texts = of-machine kv_input kv-brief

@@ -1,6 +1,8 @@
 ghost use Rattle.std.specs.Prelude.{ℕ, ◌*◌, ◌≤◌, List, length};
+ghost use Rattle.fifo_xform.specs.Fifo.{fifo};
 ghost use Rattle.handler_trait.specs.Handling.{Meaning, Recovery};
 ghost use Rattle.lock_server.specs.Locks.{lock_server};
+ghost use Rattle.mirror.specs.Mirroring.{mirror};
 ghost use Rattle.net_semantics.specs.Runs.{run};
 ghost use Rattle.primary_backup.specs.Backup.{primary_backup};
 ghost use Rattle.raft_xform.specs.Raft.{raft};
@@ -11,12 +13,15 @@ ghost use Rattle.vst_base.specs.declared.step.Step.{Step};
 ghost use Rattle.made_schedules.specs.Sends.{SendsFew};
 
 /// The handlers that schedules are made for send few packets in each event, whatever the machine. `S` are the machine's states, `I` its
-/// commands and `O` its outputs; of handlers that are numbered `S` are states, `I`, `O` and `M` inputs, outputs and messages.
+/// commands and `O` its outputs; of handlers whose messages are numbered or put in order `S` are states, `I`, `O` and `M` inputs, outputs and
+/// messages.
 pub fn events_send_few<S: Drop, I: Drop, O: Drop, M: Drop>()
     ensures lock { (nodes : ℕ) → SendsFew (lock_server nodes) }
+    ensures mirror { (nodes : ℕ) → SendsFew (mirror nodes) }
     ensures backup { (m : MachineMeaning S I O) → SendsFew (primary_backup m) }
     ensures raft { (nodes : ℕ) (m : MachineMeaning S I O) → nodes ≤ MAX_NODES → SendsFew (raft nodes m) }
     ensures numbered { (m : Meaning S I O M) → SendsFew m → SendsFew (sequence_numbered m) }
+    ensures ordered { (m : Meaning S I O M) → SendsFew m → SendsFew (fifo m) }
 {}
 
 /// Where events send few packets, few were sent in the end: at most MAX_NODES for each step, whether a network allows the steps or not.

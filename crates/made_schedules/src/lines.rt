@@ -1,7 +1,7 @@
 ghost use Rattle.std.specs.Prelude.{◌≡◌, ℕ, ◌≤◌, None};
 ghost use Rattle.handler_trait.specs.Handling.{Meaning, Recovery};
 ghost use Rattle.line_reader.specs.Lines.{lines_of};
-ghost use Rattle.schedule_make.specs.Inputs.{asked_by_client, kv_input, lock_input, table_input};
+ghost use Rattle.schedule_make.specs.Inputs.{asked_by_client, kv_input, lock_input, mirror_input, table_input};
 ghost use Rattle.schedule_make.specs.Made.{Inputs, made};
 ghost use Rattle.schedule_text.specs.Printing.{steps_text};
 ghost use Rattle.schedule_text.specs.Schedules.{script};
@@ -14,7 +14,7 @@ ghost use Rattle.made_schedules.specs.MadeLines.{HaveLines};
 ghost use Rattle.made_schedules.specs.Sends.{SendsFew};
 ghost use Rattle.made_schedules.specs.Texts.{HaveShortTexts};
 
-use app_text::{AppText, KvText, LockText, TableText};
+use app_text::{AppText, KvText, LockText, MirrorText, TableText};
 use raft_text::RaftText;
 use schedule_make::made_schedules_are_allowed;
 use schedule_text::steps_read_back;
@@ -35,9 +35,11 @@ pub fn made_steps_have_lines<A: AppText, S: Drop, K: Drop, O: Drop, M: Drop>()
     made_schedules_are_allowed::<S, K, A::Input, O, M>();
 }
 
-/// The inputs that made schedules have do have texts, and short ones: those of the lock, of both machines, and of clusters of them.
+/// The inputs that made schedules have do have texts, and short ones: those of the lock, the mirror and both machines, and of clusters of
+/// both machines.
 pub fn made_inputs_have_texts()
     ensures lock { HaveShortTexts ⟦<LockText as AppText>⟧.is_input ⟦<LockText as AppText>⟧.input_text lock_input }
+    ensures mirror { HaveShortTexts ⟦<MirrorText as AppText>⟧.is_input ⟦<MirrorText as AppText>⟧.input_text mirror_input }
     ensures kv { HaveShortTexts ⟦<KvText as AppText>⟧.is_input ⟦<KvText as AppText>⟧.input_text kv_input }
     ensures table { HaveShortTexts ⟦<TableText as AppText>⟧.is_input ⟦<TableText as AppText>⟧.input_text table_input }
     ensures kv_raft { HaveShortTexts ⟦<RaftText<KvText> as AppText>⟧.is_input ⟦<RaftText<KvText> as AppText>⟧.input_text

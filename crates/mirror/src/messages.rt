@@ -1,4 +1,5 @@
-use vst_base::{Node, Value};
+use crate::Sender;
+use vst_base::Value;
 
 /// What a client of the mirror asks for.
 #[derive(Debug, Drop, PartialEq, Eq)]
@@ -11,7 +12,7 @@ pub enum MirrorInput {
 #[derive(Debug, Drop, PartialEq, Eq)]
 pub enum MirrorOutput {
     /// A value came from this node.
-    From(Node, Value),
+    From(Sender, Value),
 }
 
 /// A message to node 0.

@@ -1,35 +1,50 @@
-ghost use Rattle.std.specs.Prelude.{◌≡◌, refl, ◌<◌};
+ghost use Rattle.std.specs.Prelude.{◌≡◌, ◌≤◌, refl, ◌<◌};
 ghost use Rattle.mirror.specs.Mirroring.{mirror};
 ghost use Rattle.mirror.specs.MirrorLaws.{modest_input, modest_message, modest_timeout};
+ghost use Rattle.vst_base.specs.declared.node.TheConstants.{MAX_NODES};
 
-use crate::{MirrorInput, MirrorMsg, MirrorOutput};
+use crate::{MirrorInput, MirrorMsg, MirrorOutput, Sender};
 use handler_trait::{Effects, Handlers};
 use std::alloc::{AllocError, Global};
 use std::marker::Model;
 use vst_base::Node;
 
-/// A cluster of a mirror, node 0, and of the nodes at which values are put. Contracts see how many nodes there are.
+/// A cluster of a mirror, node 0, and of the nodes at which values are put, `MAX_NODES` at most. Contracts see how many nodes
+/// there are.
 #[derive(Clone, Copy, Debug, PartialEq, Eq)]
 pub struct Mirror {
     nodes: u8,
 }
 
 impl Model for Mirror {
-    ghost use Rattle.std.specs.Prelude.{ℕ};
+    ghost use Rattle.std.specs.Prelude.{◌≤◌, ℕ};
+    ghost use Rattle.vst_base.specs.declared.node.TheConstants.{MAX_NODES};
 
     ghost Value = { ℕ };
 
     ghost view = { λ m. m.nodes };
 
+    ghost invariant = { λ m. m.nodes ≤ MAX_NODES };
+
     ghost inverse = { λ n. record { nodes = n } };
 }
 
 impl Mirror {
-    /// A cluster of so many nodes: the mirror, and the nodes at which values are put.
+    /// A cluster of so many nodes, at most `MAX_NODES`: the mirror, and the nodes at which values are put.
     pub fn new(nodes: u8) -> Self
+        requires { nodes ≤ MAX_NODES }
         ensures { result ≡ nodes }
     {
         Mirror { nodes }
+    }
+
+    // One of its nodes, as the one that a value came from.
+    fn sender(&self, from: Node) -> Sender
+        requires { from < self.now }
+        ensures { result ≡ from }
+    {
+        let _few = self.nodes;
+        Sender::new(from)
     }
 }
 
@@ -115,7 +130,10 @@ impl Handlers for Mirror {
             return Ok(());
         }
         match message {
-            MirrorMsg::Item(value) => effects.output(MirrorOutput::From(from, value.copy(alloc)?)),
+            MirrorMsg::Item(value) => {
+                let value = value.copy(alloc)?;
+                effects.output(MirrorOutput::From(self.sender(from), value))
+            }
         }
     }
 

@@ -4,7 +4,7 @@ ghost use Rattle.vst_base.specs.Nets.{stops_no_node};
 use crate::net_semantics_tests::after;
 use fifo_xform::Fifo;
 use handler_trait::{Echo, Handlers};
-use mirror::{Mirror, MirrorInput, MirrorOutput};
+use mirror::{Mirror, MirrorInput, MirrorOutput, Sender};
 use net_semantics::{MAX_STEPS, Net, Node, Step, StepFault, StepRefusal, Trace};
 use retry_xform::Retry;
 use std::alloc::{AllocError, Global};
@@ -38,11 +38,12 @@ fn put(alloc: Global, bytes: &[u8]) -> Result<MirrorInput, Fail> {
 fn both_in_order(alloc: Global) -> Result<[Item<MirrorInput, MirrorOutput>; 4], Fail> {
     let mirror = Node::new(0, 2).unwrap();
     let putter = Node::new(1, 2).unwrap();
+    let sender = Sender::new(putter);
     Ok([
         Item::Input(putter, put(alloc, b"a")?),
         Item::Input(putter, put(alloc, b"b")?),
-        Item::Output(mirror, MirrorOutput::From(putter, value(alloc, b"a")?)),
-        Item::Output(mirror, MirrorOutput::From(putter, value(alloc, b"b")?)),
+        Item::Output(mirror, MirrorOutput::From(sender, value(alloc, b"a")?)),
+        Item::Output(mirror, MirrorOutput::From(sender, value(alloc, b"b")?)),
     ])
 }
 

@@ -5,6 +5,8 @@ use Rattle.kv_machine.specs.declared.cmd.KvCmd.{KvCmd}
 use Rattle.kv_machine.specs.declared.cmd.KvCmd.TheVariants.{Get, Put, Del, Cas}
 use Rattle.lock_table.specs.declared.cmd.TableCmd.{TableCmd}
 use Rattle.lock_table.specs.declared.cmd.TableCmd.TheVariants.{Acquire, Release, Holder}
+use Rattle.mirror.specs.declared.messages.MirrorInput.{MirrorInput}
+use Rattle.mirror.specs.declared.messages.MirrorInput.TheVariants as mirror
 use Rattle.raft_types.specs.declared.client.RaftInput.{RaftInput}
 use Rattle.vst_base.specs.declared.lock.LockInput.{LockInput}
 use Rattle.vst_base.specs.declared.lock.LockInput.TheVariants.{Lock, Unlock}
@@ -41,6 +43,10 @@ table_input x i =
     if choice == 0 then Acquire (lock_name x) (lock_owner x)
     else if choice == 1 then Release (lock_name x) (lock_owner x)
     else Holder (lock_name x)
+
+-- such a value, v and the place, is put
+abbrev pub mirror_input : ℕ → ℕ → MirrorInput
+mirror_input x i = mirror.Put (kv_value i)
 
 -- one of four clients asks, and numbers the request by the place
 abbrev pub asked_by_client : {C : Type 0} → (ℕ → ℕ → C) → ℕ → ℕ → RaftInput C

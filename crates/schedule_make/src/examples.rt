@@ -2,6 +2,7 @@ ghost use Rattle.std.specs.Prelude.{◌≡◌, ◌+◌, ℕ, [], ◌∷◌, true
 ghost use Rattle.handler_trait.specs.Echo.{echo, echo_recovery};
 ghost use Rattle.kv_machine.specs.declared.cmd.KvCmd.{KvCmd};
 ghost use Rattle.lock_table.specs.declared.cmd.TableCmd.{TableCmd};
+ghost use Rattle.mirror.specs.declared.messages.MirrorInput.{MirrorInput};
 ghost use Rattle.net_semantics.specs.Echo.{echo_after};
 ghost use Rattle.net_semantics.specs.Worlds.{first_world};
 ghost use Rattle.vst_base.specs.declared.lock.LockInput.{LockInput};
@@ -11,7 +12,7 @@ ghost use Rattle.vst_base.specs.declared.step.StepKind.{StepKind};
 ghost use Rattle.schedule_make.specs.Candidates.{candidates, chosen, drawn_kind, in_turn, made_kind, may_act};
 ghost use Rattle.schedule_make.specs.Examples.{all_stopped, first_came, flights, half_stopped, two_lanes};
 ghost use Rattle.schedule_make.specs.Flying.{IsInTurn, KnowsFlights, KnowsTurns, flights_of, seen, seen_in_order, turns_of, ways_of};
-ghost use Rattle.schedule_make.specs.Inputs.{kv_input, lock_input, table_input};
+ghost use Rattle.schedule_make.specs.Inputs.{kv_input, lock_input, mirror_input, table_input};
 ghost use Rattle.schedule_make.specs.Made.{made, made_step};
 ghost use Rattle.schedule_make.specs.Offers.{offered, picked};
 
@@ -33,6 +34,9 @@ pub fn worked_inputs()
     ensures release { table_input 207 0 ≡ TableCmd.Release (codes "l7") (codes "o3") }
     ensures holder { table_input 17 0 ≡ TableCmd.Holder (codes "l1") }
     ensures acquire { table_input 216 0 ≡ TableCmd.Acquire (codes "l0") (codes "o3") }
+    ensures put_for_the_mirror { mirror_input 5 7 ≡ MirrorInput.Put (codes "v7") }
+    ensures of_any_word { mirror_input 4294967295 0 ≡ MirrorInput.Put (codes "v0") }
+    ensures of_a_later_place { mirror_input 0 12 ≡ MirrorInput.Put (codes "v12") }
 {}
 
 /// Which steps there are of each kind where a node has stopped, and which kind is made where there is none.

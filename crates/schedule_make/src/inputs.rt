@@ -1,11 +1,12 @@
 ghost use Rattle.std.specs.Prelude.{◌≡◌, ◌≤◌, ◌∷◌, IfOk, IsTrue};
 ghost use Rattle.std.specs.Char.{is_ascii_graphic};
 ghost use Rattle.std.specs.Fmt.{decimal};
-ghost use Rattle.schedule_make.specs.Inputs.{asked_by_client, kv_input, lock_input, table_input};
+ghost use Rattle.schedule_make.specs.Inputs.{asked_by_client, kv_input, lock_input, mirror_input, table_input};
 ghost use Rattle.schedule_make.specs.Made.{Inputs};
 
 use kv_machine::KvCmd;
 use lock_table::TableCmd;
+use mirror::MirrorInput;
 use raft_types::RaftInput;
 use std::alloc::{AllocError, Global};
 use std::marker::PhantomData;
@@ -86,6 +87,19 @@ impl MakesInputs for TableInputs {
             1 => TableCmd::Release(name, word(alloc, b'o', x / 64 % 4)?),
             _ => TableCmd::Holder(name),
         })
+    }
+}
+
+/// Those of the mirror: a value of the step's place.
+pub struct MirrorInputs;
+
+impl MakesInputs for MirrorInputs {
+    type Input = MirrorInput;
+
+    ghost inputs = { mirror_input };
+
+    fn make(alloc: Global, _x: u32, place: u32) -> Result<MirrorInput, AllocError> {
+        Ok(MirrorInput::Put(word(alloc, b'v', place)?))
     }
 }
 

@@ -12,7 +12,7 @@ mod turning;
 mod words;
 
 pub use examples::{worked, worked_candidates, worked_flights, worked_inputs, worked_order};
-pub use inputs::{ByClients, KvInputs, LockInputs, MakesInputs, TableInputs};
+pub use inputs::{ByClients, KvInputs, LockInputs, MakesInputs, MirrorInputs, TableInputs};
 pub use laws::made_schedules_are_allowed;
 pub use making::Making;
 pub use rows::{worked_backups, worked_clusters, worked_locks};

@@ -7,6 +7,7 @@ use Rattle.line_reader.specs.Lines.{cut_at, lines_of, whole_lines}
 use Rattle.line_reader.specs.Outcomes.{ReadsPast}
 use Rattle.line_reader.proofs.Cutting.{none-from}
 use Rattle.line_reader.proofs.Lining.{whole-append, whole-plain}
+use Rattle.schedule_text.specs.Headers.{header_of}
 use Rattle.schedule_text.specs.Schedules.{opening}
 use Rattle.schedule_replay.specs.Examples.{one_input}
 use Rattle.schedule_replay.specs.Outcomes.{KeptUp}
@@ -38,7 +39,7 @@ pub size : (n : ℕ) → length (hashes n) ≡ n
 size n = length-replicate {A = ℕ} n 35
 
 one-line : (replayed_opening false (opening most_lines 1 (lines_of one_input ++ []))).out ≡ codes "in 1 lock\n"
-unfolding digits
+unfolding digits header_of
 one-line = refl
 
 -- all but the last 4,096 bytes have the input

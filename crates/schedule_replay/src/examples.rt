@@ -1,6 +1,6 @@
 ghost use Rattle.std.specs.Prelude.{◌≡◌, ℕ, true, false, List, [], Option, Some, None, codes};
 ghost use Rattle.schedule_replay.specs.Explained.{IsReplay};
-ghost use Rattle.line_reader.specs.declared.why.Why.TheVariants.{Header, NoCopy, NodeDown, NodeUp, NoInputHere, NoSuchNode, Number, Text, UnknownWord, NotThisNet};
+ghost use Rattle.line_reader.specs.declared.why.Why.TheVariants.{Header, NoCopy, NodeDown, NodeUp, NoInputHere, NoSuchNode, NotFirst, NotThisNet, Number, Text, UnknownWord};
 ghost use Rattle.schedule_replay.specs.Examples.{WritesLocks, asked, cleared, inputs, read_ahead};
 ghost use Rattle.schedule_replay.specs.Playing.{Waits, is_failed_read};
 ghost use Rattle.schedule_replay.specs.Replays.{replayed, replayed_so_far};
@@ -11,6 +11,7 @@ ghost use Rattle.schedule_text.specs.ExampleTexts.{handover, handover_claim, idl
 use crate::replays_are_explained;
 
 /// Worked schedules of each stack: what is written, and which line is refused.
+#[tactic(auto, unfolding(schedule_text::specs::Headers::header_of))]
 pub fn worked()
     ensures handed_over { (replayed (codes "schedule 1 bag lock 2\nin 1 lock\ndeliver 0\ndeliver 1")).out
         ≡ handover_claim }
@@ -56,6 +57,13 @@ pub fn worked()
     ensures equal_numbers { (replayed (codes "schedule 1 dup lock/seq 3\nin 1 lock\nin 2 lock\ndeliver 0\ndeliver 1\ndeliver 2\nin 1 unlock\ndeliver 3\ndeliver 4\n")).out
         ≡ codes "in 1 lock\nin 2 lock\nout 1 locked\nin 1 unlock\nout 2 locked\nbelow\nschedule 1 bag lock 3\nin 1 lock\nin 2 lock\ndeliver 0\ndeliver 1\ndeliver 2\nin 1 unlock\ndeliver 3\ndeliver 4\n" }
     ensures nothing_is_lost { (replayed (codes "schedule 1 dup lock/seq 2\nin 1 lock\nlose 0\n")).refused ≡ Some (3, NotThisNet) }
+
+    // Of two values that are put at a node, the second waits for the first: a network of FIFO channels delivers it only then, and over
+    // numbers it is held until a tick.
+    ensures not_before_the_first { (replayed (codes "schedule 1 ord mirror 2\nin 1 put a\nin 1 put b\ndeliver 1\n")).refused
+        ≡ Some (4, NotFirst) }
+    ensures held_until_a_tick { (replayed (codes "schedule 1 dup mirror/fifo 2\nin 1 put a\nin 1 put b\ndeliver 1\ndeliver 0\ntick 0\n")).out
+        ≡ codes "in 1 put a\nin 1 put b\nout 0 from 1 a\nout 0 from 1 b\nbelow\nschedule 1 ord mirror 2\nin 1 put a\nin 1 put b\ndeliver 0\ndeliver 1\n" }
 
     // A command waits for the backup to apply it; an acknowledgement that is copied does nothing, and the backup redirects.
     ensures acknowledged { (replayed (codes "schedule 1 bag kv/pb 2\nin 0 put a x\nin 0 get a\ndeliver 0\ndeliver 1\n")).out
@@ -103,6 +111,7 @@ pub fn worked()
 {}
 
 /// What a replay is: the text of a trace and an image that explains it, and no other text; none of a text that is refused.
+#[tactic(auto, unfolding(schedule_text::specs::Headers::header_of))]
 pub fn worked_replays()
     ensures handed_over { IsReplay handover handover_claim }
     ensures not_silent { ¬ IsReplay handover (codes "below\nschedule 1 bag lock 2\nin 1 lock\ndeliver 0\ndeliver 1\n") }

@@ -8,6 +8,7 @@ use schedule_text::Why;
 
 /// What a replay of two steps comes to: it takes both, one of them is refused, or a read fails. Nothing is left of a whole text, what is
 /// written is just the trace, and the line and the counts are no others.
+#[tactic(auto, unfolding(schedule_text::specs::Headers::header_of))]
 pub fn worked_outcomes()
     ensures done { comes_to taken [] (codes "held\nin 1 lock\n") (Ok two_steps) }
     ensures not_to_the_end { comes_to taken (codes "1\n") (codes "held\nin 1 lock\n") (Ok two_steps) → ⊥ }
@@ -41,6 +42,7 @@ pub fn worked_causes()
 {}
 
 /// How far a replay keeps up with what it was given: of the last 4,096 bytes nothing need be written, and of all before them the trace.
+#[tactic(auto, unfolding(schedule_text::specs::Headers::header_of))]
 pub fn worked_keeping()
     ensures a_buffer { keeps_up one_input [] [] }
     ensures ahead_of_a_buffer { keeps_up one_input [] (codes "in 1 lock\n") }

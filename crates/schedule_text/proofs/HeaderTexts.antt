@@ -86,6 +86,7 @@ among-text (r ∷ rs) h apart among =
 
 -- the table is one that reads back, as computing shows
 pub header_of-text : (h : Header) → IsHeader h → header_of (header_text h) ≡ Some h
+unfolding header_of
 header_of-text h is = among-text rows h refl is
 
 -- what stands after a front stands after it in the line
@@ -112,4 +113,5 @@ text-header_among (r ∷ rs) line h e =
     elim (either-header (header_by r line) (header_among rs line) h (text-header_by r line h) (text-header_among rs line h) e) [ inl same ↦ same | inr same ↦ same ]
 
 pub text-header_of : (line : List ℕ) (h : Header) → header_of line ≡ Some h → line ≡ header_text h
+unfolding header_of
 text-header_of line h e = text-header_among rows line h e

@@ -51,4 +51,5 @@ header_among-row (r ∷ rs) line h e =
 
 -- a line is a header only by one of the pairings that there are
 pub header_of-row : (line : List ℕ) (h : Header) → header_of line ≡ Some h → IsHeader h
+unfolding header_of
 header_of-row line h e = header_among-row rows line h e

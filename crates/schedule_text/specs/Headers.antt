@@ -68,5 +68,5 @@ header_among [] line = None
 header_among (r ∷ rs) line = or_else (header_by r line) (header_among rs line)
 
 -- the header that a line is, if it is one: that of the first pairing that it fits
-abbrev pub header_of : List ℕ → Option Header
+unfoldable pub header_of : List ℕ → Option Header
 header_of line = header_among rows line

@@ -33,6 +33,7 @@ pub fn worked_words()
 {}
 
 /// Headers, and how texts open, on examples.
+#[tactic(auto, unfolding(crate::specs::Headers::header_of))]
 pub fn worked_headers()
     ensures least_nodes { header_of (codes "schedule 1 bag lock 2") ≡ Some (record { net = Net.Bag; stack = StackId.Lock; nodes = 2 }) }
     ensures most_nodes { header_of (codes "schedule 1 bag lock 9") ≡ Some (record { net = Net.Bag; stack = StackId.Lock; nodes = 9 }) }
@@ -63,10 +64,25 @@ pub fn worked_headers()
     ensures table_cluster { header_of (codes "schedule 1 fail table/raft 9") ≡ Some (record { net = Net.Fail; stack = StackId.TableRaft; nodes = 9 }) }
     ensures table_elsewhere { (header_of (codes "schedule 1 bag table/pb/seq 2") ≡ None) × (header_of (codes "schedule 1 bag table/pb 2") ≡ None) }
     ensures other_stacks_failing { (header_of (codes "schedule 1 fail kv/pb 2") ≡ None) × (header_of (codes "schedule 1 fail kv 1") ≡ None) }
-    ensures networks_without_a_stack { (header_of (codes "schedule 1 ord lock 2") ≡ None) × (header_of (codes "schedule 1 loss lock/seq 2") ≡ None) × (header_of (codes "schedule 1 acts kv/raft 1") ≡ None) }
+    ensures least_mirror { header_of (codes "schedule 1 ord mirror 2") ≡ Some (record { net = Net.Ord; stack = StackId.Mirror; nodes = 2 }) }
+    ensures most_mirror { header_of (codes "schedule 1 ord mirror 9") ≡ Some (record { net = Net.Ord; stack = StackId.Mirror; nodes = 9 }) }
+    ensures beyond_mirror { (header_of (codes "schedule 1 ord mirror 1") ≡ None) × (header_of (codes "schedule 1 ord mirror 10") ≡ None) }
+    ensures least_fifo { header_of (codes "schedule 1 dup mirror/fifo 2")
+        ≡ Some (record { net = Net.Dup; stack = StackId.MirrorFifo; nodes = 2 }) }
+    ensures most_fifo { header_of (codes "schedule 1 dup mirror/fifo 9")
+        ≡ Some (record { net = Net.Dup; stack = StackId.MirrorFifo; nodes = 9 }) }
+    ensures beyond_fifo { (header_of (codes "schedule 1 dup mirror/fifo 1") ≡ None)
+        × (header_of (codes "schedule 1 dup mirror/fifo 10") ≡ None) }
+    ensures mirror_elsewhere { (header_of (codes "schedule 1 bag mirror 2") ≡ None) × (header_of (codes "schedule 1 dup mirror 2") ≡ None)
+        × (header_of (codes "schedule 1 ord mirror/fifo 2") ≡ None) }
+    ensures other_stacks_in_order { header_of (codes "schedule 1 ord lock 2") ≡ None }
+    ensures networks_without_a_stack { (header_of (codes "schedule 1 loss lock/seq 2") ≡ None) × (header_of (codes "schedule 1 acts kv/raft 1") ≡ None) }
     ensures text { header_text (record { net = Net.Bag; stack = StackId.Lock; nodes = 2 }) ≡ codes "schedule 1 bag lock 2" }
     ensures numbered_text { header_text (record { net = Net.Dup; stack = StackId.LockSeq; nodes = 9 }) ≡ codes "schedule 1 dup lock/seq 9" }
     ensures cluster_text { header_text (record { net = Net.Fail; stack = StackId.KvRaft; nodes = 9 }) ≡ codes "schedule 1 fail kv/raft 9" }
+    ensures mirror_text { header_text (record { net = Net.Ord; stack = StackId.Mirror; nodes = 4 }) ≡ codes "schedule 1 ord mirror 4" }
+    ensures fifo_text { header_text (record { net = Net.Dup; stack = StackId.MirrorFifo; nodes = 4 })
+        ≡ codes "schedule 1 dup mirror/fifo 4" }
     ensures opens_empty { opening 2000000 1 [] ≡ EndedAt 1 }
     ensures opens_without_header { opening 2000000 1 (codes "# none" ∷ []) ≡ EndedAt 2 }
     ensures opens_after_comment { opening 2000000 1 (codes "# a lock" ∷ codes "schedule 1 bag lock 2" ∷ codes "tick 0" ∷ []) ≡ Opened (record { net = Net.Bag; stack = StackId.Lock; nodes = 2 }) 3 (codes "tick 0" ∷ []) }

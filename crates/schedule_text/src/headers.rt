@@ -109,6 +109,7 @@ fn header_among(rows: &[StackRow], line: &[u8]) -> Option<Header>
 
 /// The header that a line is: `schedule 1 <net> <stack> <nodes>`, with a pairing and a number of nodes that
 /// there is. `None` comes exactly where it is no header.
+#[tactic(auto, unfolding(crate::specs::Headers::header_of))]
 pub fn header_of(line: &[u8]) -> Option<Header>
     ensures { result ≡ header_of line.now }
 {

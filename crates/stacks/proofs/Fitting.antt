@@ -1,7 +1,8 @@
 -- Each stack of the table fits its row: the last line stands for each stack but the first, and is checked for each.
 use Rattle.std.specs.Prelude.{◌≡◌}
 use Rattle.std.proofs.Common.{rules}
-use Rattle.transformers.proofs.Carried.{numbering_is}
+use Rattle.transformers.proofs.Carried.{numbering_is, ordering_is}
+use Rattle.transformers.specs.Ordering.{ordering}
 use Rattle.transformers.specs.Numbering.{numbering}
 use Rattle.vst_base.specs.Stacks.{row_of}
 use Rattle.vst_base.specs.declared.stack.StackId.{StackId}
@@ -15,6 +16,10 @@ use Rattle.stacks.specs.Table.{kind_at}
 numbered : (s : Service) → s.net ≡ numbering.lower → IsCarriedBy numbering s
 numbered s stands = record { stands = stands; carries = numbering_is s.State s.Input s.Output s.Msg }
 
+-- numbering by destination stands on one that keeps the order of packets, and carries all
+ordered : (s : Service) → s.net ≡ ordering.lower → IsCarriedBy ordering s
+ordered s stands = record { stands = stands; carries = ordering_is s.State s.Input s.Output s.Msg }
+
 pub fits : (i : StackId) → IfFound (kind_at (row_of i).net i) (IsFit (row_of i))
-fits stack.Lock = search (rules, numbered)
-fits _ = search (rules, numbered)
+fits stack.Lock = search (rules, numbered, ordered)
+fits _ = search (rules, numbered, ordered)

@@ -1,13 +1,17 @@
--- Layers over the lock server, and a schedule in which a packet comes twice.
+-- Layers over the lock server, and a schedule in which a packet comes twice; and over the mirror, and one in which packets come in another
+-- order.
 use Rattle.std.specs.Prelude.{List, [], ◌∷◌}
+use Rattle.mirror.specs.declared.messages.MirrorInput.{MirrorInput}
+use Rattle.mirror.specs.declared.messages.MirrorInput.TheVariants.{Put}
 use Rattle.transformers.specs.Numbering.{numbering}
+use Rattle.transformers.specs.Ordering.{ordering}
 use Rattle.vst_base.specs.declared.lock.LockInput.{LockInput}
 use Rattle.vst_base.specs.declared.lock.LockInput.TheVariants.{Lock}
 use Rattle.vst_base.specs.declared.stack.StackId.TheVariants as id
 use Rattle.vst_base.specs.declared.step.Step.{Step}
 use Rattle.vst_base.specs.declared.step.Step.TheVariants as step
 use Rattle.stacks.specs.Kinds.{Itself, Own, Through, service}
-use Rattle.stacks.specs.Table.{locks}
+use Rattle.stacks.specs.Table.{locks, mirrors}
 
 -- a client asks for the lock, and its packet comes twice
 abbrev pub repeated : List (Step LockInput)
@@ -26,3 +30,14 @@ as_itself ss = (service (Itself id.LockSeq (Through numbering (Own locks)))).ima
 
 abbrev pub over_itself : List (Step LockInput) → List (Step LockInput)
 over_itself ss = (service (Through numbering (Itself id.LockSeq (Through numbering (Own locks))))).image 4 ss []
+
+-- two values are put at a node, and the packet of the second comes first: a tick gives it
+abbrev pub swapped : List (Step MirrorInput)
+swapped = step.In 1 (Put (97 ∷ [])) ∷ step.In 1 (Put (98 ∷ [])) ∷ step.Deliver 1 ∷ step.Deliver 0 ∷ step.Tick 0 ∷ []
+
+abbrev pub in_turn : List (Step MirrorInput)
+in_turn = step.In 1 (Put (97 ∷ [])) ∷ step.In 1 (Put (98 ∷ [])) ∷ step.Deliver 0 ∷ step.Deliver 1 ∷ []
+
+-- an image, of the mirror over FIFO channels
+abbrev pub in_order : List (Step MirrorInput) → List (Step MirrorInput)
+in_order ss = (service (Through ordering (Own mirrors))).image 2 ss []

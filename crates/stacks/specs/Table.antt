@@ -8,6 +8,7 @@ use Rattle.vst_base.specs.declared.stack.StackId.{StackId}
 use Rattle.vst_base.specs.declared.stack.StackId.TheVariants as stack
 use Rattle.app_text.specs.KvTexts as kv_text
 use Rattle.app_text.specs.LockTexts as lock_text
+use Rattle.app_text.specs.MirrorTexts as mirror_text
 use Rattle.app_text.specs.TableTexts as table_text
 use Rattle.kv_machine.specs.Kv.{kv}
 use Rattle.kv_machine.specs.declared.cmd.KvCmd.{KvCmd}
@@ -16,8 +17,12 @@ use Rattle.lock_server.specs.Locks.{lock_server}
 use Rattle.lock_table.specs.Table.{table}
 use Rattle.lock_table.specs.declared.cmd.TableCmd.{TableCmd}
 use Rattle.lock_table.specs.declared.out.TableOut.{TableOut}
-use Rattle.schedule_make.specs.Inputs.{kv_input, lock_input, table_input}
+use Rattle.mirror.specs.Mirroring.{mirror}
+use Rattle.mirror.specs.declared.messages.MirrorInput.{MirrorInput}
+use Rattle.mirror.specs.declared.messages.MirrorOutput.{MirrorOutput}
+use Rattle.schedule_make.specs.Inputs.{kv_input, lock_input, mirror_input, table_input}
 use Rattle.schedule_text.specs.declared.header.Header.{Header}
+use Rattle.transformers.specs.Ordering.{ordering}
 use Rattle.transformers.specs.Numbering.{numbering}
 use Rattle.stacks.specs.Plays.{Found, Here, Nowhere, found_map, AnyPlay, Texts, texts_of}
 use Rattle.stacks.specs.Kinds.{Alone, Application, Backed, Clustered, Kind, Own, OwnHandlers, Steady, Through, application, own_handlers, plays}
@@ -31,7 +36,10 @@ kv_texts = texts_of kv_text.input_of kv_text.input_text kv_text.output_of kv_tex
 abbrev pub table_texts : Texts TableCmd TableOut
 table_texts = texts_of table_text.input_of table_text.input_text table_text.output_of table_text.output_text (λ _. true)
 
--- the lock server, the key-value machine and the table of named locks
+abbrev pub mirror_texts : Texts MirrorInput MirrorOutput
+mirror_texts = texts_of mirror_text.input_of mirror_text.input_text mirror_text.output_of mirror_text.output_text (λ _. true)
+
+-- the lock server, the key-value machine, the table of named locks and the mirror
 abbrev pub locks : OwnHandlers
 locks = own_handlers stack.Lock lock_server lock_texts lock_input
 
@@ -40,6 +48,9 @@ store = application stack.Kv kv kv_texts kv_input
 
 abbrev pub lock_table : Application
 lock_table = application stack.Table table table_texts table_input
+
+abbrev pub mirrors : OwnHandlers
+mirrors = own_handlers stack.Mirror mirror mirror_texts mirror_input
 
 -- the kind of stack that a network and a name are, if there is one: one line a stack
 abbrev pub kind_at : Net → StackId → Found Kind
@@ -52,6 +63,8 @@ kind_at net.Fail stack.KvRaft = Here (Clustered store)
 kind_at net.One stack.Table = Here (Steady (Alone lock_table))
 kind_at net.Dup stack.TablePbSeq = Here (Steady (Through numbering (Backed lock_table)))
 kind_at net.Fail stack.TableRaft = Here (Clustered lock_table)
+kind_at net.Ord stack.Mirror = Here (Steady (Own mirrors))
+kind_at net.Dup stack.MirrorFifo = Here (Steady (Through ordering (Own mirrors)))
 kind_at n i = Nowhere
 
 -- how the schedules with a header play

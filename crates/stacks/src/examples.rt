@@ -1,8 +1,9 @@
 ghost use Rattle.std.specs.Prelude.{◌≡◌};
-ghost use Rattle.stacks.specs.Examples.{as_itself, delivered, over_itself, repeated, through};
+ghost use Rattle.stacks.specs.Examples.{as_itself, delivered, in_order, in_turn, over_itself, repeated, swapped, through};
 
 /// Images of layers over the lock server: through numbered packets the schedule without its repeats; where layers are a stack whose image
-/// is its own schedule, that schedule; and through numbered packets over such a stack, the schedule within.
+/// is its own schedule, that schedule; and through numbered packets over such a stack, the schedule within. And of the mirror over FIFO
+/// channels the schedule in which packets come in order.
 pub fn worked_layers()
     ensures through { through repeated ≡ delivered }
     ensures not_with_repeats { through repeated ≡ repeated → ⊥ }
@@ -10,4 +11,5 @@ pub fn worked_layers()
     ensures not_without_repeats { as_itself repeated ≡ delivered → ⊥ }
     ensures over_itself { over_itself repeated ≡ delivered }
     ensures not_as_it_runs { over_itself repeated ≡ repeated → ⊥ }
+    ensures in_order { in_order swapped ≡ in_turn }
 {}

@@ -1,4 +1,4 @@
-ghost use Rattle.std.specs.Prelude.{◌≡◌, ◌≢◌, ◌≤◌, ◌+◌, ℕ, IfOk, IsTrue, length, option_map};
+ghost use Rattle.std.specs.Prelude.{◌≡◌, ◌≢◌, ◌≤◌, ◌+◌, ℕ, [], IfOk, IsTrue, length, option_map, refl};
 ghost use Rattle.check_text.specs.Claims.{Claim as SpecClaim};
 ghost use Rattle.check_text.specs.ImageLines.{IsHeaded};
 ghost use Rattle.stacks.specs.Claimed.{Claimed};
@@ -9,21 +9,29 @@ ghost use Rattle.vst_base.specs.declared.net.Net.TheVariants as network;
 ghost use Rattle.vst_base.specs.declared.node.TheConstants.{MAX_NODES};
 ghost use Rattle.vst_base.specs.declared.step.TheConstants.{MAX_STEPS};
 ghost use Rattle.check_text.specs.declared.reading.TheConstants.{MAX_LINES};
+ghost use Rattle.wire_codec.specs.Headings.{HasByte};
+ghost use Rattle.wired.specs.WiredRuns.{IsFormatOf};
+ghost use Rattle.xform_stack.specs.Running.{HasTaken};
+ghost use Rattle.xform_stack.specs.Systems.{system_of};
 
 use app_text::AppText;
 use check_text::{Claim, ImageText};
 use claim_verdicts::Verdict;
+use fifo_observer::InOrder;
+use fifo_xform::Fifo;
+use handler_trait::Handlers;
+use runs_in_bytes::InBytes;
 use schedule_make::MakesInputs;
 use schedule_text::{Header, Printed};
 use seqnum_xform::SeqNum;
 use std::alloc::{AllocError, Global};
 use std::marker::PhantomData;
-use vst_base::Net;
+use vst_base::{Net, StackId};
 use wired::OnWire;
-use xform_stack::{TraceMap, WithoutRepeats};
+use xform_stack::{Mapped, Network, Observer, TraceMap, WithoutRepeats};
 
-/// An application whose nodes never stop, and the transformers over it: its handlers and their network, and how a run is mapped to
-/// its image.
+/// An application whose nodes never stop, and the transformers over it: its handlers and their network, and what makes the image of
+/// a run.
 pub trait Layered {
     type Input: Drop;
 
@@ -41,8 +49,11 @@ pub trait Layered {
     /// How the lines of an image are read.
     type Lines: ImageText<Line = Self::Line>;
 
-    /// How a run is mapped to its image.
-    type Map: TraceMap<Self::Input, Self::Output, Line = Self::Line>;
+    /// What its schedules run on.
+    type Network: Network<Self::Handlers, Kept = <Self::Handlers as Handlers>::State>;
+
+    /// What watches a run, and makes its image.
+    type Observer: Observer<Self::Handlers, Self::Network, Line = Self::Line>;
 
     /// The inputs of made schedules.
     type Inputs: MakesInputs<Input = Self::Input>;
@@ -77,6 +88,19 @@ pub trait Layered {
         ensures handlers { result ≡ handlers nodes }
         ensures few_nodes { (Self.Handlers.meaning result).nodes ≤ MAX_NODES };
 
+    /// These handlers on their network, in the packets of a stack, before the first step.
+    fn network(alloc: Global, stack: StackId, nodes: u8) -> Result<Self::Network, AllocError>
+        requires nodes { ready nodes }
+        requires packets { HasByte stack }
+        requires format { IsFormatOf stack Self.Handlers.Msg.format }
+        requires short { Self.Handlers.longest ≤ 59978 }
+        ensures system { IfOk result (λ w. Self.Network.system w ≡ system_of net (Self.Handlers.meaning (handlers nodes))) }
+        ensures within { IfOk result (λ w. Self.Network.within w ≡ handlers nodes) }
+        ensures started { IfOk result (λ w. HasTaken (Self.Network.system w) Self.Network.follows Self.Network.progress [] w) }
+        ensures trace { IfOk result (λ w. (Self.Network.progress w).trace ≡ []) }
+        ensures sound { IfOk result Self.Network.sound }
+        ensures few_nodes { IfOk result (λ w. (Self.Network.system w).meaning.nodes ≤ MAX_NODES) };
+
     /// The header of the image, where it has one.
     fn below(nodes: u8) -> Option<Header>
         ensures { below nodes ≡ image_of result Self.Line.text };
@@ -94,6 +118,15 @@ pub trait Layered {
 
     /// Lines of an image are read so.
     ghost says: { claimed.says ≡ Self.Lines.says };
+
+    /// The observer can observe the handlers on their network.
+    ghost fits: { (n : ℕ) → ready n → Self.Observer.fits (handlers n) (system_of net (Self.Handlers.meaning (handlers n))) };
+}
+
+/// Layers whose image is made of the steps and of what clients saw alone.
+pub trait Stepwise: Layered {
+    /// How a run is mapped to its image.
+    type Map: TraceMap<Self::Input, Self::Output, Line = Self::Line>;
 }
 
 /// Layers with numbered packets, on a network that copies packets: the image is that of the schedule without repeats.
@@ -101,7 +134,7 @@ pub struct Numbered<S> {
     layers: PhantomData<S>,
 }
 
-impl<S: Layered> Layered for Numbered<S> {
+impl<S: Stepwise> Layered for Numbered<S> {
     type Input = S::Input;
 
     type Output = S::Output;
@@ -114,7 +147,9 @@ impl<S: Layered> Layered for Numbered<S> {
 
     type Lines = S::Lines;
 
-    type Map = WithoutRepeats<S::Map>;
+    type Network = InBytes<SeqNum<S::Handlers>>;
+
+    type Observer = Mapped<WithoutRepeats<S::Map>>;
 
     type Inputs = S::Inputs;
 
@@ -138,6 +173,10 @@ impl<S: Layered> Layered for Numbered<S> {
         SeqNum::new(S::handlers(nodes))
     }
 
+    fn network(alloc: Global, stack: StackId, nodes: u8) -> Result<Self::Network, AllocError> {
+        InBytes::new(alloc, Self::handlers(nodes), stack, Self::net())
+    }
+
     fn below(nodes: u8) -> Option<Header> {
         S::below(nodes)
     }
@@ -151,4 +190,76 @@ impl<S: Layered> Layered for Numbered<S> {
     }
 
     ghost says = { S.says };
+
+    ghost fits = { λ _ _. tt };
+}
+
+impl<S: Stepwise> Stepwise for Numbered<S> {
+    type Map = WithoutRepeats<S::Map>;
+}
+
+/// Layers over FIFO channels, on a network that copies and reorders packets: the image is that of the schedule within, on a network
+/// that keeps the order of packets.
+pub struct Ordered<S> {
+    layers: PhantomData<S>,
+}
+
+impl<S: Stepwise> Layered for Ordered<S> {
+    type Input = S::Input;
+
+    type Output = S::Output;
+
+    type Handlers = Fifo<S::Handlers>;
+
+    type Line = S::Line;
+
+    type Text = S::Text;
+
+    type Lines = S::Lines;
+
+    type Network = InBytes<Fifo<S::Handlers>>;
+
+    type Observer = InOrder<S::Map>;
+
+    type Inputs = S::Inputs;
+
+    ghost net = { network.Dup };
+
+    ghost handlers = { S.handlers };
+
+    ghost below = { S.below };
+
+    ghost Explains = { S.Explains };
+
+    ghost claimed = { S.claimed };
+
+    ghost ready = { S.ready };
+
+    fn net() -> Net {
+        Net::Dup
+    }
+
+    fn handlers(nodes: u8) -> Fifo<S::Handlers> {
+        Fifo::new(S::handlers(nodes))
+    }
+
+    fn network(alloc: Global, stack: StackId, nodes: u8) -> Result<Self::Network, AllocError> {
+        InBytes::new(alloc, Self::handlers(nodes), stack, Self::net())
+    }
+
+    fn below(nodes: u8) -> Option<Header> {
+        S::below(nodes)
+    }
+
+    fn verdict(
+        alloc: Global,
+        nodes: u8,
+        claim: &Claim<S::Input, S::Output, S::Line>,
+    ) -> Result<Verdict, AllocError> {
+        S::verdict(alloc, nodes, claim)
+    }
+
+    ghost says = { S.says };
+
+    ghost fits = { λ _ _. refl };
 }

@@ -16,7 +16,7 @@ pub use clustered::Clustered;
 pub use code::{Judged, OnStack, Plays, StackCode};
 pub use examples::worked_layers;
 pub use laws::{headers_have_stacks, machine_takes_images, stacks_explain, stacks_fit_their_rows};
-pub use layered::{Layered, Numbered};
+pub use layered::{Layered, Numbered, Ordered, Stepwise};
 pub use machine::{Alone, Application, Backed};
 pub use own::{Own, OwnStack};
 pub use steady::Steady;

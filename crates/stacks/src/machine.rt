@@ -8,11 +8,12 @@ ghost use Rattle.vst_base.specs.declared.net.Net.TheVariants as net;
 ghost use Rattle.vst_base.specs.declared.stack.StackId.{StackId as SpecId};
 
 use crate::own::header_on;
-use crate::{Judged, Layered, Plays, StackCode};
+use crate::{Judged, Layered, Plays, StackCode, Stepwise};
 use app_text::{MachineText, PbText};
 use check_text::{Claim, Steps};
 use claim_verdicts::{Verdict, backup_verdict, schedule_verdict};
 use primary_backup::PrimaryBackup;
+use runs_in_bytes::InBytes;
 use schedule_make::MakesInputs;
 use schedule_text::Header;
 use std::alloc::{AllocError, Global};
@@ -139,7 +140,9 @@ where
 
     type Lines = Steps<PbText<M::Text>>;
 
-    type Map = RepliedTo<M::Cmd>;
+    type Network = InBytes<PrimaryBackup<M>>;
+
+    type Observer = Mapped<RepliedTo<M::Cmd>>;
 
     type Inputs = M::Inputs;
 
@@ -165,6 +168,10 @@ where
         PrimaryBackup::new(M::machine())
     }
 
+    fn network(alloc: Global, stack: StackId, nodes: u8) -> Result<Self::Network, AllocError> {
+        InBytes::new(alloc, Self::handlers(nodes), stack, Self::net())
+    }
+
     fn below(_nodes: u8) -> Option<Header> {
         Some(alone_header::<M>())
     }
@@ -178,4 +185,13 @@ where
     }
 
     ghost says = { refl };
+
+    ghost fits = { λ _ _. tt };
+}
+
+impl<M: Application> Stepwise for Backed<M>
+where
+    M::Cmd: AlwaysFits,
+{
+    type Map = RepliedTo<M::Cmd>;
 }

@@ -11,18 +11,19 @@ ghost use Rattle.vst_base.specs.declared.node.TheConstants.{MAX_NODES};
 ghost use Rattle.vst_base.specs.declared.step.TheConstants.{MAX_STEPS};
 ghost use Rattle.check_text.specs.declared.reading.TheConstants.{MAX_LINES};
 
-use crate::Layered;
+use crate::{Layered, Stepwise};
 use app_text::AppText;
 use check_text::{Claim, Steps};
 use claim_verdicts::{Verdict, schedule_verdict};
 use handler_trait::Handlers;
+use runs_in_bytes::InBytes;
 use schedule_make::MakesInputs;
 use schedule_text::{Header, headers_follow_the_rows};
 use std::alloc::{AllocError, Global};
 use std::marker::PhantomData;
 use vst_base::{Net, StackId, Step};
 use wired::OnWire;
-use xform_stack::Itself;
+use xform_stack::{Itself, Mapped};
 
 /// Handlers that are a stack by themselves, without a transformer, on a network that carries packets and stops no node.
 pub trait OwnStack: Handlers {
@@ -107,7 +108,9 @@ impl<H: OwnStack + OnWire> Layered for Own<H> {
 
     type Lines = Steps<H::Text>;
 
-    type Map = Itself<H::Input>;
+    type Network = InBytes<H>;
+
+    type Observer = Mapped<Itself<H::Input>>;
 
     type Inputs = H::Inputs;
 
@@ -133,6 +136,10 @@ impl<H: OwnStack + OnWire> Layered for Own<H> {
         H::of_nodes(nodes)
     }
 
+    fn network(alloc: Global, stack: StackId, nodes: u8) -> Result<Self::Network, AllocError> {
+        InBytes::new(alloc, Self::handlers(nodes), stack, Self::net())
+    }
+
     fn below(nodes: u8) -> Option<Header> {
         Some(header_on(H::own(), nodes))
     }
@@ -146,4 +153,10 @@ impl<H: OwnStack + OnWire> Layered for Own<H> {
     }
 
     ghost says = { refl };
+
+    ghost fits = { λ _ _. tt };
+}
+
+impl<H: OwnStack + OnWire> Stepwise for Own<H> {
+    type Map = Itself<H::Input>;
 }

@@ -4,12 +4,15 @@ ghost use Rattle.stacks.specs.Plays.{IfFound};
 ghost use Rattle.stacks.specs.Stack.{stack_at};
 ghost use Rattle.vst_base.specs.declared.stack.StackId.TheVariants as id;
 
-use crate::{Alone, Application, Backed, Clustered, Numbered, OnStack, Own, OwnStack, Steady};
-use app_text::{KvText, LockText, TableText};
+use crate::{
+    Alone, Application, Backed, Clustered, Numbered, OnStack, Ordered, Own, OwnStack, Steady,
+};
+use app_text::{KvText, LockText, MirrorText, TableText};
 use kv_machine::KvMachine;
 use lock_server::LockServer;
 use lock_table::TableMachine;
-use schedule_make::{KvInputs, LockInputs, TableInputs};
+use mirror::Mirror;
+use schedule_make::{KvInputs, LockInputs, MirrorInputs, TableInputs};
 use schedule_text::{Header, headers_follow_the_rows};
 use vst_base::StackId;
 
@@ -28,6 +31,24 @@ impl OwnStack for LockServer {
 
     fn of_nodes(nodes: u8) -> LockServer {
         LockServer::new(nodes)
+    }
+}
+
+impl OwnStack for Mirror {
+    type Text = MirrorText;
+
+    type Inputs = MirrorInputs;
+
+    ghost own = { id.Mirror };
+
+    ghost of_nodes = { λ n. n };
+
+    fn own() -> StackId {
+        StackId::Mirror
+    }
+
+    fn of_nodes(nodes: u8) -> Mirror {
+        Mirror::new(nodes)
     }
 }
 
@@ -90,5 +111,7 @@ pub fn on_stack<A, B, V: OnStack<A, B>>(
         StackId::TableRaft => command.on::<Clustered<TableMachine>>(i, n, a, b),
         StackId::Kv => command.on::<Alone<KvMachine>>(i, n, a, b),
         StackId::Table => command.on::<Alone<TableMachine>>(i, n, a, b),
+        StackId::Mirror => command.on::<Steady<Own<Mirror>>>(i, n, a, b),
+        StackId::MirrorFifo => command.on::<Steady<Ordered<Own<Mirror>>>>(i, n, a, b),
     }
 }

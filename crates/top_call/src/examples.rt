@@ -20,6 +20,7 @@ use schedule_replay::replays_are_explained;
 use vst_base::StackId;
 
 /// What words ask for, and what is said by that.
+#[tactic(auto, unfolding(schedule_text::specs::Headers::header_of))]
 pub fn worked_requests()
     ensures replay { (ws : List (String (Unit {0}))) → map string_bytes ws ≡ codes "vst" ∷ codes "replay" ∷ [] → asked ws ≡ Some (Texts command.Replay) }
     ensures nothing { (ws : List (String (Unit {0}))) → map string_bytes ws ≡ codes "vst" ∷ codes "frob" ∷ [] → asked ws ≡ None }
@@ -34,6 +35,7 @@ pub fn worked_requests()
 
 /// What a run of a command over texts answers: never a status that is a node's alone, nor that of words. Words that ask for nothing are
 /// never done.
+#[tactic(auto, unfolding(schedule_text::specs::Headers::header_of))]
 pub fn worked_texts()
     ensures status { (c : Command) (ws : List (List ℕ)) (r : NodeRun) (n : ℕ) → AnswersAsked (Some (Texts c)) ws r n → IsTextStatus n }
     ensures no_words { IsTextStatus 2 → ⊥ }
@@ -70,6 +72,7 @@ pub fn worked_nodes()
 {}
 
 /// The headline of two inputs, and texts that are none of theirs.
+#[tactic(auto, unfolding(schedule_text::specs::Headers::header_of))]
 pub fn worked_headlines()
     ensures handed_over { Headline handover handover_claim }
     ensures another_trace { Headline idle (codes "in 1 lock\nbelow\nschedule 1 bag lock 2\n") → ⊥ }

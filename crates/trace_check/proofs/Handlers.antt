@@ -1,5 +1,5 @@
 -- Handlers that are a stack by themselves are spelled, where their states keep to something by which what they put out has texts.
-use Rattle.std.specs.Prelude.{◌≡◌, ℕ, List}
+use Rattle.std.specs.Prelude.{◌≡◌, ℕ, ◌≤◌, List}
 use Rattle.std.proofs.Common.{subst}
 use Rattle.net_semantics.specs.Runs.{IsAllowed, no_recovery, trace}
 use Rattle.net_semantics.specs.Worlds.{first_world}
@@ -31,12 +31,12 @@ item-weaker nodes P Q R S ins outs (item.Input n i) has = (has.0, ins i has.1)
 item-weaker nodes P Q R S ins outs (item.Output n o) has = (has.0, outs o has.1)
 
 module _ (h : OwnHandlers) (HasIn : h.Input → Type 0) (HasOut : h.Output → Type 0) (is : AreShortTexts h.texts HasIn HasOut) (nodes : (n : ℕ) → (h.handlers n).nodes ≡ n) (Sound : ℕ → ℕ → h.State → Type 0) (Fine : h.Msg → Type 0)
-    (keeps : (n : ℕ) → KeepsTexts (row_of h.own).net (h.handlers n) (no_recovery {S = h.State}) HasIn HasOut (Sound n) Fine) (once : (n : ℕ) → TellsOnce (h.handlers n)) where
-  items : (n : ℕ) (ss : List (Step h.Input)) → IsAllowed (row_of h.own).net (h.handlers n) (no_recovery {S = h.State}) ss → Each (IsSpellable (HasInputText h.texts)) ss
+    (keeps : (n : ℕ) → n ≤ (row_of h.own).most → KeepsTexts (row_of h.own).net (h.handlers n) (no_recovery {S = h.State}) HasIn HasOut (Sound n) Fine) (once : (n : ℕ) → TellsOnce (h.handlers n)) where
+  items : (n : ℕ) (ss : List (Step h.Input)) → n ≤ (row_of h.own).most → IsAllowed (row_of h.own).net (h.handlers n) (no_recovery {S = h.State}) ss → Each (IsSpellable (HasInputText h.texts)) ss
       → Each (IsTextItem n (HasInputText h.texts) (HasOutputText h.texts)) (trace (h.handlers n) (no_recovery {S = h.State}) ss)
-  items n ss allowed steps =
+  items n ss most allowed steps =
       let own = each_weaker (IsSpellable (HasInputText h.texts)) (IsSpellable HasIn) (step-weaker (HasInputText h.texts) HasIn (own-input h.texts HasIn HasOut is)) ss steps in
-      let seen = trace-texts (row_of h.own).net (h.handlers n) (no_recovery {S = h.State}) HasIn HasOut (Sound n) Fine (keeps n) ss allowed own in
+      let seen = trace-texts (row_of h.own).net (h.handlers n) (no_recovery {S = h.State}) HasIn HasOut (Sound n) Fine (keeps n most) ss allowed own in
       each_weaker (IsTextItem n HasIn HasOut) (IsTextItem n (HasInputText h.texts) (HasOutputText h.texts))
       (item-weaker n HasIn (HasInputText h.texts) HasOut (HasOutputText h.texts) is.ins.reads_back is.outs.reads_back) (trace (h.handlers n) (no_recovery {S = h.State}) ss)
       (subst (λ k. Each (IsTextItem k HasIn HasOut) (trace (h.handlers n) (no_recovery {S = h.State}) ss)) (nodes n) seen)

@@ -27,7 +27,7 @@ use Rattle.trace_check.proofs.BackedReplays.{backed-read}
 use Rattle.trace_check.proofs.ClusterReplays.{cluster-read}
 use Rattle.trace_check.proofs.ItselfReplays.{itself-read}
 use Rattle.trace_check.proofs.Scripts.{AreReadSteps, steps-read}
-use Rattle.trace_check.proofs.Sights.{allowed-within, layers-seen}
+use Rattle.trace_check.proofs.Sights.{allowed-within, layers-seen, layers-texts}
 
 -- with a transformer that carries them, handlers make the claim that they make by the schedule within
 module _ (t : Transformer) (s : Service) (by : IsCarriedBy t s) (stays : StaysSpelled t s) (n : ℕ) (ss : List (Step s.Input)) (allowed : IsAllowedAbove t (s.handlers n) ss) where
@@ -52,20 +52,20 @@ module _ (each_row : (i : StackId) (h : Header) → IsBy (row_of i) h → IsHead
   pub layers-read : (l : Layers) → HasItsNodes row l → AreCarried l → AreSpelledLayers l → (ss : List (Step (service l).Input)) → AreReadSteps (HasInputText (service l).texts) ss
       → (service_play (service l) n).refused ss ≡ None → IsReadBack l (claim_by (service_play (service l) n) ss)
   layers-read (Own h) nodes carried is ss read allowed =
-      itself-read (service (Own h)) (layers_claimed (Own h)).verdict row.most n few_nodes most (layers-seen row n least (Own h) nodes carried is)
+      itself-read (service (Own h)) (layers_claimed (Own h)).verdict row.most n few_nodes most (layers-seen row n least most (Own h) nodes carried is)
       each_row h.own n (omega (arith, nodes.least, least)) (omega (arith, nodes.most, most)) (omega (arith, most, few_nodes)) ss read allowed
   layers-read (Alone p) nodes carried is ss read allowed =
-      itself-read (service (Alone p)) (layers_claimed (Alone p)).verdict row.most n few_nodes most (layers-seen row n least (Alone p) nodes carried is)
+      itself-read (service (Alone p)) (layers_claimed (Alone p)).verdict row.most n few_nodes most (layers-seen row n least most (Alone p) nodes carried is)
       each_row p.own 1 (omega (arith, nodes.image.least)) (omega (arith, nodes.image.most)) (omega arith) ss read allowed
   layers-read (Backed p) nodes carried is ss read allowed =
-      backed-read p row.most n few_nodes most (layers-seen row n least (Backed p) nodes carried is)
+      backed-read p row.most n few_nodes most (layers-seen row n least most (Backed p) nodes carried is)
       each_row (omega (arith, nodes.image.least)) (omega (arith, nodes.image.most)) ss read allowed
   layers-read (Through t l) nodes carried is ss read allowed =
       let s = service l in
       subst (IsReadBack l) (same-claim t s carried.0 is.0 n ss allowed)
       (layers-read l nodes carried.1 is.1 (t.within (s.handlers n) ss) (read-within t s carried.0 is.0 n ss allowed read) (allowed-within t s carried.0 n ss allowed))
   layers-read (Itself i l) nodes carried is ss read allowed =
-      itself-read (service l) (layers_claimed (Itself i l)).verdict row.most n few_nodes most (layers-seen row n least l nodes.1 carried.1 is)
+      itself-read (service l) (layers_claimed (Itself i l)).verdict row.most n few_nodes most (layers-seen row n least most l nodes.1 carried.1 is)
       each_row i n (omega (arith, nodes.0.least, least)) (omega (arith, nodes.0.most, most)) (omega (arith, most, few_nodes)) ss read allowed
 
   module _ (number : ℕ) (ls : List (List ℕ)) (text : List ℕ) where
@@ -76,7 +76,7 @@ module _ (each_row : (i : StackId) (h : Header) → IsBy (row_of i) h → IsHead
     steady-claim : (l : Layers) → AreLayersOf row l → AreSpelledLayers l → IsReplayOn (plays (Steady l) n) number ls text → IsClaimOf (claims (Steady l) row.most)
     steady-claim l fit is r =
         let p = service_play (service l) n in
-        let texts = (layers-seen row n least l fit.nodes fit.carried is).texts in
+        let texts = layers-texts l is in
         let read = steps-read (service l).texts.input_of (HasInputText (service l).texts) texts.inputs.has_text number ls r.steps r.says in
         record {
           claim = claim_by p r.steps;

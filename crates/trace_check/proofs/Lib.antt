@@ -8,6 +8,7 @@ pub mod Handlers
 pub mod Maps
 pub mod Words
 pub mod Locks
+pub mod Mirrors
 pub mod Store
 pub mod LockTable
 pub mod PbRuns
@@ -27,6 +28,7 @@ pub mod StepImages
 pub mod OrderImages
 pub mod Counts
 pub mod Scripts
+pub mod OrderStays
 pub mod Stays
 pub mod StackReading
 pub mod Headers

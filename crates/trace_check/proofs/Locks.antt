@@ -100,4 +100,4 @@ lock-short : AreShortTexts lock_texts IsAny IsAny
 lock-short = record { ins = inputs_are_spelled; outs = outputs_are_spelled; short_ins = short-input; short_outs = short-output }
 
 pub locks-spelled : AreSpelledHandlers locks
-locks-spelled = handlers-spelled locks IsAny IsAny lock-short (λ n. refl) WaitsBelow IsAny lock-keeps lock-once
+locks-spelled = handlers-spelled locks IsAny IsAny lock-short (λ n. refl) WaitsBelow IsAny (λ n most. lock-keeps n) lock-once

@@ -27,13 +27,13 @@ not-false : (t : Bool) → not t ≡ false → t ≡ true
 not-false true e = refl
 not-false false e = cc
 
-not-refused : (o : Option StepRefusal) (later : Option (ℕ × StepRefusal)) → place_and_why o later ≡ None → (o ≡ None) × (later ≡ None)
+pub not-refused : (o : Option StepRefusal) (later : Option (ℕ × StepRefusal)) → place_and_why o later ≡ None → (o ≡ None) × (later ≡ None)
 not-refused (Some w) later e = cc
 not-refused None (Some p) e = cc
 not-refused None None e = (refl, refl)
 
 -- a function with another value at one place
-put-each : {A : Type 0} (P : ℕ → A → Type 0) (f : ℕ → A) (n : ℕ) (a : A) → P n a → (k : ℕ) → P k (f k) → P k (put f n a k)
+pub put-each : {A : Type 0} (P : ℕ → A → Type 0) (f : ℕ → A) (n : ℕ) (a : A) → P n a → (k : ℕ) → P k (f k) → P k (put f n a k)
 put-each P f n a here k there = by (k == n) refl
   where
     by : (b : Bool) → (k == n) ≡ b → P k (cond b a (f k))

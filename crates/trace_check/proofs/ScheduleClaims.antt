@@ -74,7 +74,7 @@ module _ {I O : Type 0} (apart : AreApart) (nodes : ℕ) (own : StackId) (t : Te
 
 -- on handlers whose image is their own schedule, as one of this stack: an image has as many nodes as its header says
 module _ (apart : AreApart) (own_row : (h : Header) → IsHeader h → IsBy (row_of h.stack) h) (nodes : ℕ) (few_nodes : nodes < 4294967296) (i : StackId) (s : Service) (fits : (row_of i).most ≤ nodes) (texts : AreSpelled s.texts)
-    (seen : (k : ℕ) → (row_of i).least ≤ k → IsSpelledService s k) where
+    (seen : (k : ℕ) → (row_of i).least ≤ k → k ≤ (row_of i).most → IsSpelledService s k) where
   pub itself-decided : (n : ℕ) → IsDecided nodes (record { plays = steady_plays (itself i s.net s.handlers s.texts) n; claimed = of_itself s.net s.handlers s.texts })
   itself-decided n ls c by =
       let HasIn = HasInputText s.texts in
@@ -83,7 +83,7 @@ module _ (apart : AreApart) (own_row : (h : Header) → IsHeader h → IsBy (row
       let k = nodes_of c.header in
       let within = within-row own_row i c.header read.header in
       sees apart nodes i s.texts HasIn HasOut texts.inputs texts.outputs few_nodes s.net (s.handlers k) c read
-      (λ allowed. more-nodes k nodes HasIn HasOut (omega (arith, within.1, fits)) (trace (s.handlers k) (no_recovery {S = s.State}) c.image) ((seen k within.0).items c.image allowed read.image))
+      (λ allowed. more-nodes k nodes HasIn HasOut (omega (arith, within.1, fits)) (trace (s.handlers k) (no_recovery {S = s.State}) c.image) ((seen k within.0 within.1).items c.image allowed read.image))
 
 -- on a machine alone, which shows each command with its answer
 module _ (apart : AreApart) (nodes : ℕ) (few_nodes : nodes < 4294967296) (p : Application) (is : IsSpelledService (single p) nodes) where

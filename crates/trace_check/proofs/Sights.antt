@@ -35,15 +35,15 @@ pub record IsSpelledService (s : Service) (n : ℕ) : Type 0 where
   pub few : (ss : List (Step s.Input)) → IsAllowed s.net (s.handlers n) (no_recovery {S = s.State}) ss → length (trace (s.handlers n) (no_recovery {S = s.State}) ss) ≤ length ss + length ss
 
 -- a machine at its node, and under primary-backup
-module _ (p : Application) (is : IsSpelledMachine p) (n : ℕ) where
+module _ (p : Application) (is : IsSpelledMachine p) where
   abbrev HasIn : p.Command → Type 0
   HasIn c = HasInputText p.texts c
 
   abbrev HasOut : p.Output → Type 0
   HasOut o = HasOutputText p.texts o
 
-  alone-seen : 1 ≤ n → IsSpelledService (single p) n
-  alone-seen one =
+  alone-seen : (n : ℕ) → 1 ≤ n → IsSpelledService (single p) n
+  alone-seen n one =
       let m = single_node p.machine in
       let none = no_recovery {S = p.State} in
       let keeps = single-keeps p.machine HasIn HasOut (IsTextState p is) (spelled-keeps p is) in
@@ -64,8 +64,8 @@ module _ (p : Application) (is : IsSpelledMachine p) (n : ℕ) where
     short_outputs = λ o has. brief-pb-outputs HasOut p.texts.output_text is.texts.short_outputs o (pb-outputs o has);
   }
 
-  backed-seen : 2 ≤ n → IsSpelledService (backed p) n
-  backed-seen two =
+  backed-seen : (n : ℕ) → 2 ≤ n → IsSpelledService (backed p) n
+  backed-seen n two =
       let m = primary_backup p.machine in
       let none = no_recovery {S = Backup p.State p.Command} in
       let state = IsTextState p is in
@@ -98,10 +98,18 @@ module _ (t : Transformer) (s : Service) (by : IsCarriedBy t s) (n : ℕ) where
         omega (arith, same, below, stays.few n ss allowed);
   }
 
+-- the texts of layers are those of what they are made of
+pub layers-texts : (l : Layers) → AreSpelledLayers l → AreSpelled (service l).texts
+layers-texts (Own h) is = is.texts
+layers-texts (Alone p) is = is.texts
+layers-texts (Backed p) is = pb-spelled p is
+layers-texts (Through t l) is = layers-texts l is.1
+layers-texts (Itself i l) is = layers-texts l is
+
 -- on as many nodes as a stack of these layers may have
-module _ (row : StackRow) (n : ℕ) (least : row.least ≤ n) where
+module _ (row : StackRow) (n : ℕ) (least : row.least ≤ n) (most : n ≤ row.most) where
   pub layers-seen : (l : Layers) → HasItsNodes row l → AreCarried l → AreSpelledLayers l → IsSpelledService (service l) n
-  layers-seen (Own h) nodes carried is = record { texts = is.texts; items = is.items n; few = λ ss allowed. is.few n ss }
+  layers-seen (Own h) nodes carried is = record { texts = is.texts; items = λ ss. is.items n ss (omega (arith, nodes.most, most)); few = λ ss allowed. is.few n ss }
   layers-seen (Alone p) nodes carried is = alone-seen p is n (omega (arith, nodes.nodes.least, least))
   layers-seen (Backed p) nodes carried is = backed-seen p is n (omega (arith, nodes.nodes.least, least))
   layers-seen (Through t l) nodes carried is = through-seen t (service l) carried.0 n is.0 (layers-seen l nodes carried.1 is.1)

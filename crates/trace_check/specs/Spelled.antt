@@ -43,12 +43,12 @@ pub record IsSpelledMachine (p : Application) : Type 0 where
   pub no_redirect : (o : p.Output) → HasOutputText p.texts o → p.texts.output_text o ≢ codes "redirect"
   pub answers : (cs : List p.Command) → Each (HasInputText p.texts) cs → Each (HasOutputText p.texts) (fold p.machine cs)
 
--- on as many nodes as they are made for, clients of handlers see of inputs that have texts outputs that have, and two items a step
--- at most
+-- there are as many nodes as handlers are made for. On at most as many as the stack has, of a schedule that its network allows and whose
+-- inputs have texts, each item that clients see has one; and of any schedule they see two items a step at most
 pub record AreSpelledHandlers (h : OwnHandlers) : Type 0 where
   pub texts : AreSpelled h.texts
   pub nodes : (n : ℕ) → (h.handlers n).nodes ≡ n
-  pub items : (n : ℕ) (ss : List (Step h.Input)) → IsAllowed (row_of h.own).net (h.handlers n) (no_recovery {S = h.State}) ss
+  pub items : (n : ℕ) (ss : List (Step h.Input)) → n ≤ (row_of h.own).most → IsAllowed (row_of h.own).net (h.handlers n) (no_recovery {S = h.State}) ss
       → Each (IsSpellable (HasInputText h.texts)) ss
       → Each (IsTextItem n (HasInputText h.texts) (HasOutputText h.texts)) (trace (h.handlers n) (no_recovery {S = h.State}) ss)
   pub few : (n : ℕ) (ss : List (Step h.Input)) → length (trace (h.handlers n) (no_recovery {S = h.State}) ss) ≤ length ss + length ss

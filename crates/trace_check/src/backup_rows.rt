@@ -5,6 +5,7 @@ use crate::Verdict;
 use vst_base::StackId;
 
 /// Commands that explain a trace of a primary and its backup, and those that don't.
+#[tactic(auto, unfolding(schedule_text::specs::Headers::header_of))]
 pub fn worked_backups()
     ensures acknowledged { checked StackId.KvPb (codes "in 0 put a x\nin 0 get a\nout 0 a =x -\nbelow\nschedule 1 one kv 1\nin 0 put a x\n") ≡ Ok Verdict.Yes }
     ensures redirected { checked StackId.KvPbSeq (codes "in 0 put a x\nout 0 a =x -\nin 1 get a\nout 1 redirect\nbelow\nschedule 1 one kv 1\nin 0 put a x\n") ≡ Ok Verdict.Yes }

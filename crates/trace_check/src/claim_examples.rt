@@ -10,6 +10,7 @@ ghost use Rattle.schedule_text.specs.ExampleTexts.{handover_claim, mistaken_put_
 use crate::laws::permitted_claims_are_explained;
 
 /// Texts that are claims which are explained, and such as are not; and values that have a text, and such as have none.
+#[tactic(auto, unfolding(schedule_text::specs::Headers::header_of))]
 pub fn worked_claims()
     ensures longest_key { HasInputText kv_texts (cmd.Get (replicate 64 97)) }
     ensures key_too_long { HasInputText kv_texts (cmd.Get (replicate 65 97)) → ⊥ }

@@ -23,8 +23,8 @@ pub fn stacks_are_spelled()
 
 /// A check of a text says yes exactly where the text is a claim that its image explains: on a cluster its trace is linearizable by
 /// its order; on a primary and its backup one machine explains its trace, and its image is what that machine took; on a machine
-/// alone its trace has each command of its image with the machine's answer; and on the lock server the network allows the
-/// schedule, and clients then see exactly the trace. Where the check says no, the text is a claim that its image does not
+/// alone its trace has each command of its image with the machine's answer; and on the lock server and the mirror the network
+/// allows the schedule, and clients then see exactly the trace. Where the check says no, the text is a claim that its image does not
 /// explain. Nothing is asked of the text.
 pub fn permitted_claims_are_explained()
     ensures explained { (stack : StackId) → (bytes : List ℕ) → (checked stack bytes ≡ Ok Yes) ↔ IsPermitted stack bytes }

@@ -9,6 +9,7 @@ ghost use Rattle.vst_base.specs.declared.stack.StackId.TheVariants as stack;
 ghost use Rattle.vst_base.specs.declared.step.Step.TheVariants as step;
 
 /// Lines of claims at the borders of their refusals.
+#[tactic(auto, unfolding(schedule_text::specs::Headers::header_of))]
 pub fn worked_limits()
     ensures longest_line { checked stack.Lock (replicate 4096 97) ≡ Err (1, why.UnknownWord) }
     ensures longer_line { checked stack.Lock (replicate 4097 97) ≡ Err (1, why.LineTooLong) }
@@ -25,6 +26,7 @@ pub fn worked_limits()
 {}
 
 /// Claims of which one condition is false, or more, and claims that only look so.
+#[tactic(auto, unfolding(schedule_text::specs::Headers::header_of))]
 pub fn worked_conditions()
     ensures fifth_node { checked stack.KvRaft (codes "in 4 7 1 get a\nbelow\n") ≡ Ok Yes }
     ensures another_command_first { checked stack.KvRaft (codes "in 0 7 1 get b\nout 0 notleader 7 1\nin 0 7 1 get a\nbelow\norder 7 1 get a\n") ≡ Ok Yes }

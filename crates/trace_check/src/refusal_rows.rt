@@ -8,6 +8,7 @@ use line_reader::Why;
 use vst_base::StackId;
 
 /// Texts of claims that are refused, and at which line.
+#[tactic(auto, unfolding(schedule_text::specs::Headers::header_of))]
 pub fn worked_refusals()
     ensures nothing { checked StackId.Lock (codes "") ≡ Err (1, Why.Header) }
     ensures no_image { checked StackId.Lock (codes "in 1 lock\n") ≡ Err (2, Why.Header) }
@@ -42,6 +43,7 @@ pub fn worked_refusals()
 
 /// The lines of texts that broke off which are refused whatever follows them: a text that ends too early may still go on, and the
 /// line in which it broke off may still change.
+#[tactic(auto, unfolding(schedule_text::specs::Headers::header_of))]
 pub fn worked_breaks()
     ensures in_a_trace { refused_so_far StackId.Lock (whole_lines (codes "in 1 lock\nbel")) ≡ None }
     ensures after_a_refused_line { refused_so_far StackId.Lock (whole_lines (codes "in 1 lock\non 1 lock\nin 1")) ≡ Some (2, Why.UnknownWord) }

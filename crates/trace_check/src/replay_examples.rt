@@ -9,6 +9,7 @@ ghost use Rattle.vst_base.specs.declared.stack.StackId.TheVariants as stack;
 ghost use Rattle.schedule_text.specs.ExampleTexts.{handover, idle};
 
 /// Worked schedules, each of which is replayed, and checked again; and what is within the limits of a check.
+#[tactic(auto, unfolding(schedule_text::specs::Headers::header_of))]
 pub fn worked_replays()
     ensures first_header { stack_in (codes "# two nodes\nschedule 1 bag lock 2\nschedule 1 one kv 1\n") ≡ Some stack.Lock }
     ensures last_line { stack_in (codes "schedule 1 fail kv/raft 3") ≡ Some stack.KvRaft }
@@ -21,6 +22,8 @@ pub fn worked_replays()
     ensures too_many_lines { (out : List ℕ) → length (lines_of out) ≡ 8000001 → IsWithinLimits stack.KvRaft out → ⊥ }
     ensures lock { checked stack.Lock (replayed handover).out ≡ Ok Yes }
     ensures copied { checked stack.LockSeq (replayed (codes "schedule 1 dup lock/seq 2\nin 1 lock\ndup 0\n")).out ≡ Ok Yes }
+    ensures mirrored { checked stack.Mirror (replayed (codes "schedule 1 ord mirror 2\nin 1 put a\ndeliver 0\n")).out ≡ Ok Yes }
+    ensures copied_in_order { checked stack.MirrorFifo (replayed (codes "schedule 1 dup mirror/fifo 2\nin 1 put a\nin 1 put b\ndup 0\ndeliver 0\ndeliver 1\ndeliver 0\n")).out ≡ Ok Yes }
     ensures held { checked stack.Table (replayed (codes "schedule 1 one table 1\nin 0 acquire l bob\nin 0 release l al\n")).out ≡ Ok Yes }
     ensures nothing_happens { checked stack.KvRaft (replayed (codes "schedule 1 fail kv/raft 3\n")).out ≡ Ok Yes }
     ensures refused_step { checked stack.Lock (replayed (codes "schedule 1 bag lock 2\nin 1 lock\ndeliver 7\n")).out ≡ Err (2, Header) }

@@ -6,6 +6,7 @@ use crate::Verdict;
 use vst_base::StackId;
 
 /// Schedules that explain a trace, and those that don't.
+#[tactic(auto, unfolding(schedule_text::specs::Headers::header_of))]
 pub fn worked_schedules()
     ensures handed_over { checked StackId.Lock handover_claim ≡ Ok Verdict.Yes }
     ensures last_line_not_ended { checked StackId.Lock (codes "in 1 lock\nout 1 locked\nbelow\nschedule 1 bag lock 2\nin 1 lock\ndeliver 0\ndeliver 1") ≡ Ok Verdict.Yes }
@@ -22,6 +23,10 @@ pub fn worked_schedules()
     ensures trace_too_short { checked StackId.Lock (codes "in 1 lock\nbelow\nschedule 1 bag lock 2\nin 1 lock\ndeliver 0\ndeliver 1\n") ≡ Ok (Verdict.No 5 2) }
     ensures trace_too_long { checked StackId.Lock (codes "in 1 lock\nout 1 locked\nbelow\nschedule 1 bag lock 2\nin 1 lock\ndeliver 0\n") ≡ Ok (Verdict.No 5 2) }
     ensures node_that_the_image_has_not { checked StackId.Lock (codes "in 8 lock\nbelow\nschedule 1 bag lock 2\n") ≡ Ok (Verdict.No 5 1) }
+    ensures mirrored { checked StackId.Mirror (codes "in 1 put a\nout 0 from 1 a\nbelow\nschedule 1 ord mirror 2\nin 1 put a\ndeliver 0\n") ≡ Ok Verdict.Yes }
+    ensures in_order { checked StackId.MirrorFifo (codes "in 1 put a\nin 1 put b\nout 0 from 1 a\nout 0 from 1 b\nbelow\nschedule 1 ord mirror 2\nin 1 put a\nin 1 put b\ndeliver 0\ndeliver 1\n") ≡ Ok Verdict.Yes }
+    ensures outputs_swapped { checked StackId.Mirror (codes "in 1 put a\nin 1 put b\nout 0 from 1 b\nout 0 from 1 a\nbelow\nschedule 1 ord mirror 2\nin 1 put a\nin 1 put b\ndeliver 0\ndeliver 1\n") ≡ Ok (Verdict.No 5 3) }
+    ensures second_packet_first { checked StackId.MirrorFifo (codes "in 1 put a\nin 1 put b\nout 0 from 1 b\nbelow\nschedule 1 ord mirror 2\nin 1 put a\nin 1 put b\ndeliver 1\n") ≡ Ok (Verdict.No 4 8) }
     ensures machine_alone { checked StackId.Kv put_claim ≡ Ok Verdict.Yes }
     ensures another_output { checked StackId.Kv mistaken_put_claim ≡ Ok (Verdict.No 5 2) }
     ensures no_packets { checked StackId.Kv (codes "below\nschedule 1 one kv 1\ndeliver 0\n") ≡ Ok (Verdict.No 4 3) }

@@ -4,7 +4,8 @@ use Rattle.fifo_xform.proofs.Explained.{order-is-kept}
 use Rattle.net_semantics.specs.Runs.{no_recovery}
 use Rattle.retry_xform.proofs.Simulation.{run-explained}
 use Rattle.seqnum_xform.proofs.Explained.{repeats-do-nothing}
-use Rattle.transformers.specs.Known.{ordering, retransmission}
+use Rattle.transformers.specs.Ordering.{ordering}
+use Rattle.transformers.specs.Retransmission.{retransmission}
 use Rattle.transformers.specs.Numbering.{numbering}
 use Rattle.transformers.specs.TransformerLaws.{composed}
 use Rattle.transformers.specs.Transformers.{Carries, over}

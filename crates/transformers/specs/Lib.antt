@@ -1,4 +1,5 @@
 pub mod Transformers
 pub mod TransformerLaws
 pub mod Numbering
-pub mod Known
+pub mod Ordering
+pub mod Retransmission

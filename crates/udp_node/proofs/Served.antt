@@ -263,3 +263,5 @@ runs_kv stack.TablePbSeq is not = cc
 runs_kv stack.TableRaft is not = absurd (not refl)
 runs_kv stack.Kv is not = cc
 runs_kv stack.Table is not = cc
+runs_kv stack.Mirror is not = cc
+runs_kv stack.MirrorFifo is not = cc

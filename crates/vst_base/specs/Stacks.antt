@@ -17,6 +17,8 @@ stack_word stack.TablePbSeq = codes "table/pb/seq"
 stack_word stack.TableRaft = codes "table/raft"
 stack_word stack.Kv = codes "kv"
 stack_word stack.Table = codes "table"
+stack_word stack.Mirror = codes "mirror"
+stack_word stack.MirrorFifo = codes "mirror/fifo"
 
 abbrev pub row_of : StackId → StackRow
 row_of stack.Lock = record { stack = stack.Lock; net = net.Bag; least = 2; most = 9 }
@@ -28,9 +30,13 @@ row_of stack.TablePbSeq = record { stack = stack.TablePbSeq; net = net.Dup; leas
 row_of stack.TableRaft = record { stack = stack.TableRaft; net = net.Fail; least = 1; most = MAX_NODES }
 row_of stack.Kv = record { stack = stack.Kv; net = net.One; least = 1; most = 1 }
 row_of stack.Table = record { stack = stack.Table; net = net.One; least = 1; most = 1 }
+row_of stack.Mirror = record { stack = stack.Mirror; net = net.Ord; least = 2; most = 9 }
+row_of stack.MirrorFifo = record { stack = stack.MirrorFifo; net = net.Dup; least = 2; most = 9 }
 
 abbrev pub stacks : List StackId
-stacks = stack.Lock ∷ stack.LockSeq ∷ stack.KvPb ∷ stack.KvPbSeq ∷ stack.KvRaft ∷ stack.TablePbSeq ∷ stack.TableRaft ∷ stack.Kv ∷ stack.Table ∷ []
+stacks =
+    stack.Lock ∷ stack.LockSeq ∷ stack.KvPb ∷ stack.KvPbSeq ∷ stack.KvRaft ∷ stack.TablePbSeq ∷ stack.TableRaft ∷ stack.Kv ∷ stack.Table
+    ∷ stack.Mirror ∷ stack.MirrorFifo ∷ []
 
 abbrev pub rows : List StackRow
 rows = map row_of stacks

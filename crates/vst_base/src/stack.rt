@@ -24,6 +24,10 @@ pub enum StackId {
     Kv,
     /// The table of named locks alone.
     Table,
+    /// The mirror.
+    Mirror,
+    /// The mirror over FIFO channels.
+    MirrorFifo,
 }
 
 /// A stack on its network, with the least and the greatest number of nodes that it runs on.
@@ -100,6 +104,21 @@ const TABLE: StackRow = StackRow {
     most: 1,
 };
 
+// A mirror and the nodes whose values it says.
+const MIRROR: StackRow = StackRow {
+    stack: StackId::Mirror,
+    net: Net::Ord,
+    least: 2,
+    most: 9,
+};
+
+const MIRROR_FIFO: StackRow = StackRow {
+    stack: StackId::MirrorFifo,
+    net: Net::Dup,
+    least: 2,
+    most: 9,
+};
+
 const ROWS: &[StackRow] = &[
     LOCK,
     LOCK_SEQ,
@@ -110,6 +129,8 @@ const ROWS: &[StackRow] = &[
     TABLE_RAFT,
     KV,
     TABLE,
+    MIRROR,
+    MIRROR_FIFO,
 ];
 
 impl StackRow {
@@ -155,6 +176,8 @@ impl StackId {
             StackId::TableRaft => "table/raft",
             StackId::Kv => "kv",
             StackId::Table => "table",
+            StackId::Mirror => "mirror",
+            StackId::MirrorFifo => "mirror/fifo",
         }
     }
 
@@ -172,6 +195,8 @@ impl StackId {
             StackId::TableRaft => TABLE_RAFT,
             StackId::Kv => KV,
             StackId::Table => TABLE,
+            StackId::Mirror => MIRROR,
+            StackId::MirrorFifo => MIRROR_FIFO,
         }
     }
 }

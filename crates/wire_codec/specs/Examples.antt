@@ -46,6 +46,13 @@ grants_a_vote = 2 ∷ (one ++ (1 ∷ []))
 abbrev pub asks_for_the_lock : List ℕ
 asks_for_the_lock = zero_of_eight ++ (1 ∷ [])
 
+-- the value a comes to a mirror, alone and as packet 1
+abbrev pub puts_a : List ℕ
+puts_a = 1 ∷ 0 ∷ 1 ∷ 97 ∷ []
+
+abbrev pub puts_a_as_packet_1 : List ℕ
+puts_a_as_packet_1 = one ++ puts_a
+
 -- put a x, as a command and as request 1
 abbrev pub puts_x : List ℕ
 puts_x = 2 ∷ 1 ∷ 97 ∷ 0 ∷ 1 ∷ 120 ∷ []

@@ -31,12 +31,16 @@ stack_byte stack.KvPbSeq = 4
 stack_byte stack.KvRaft = 5
 stack_byte stack.TablePbSeq = 6
 stack_byte stack.TableRaft = 7
+stack_byte stack.Mirror = 8
+stack_byte stack.MirrorFifo = 9
 stack_byte stack.Kv = 0
 stack_byte stack.Table = 0
 
 -- the stacks that a heading may name
 abbrev pub named_stacks : List StackId
-named_stacks = stack.Lock ∷ stack.LockSeq ∷ stack.KvPb ∷ stack.KvPbSeq ∷ stack.KvRaft ∷ stack.TablePbSeq ∷ stack.TableRaft ∷ []
+named_stacks =
+    stack.Lock ∷ stack.LockSeq ∷ stack.KvPb ∷ stack.KvPbSeq ∷ stack.KvRaft ∷ stack.TablePbSeq ∷ stack.TableRaft ∷ stack.Mirror
+    ∷ stack.MirrorFifo ∷ []
 
 -- the one among these that has the byte
 abbrev pub stack_among : List StackId → ℕ → List ℕ → Option (StackId × List ℕ)

@@ -44,6 +44,8 @@ fn read_stack(input: &mut Input<'_>) -> Option<StackId>
         5 => Some(StackId::KvRaft),
         6 => Some(StackId::TablePbSeq),
         7 => Some(StackId::TableRaft),
+        8 => Some(StackId::Mirror),
+        9 => Some(StackId::MirrorFifo),
         _ => None,
     }
 }
@@ -101,6 +103,8 @@ fn byte_of(stack: StackId) -> u8
         StackId::KvRaft => 5,
         StackId::TablePbSeq => 6,
         StackId::TableRaft => 7,
+        StackId::Mirror => 8,
+        StackId::MirrorFifo => 9,
         StackId::Kv | StackId::Table => 0,
     }
 }

@@ -1,6 +1,7 @@
 use crate::{Datagram, Heading, Kind, decode, encode_into};
 use kv_machine::{KvCmd, KvOut};
 use lock_table::{TableCmd, TableOut};
+use mirror::MirrorMsg;
 use raft_types::RaftMsg;
 use std::alloc::{AllocError, Global};
 use std::process::Abort;
@@ -24,6 +25,15 @@ const GRANTS_A_VOTE: [u8; 32] = [
 const ASKS_FOR_THE_LOCK: [u8; 31] = [
     86, 2, 2, 0, 1, 0, 0, 1, 2, 3, 4, 5, 6, 7, 8, 9, 10, 11, 12, 13, 14, 15, 0, 0, 0, 0, 0, 0, 0,
     0, 1,
+];
+
+const PUTS_A: [u8; 26] = [
+    86, 2, 8, 0, 1, 0, 0, 1, 2, 3, 4, 5, 6, 7, 8, 9, 10, 11, 12, 13, 14, 15, 1, 0, 1, 97,
+];
+
+const PUTS_A_AS_PACKET_1: [u8; 34] = [
+    86, 2, 9, 0, 1, 0, 0, 1, 2, 3, 4, 5, 6, 7, 8, 9, 10, 11, 12, 13, 14, 15, 0, 0, 0, 0, 0, 0, 0,
+    1, 1, 0, 1, 97,
 ];
 
 const REQUESTS_PUT: [u8; 36] = [
@@ -62,6 +72,8 @@ fn put_peer_again(alloc: Global, datagram: &Datagram<'_>) -> Result<Option<Vec<u
         StackId::LockSeq => put_again::<SeqMsg<LockMsg>>(alloc, datagram),
         StackId::KvPb => put_again::<PbMsg<KvCmd>>(alloc, datagram),
         StackId::KvPbSeq => put_again::<SeqMsg<PbMsg<KvCmd>>>(alloc, datagram),
+        StackId::Mirror => put_again::<MirrorMsg>(alloc, datagram),
+        StackId::MirrorFifo => put_again::<SeqMsg<MirrorMsg>>(alloc, datagram),
         StackId::KvRaft => put_again::<RaftMsg<KvCmd>>(alloc, datagram),
         StackId::TablePbSeq => put_again::<SeqMsg<PbMsg<TableCmd>>>(alloc, datagram),
         StackId::TableRaft => put_again::<RaftMsg<TableCmd>>(alloc, datagram),
@@ -175,6 +187,21 @@ fn datagrams_are_read_and_written(rt: HostRuntime) -> Result<(), Fail> {
     )
 }
 
+#[test]
+fn datagrams_of_mirrors_are_read_and_written(rt: HostRuntime) -> Result<(), Fail> {
+    let alloc = rt.alloc();
+    is_read(&rt, alloc, &PUTS_A, StackId::Mirror, Kind::Peer, 1, 0)?;
+    is_read(
+        &rt,
+        alloc,
+        &PUTS_A_AS_PACKET_1,
+        StackId::MirrorFifo,
+        Kind::Peer,
+        1,
+        0,
+    )
+}
+
 // Whether the bytes are this datagram's but for one.
 fn with_byte(
     rt: &impl Abort,
@@ -211,7 +238,7 @@ fn hostile_datagrams_are_none(rt: HostRuntime) -> Result<(), Fail> {
         !with_byte(&rt, alloc, asks, 32, 0x10)?,
         "an index past the last"
     );
-    assert!(rt; !with_byte(&rt, alloc, asks, 2, 8)?, "no stack");
+    assert!(rt; !with_byte(&rt, alloc, asks, 2, 10)?, "no stack");
     Ok(())
 }
 
@@ -247,6 +274,11 @@ fn one_byte_changed(rt: HostRuntime) -> Result<(), Fail> {
         how_many_are_read(&rt, alloc, &mut { ASKS_FOR_THE_LOCK })?,
         6169
     );
+    assert_eq!(rt; how_many_are_read(&rt, alloc, &mut { PUTS_A })?, 4215);
+    assert_eq!(rt;
+        how_many_are_read(&rt, alloc, &mut { PUTS_A_AS_PACKET_1 })?,
+        6263
+    );
     assert_eq!(rt; how_many_are_read(&rt, alloc, &mut { REQUESTS_PUT })?, 6605);
     assert_eq!(rt; how_many_are_read(&rt, alloc, &mut { REPLIES_X })?, 6606);
     assert_eq!(rt;
@@ -271,6 +303,8 @@ fn messages_are_taken_and_put(rt: HostRuntime) -> Result<(), Fail> {
     is_taken::<RaftMsg<KvCmd>>(&rt, alloc, &ASKS_FOR_A_VOTE[22..])?;
     is_taken::<RaftMsg<KvCmd>>(&rt, alloc, &GRANTS_A_VOTE[22..])?;
     is_taken::<SeqMsg<LockMsg>>(&rt, alloc, &ASKS_FOR_THE_LOCK[22..])?;
+    is_taken::<MirrorMsg>(&rt, alloc, &PUTS_A[22..])?;
+    is_taken::<SeqMsg<MirrorMsg>>(&rt, alloc, &PUTS_A_AS_PACKET_1[22..])?;
     is_taken::<ClientRequest<KvCmd>>(&rt, alloc, &REQUESTS_PUT[22..])?;
     is_taken::<ClientReply<KvOut>>(&rt, alloc, &REPLIES_X[22..])?;
     is_taken::<RaftMsg<KvCmd>>(&rt, alloc, &SENDS_AN_ENTRY[22..])?;

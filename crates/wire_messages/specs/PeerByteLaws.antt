@@ -1,15 +1,17 @@
--- Each message of the lock server, of sequence numbering and of primary-backup has one spelling.
+-- Each message of the lock server, of the mirror, of those that number them and of primary-backup has one spelling.
 use Rattle.std.proofs.Common.{◌≡◌, refl, lit<}
+use Rattle.mirror.specs.declared.messages.MirrorMsg.{MirrorMsg}
+use Rattle.mirror.specs.declared.messages.MirrorMsg.TheVariants.{Item}
 use Rattle.vst_base.specs.declared.lock.LockMsg.{LockMsg}
 use Rattle.vst_base.specs.declared.lock.LockMsg.TheVariants.{Lock, Unlock, Locked}
 use Rattle.vst_base.specs.declared.pb_msg.PbMsg.{PbMsg}
 use Rattle.vst_base.specs.declared.pb_msg.PbMsg.TheVariants.{Apply, Ack}
-use Rattle.wire_fields.specs.FieldLaws.{number_is_format}
+use Rattle.wire_fields.specs.FieldLaws.{number_is_format, value_is_format}
 use Rattle.wire_fields.specs.FormatLaws.{nothing_is_format}
 use Rattle.wire_fields.specs.Formats.{Format, IsFormat}
 use Rattle.wire_fields.specs.KindLaws.{make_of, one_of_is_format}
 use Rattle.wire_fields.specs.RecordLaws.{record_of_is_format}
-use Rattle.wire_messages.specs.PeerBytes.{any_number, backup_kinds, backup_message, backup_part, lock_kinds, lock_message, lock_part, numbered, numbered_fields}
+use Rattle.wire_messages.specs.PeerBytes.{any_number, backup_kinds, backup_message, backup_part, lock_kinds, lock_message, lock_part, mirror_kinds, mirror_message, mirror_part, numbered, numbered_fields}
 
 pub lock_message_is_format : IsFormat lock_message
 lock_message_is_format =
@@ -19,6 +21,12 @@ lock_message_is_format =
     made Lock = refl
     made Unlock = refl
     made Locked = refl
+
+pub mirror_message_is_format : IsFormat mirror_message
+mirror_message_is_format = one_of_is_format mirror_kinds mirror_part made ((λ v. refl), tt) refl (value_is_format, tt)
+  where
+    made : (m : MirrorMsg) → make_of mirror_kinds (mirror_part m) ≡ m
+    made (Item v) = refl
 
 pub any_number_is_format : IsFormat any_number
 any_number_is_format = number_is_format 8 0 18446744073709551615 (lit< tt)

@@ -1,11 +1,13 @@
--- The bytes of the messages of the lock server, of sequence numbering and of primary-backup.
+-- The bytes of the messages of the lock server, of the mirror, of those that number them and of primary-backup.
 use Rattle.std.specs.Prelude.{ℕ}
+use Rattle.mirror.specs.declared.messages.MirrorMsg.{MirrorMsg}
+use Rattle.mirror.specs.declared.messages.MirrorMsg.TheVariants.{Item}
 use Rattle.vst_base.specs.declared.lock.LockMsg.{LockMsg}
 use Rattle.vst_base.specs.declared.lock.LockMsg.TheVariants.{Lock, Unlock, Locked}
 use Rattle.vst_base.specs.declared.pb_msg.PbMsg.{PbMsg}
 use Rattle.vst_base.specs.declared.pb_msg.PbMsg.TheVariants.{Apply, Ack}
 use Rattle.vst_base.specs.declared.seq.SeqMsg.{SeqMsg}
-use Rattle.wire_fields.specs.Fields.{number}
+use Rattle.wire_fields.specs.Fields.{number, value}
 use Rattle.wire_fields.specs.Formats.{Format, nothing}
 use Rattle.wire_fields.specs.Kinds.{Kinds, Part, first, kind, no_more, one_of, second, third}
 use Rattle.wire_fields.specs.Records.{FieldsOf, field, last, record_of}
@@ -24,6 +26,15 @@ lock_part Locked = third tt
 
 abbrev pub lock_message : Format LockMsg
 lock_message = one_of lock_kinds lock_part
+
+abbrev pub mirror_kinds : Kinds MirrorMsg
+mirror_kinds = kind 1 value (λ v. Item v) no_more
+
+abbrev pub mirror_part : MirrorMsg → Part mirror_kinds
+mirror_part (Item v) = first v
+
+abbrev pub mirror_message : Format MirrorMsg
+mirror_message = one_of mirror_kinds mirror_part
 
 -- any number of eight bytes, as a number of a packet, a client or a request
 abbrev pub any_number : Format ℕ

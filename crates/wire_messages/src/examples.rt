@@ -1,6 +1,7 @@
 ghost use Rattle.std.specs.Prelude.{◌≡◌, ◌∷◌, ◌++◌, [], None, Some, codes};
 ghost use Rattle.kv_machine.specs.declared.cmd.KvCmd.TheVariants as command;
 ghost use Rattle.lock_table.specs.declared.cmd.TableCmd.TheVariants as table;
+ghost use Rattle.mirror.specs.declared.messages.MirrorMsg.TheVariants as mirror;
 ghost use Rattle.raft_types.specs.declared.msg.RaftMsg.TheVariants as message;
 ghost use Rattle.vst_base.specs.declared.what.What.TheVariants as what;
 ghost use Rattle.wire_fields.specs.Fields.{key};
@@ -8,6 +9,7 @@ ghost use Rattle.wire_fields.specs.Formats.{listed};
 ghost use Rattle.wire_messages.specs.EntryBytes.{entry, entry_of, old_entry};
 ghost use Rattle.wire_messages.specs.Examples.{one, put_asked, zero_of_four, zero_of_eight};
 ghost use Rattle.wire_messages.specs.KvBytes.{kv_command};
+ghost use Rattle.wire_messages.specs.PeerBytes.{mirror_message, numbered};
 ghost use Rattle.wire_messages.specs.RaftBytes.{append_of, raft_message};
 ghost use Rattle.wire_messages.specs.TableBytes.{table_command};
 ghost use Rattle.wire_messages.specs.Wires.{read_whole};
@@ -19,7 +21,8 @@ pub fn worked_entries()
     ensures reads_old { (old_entry kv_command).read (one ++ put_asked)
         ≡ Some (entry_of 1 (what.Request 7 1 0 (command.Put (codes "a") (codes "x"))), []) }
     ensures no_old_no_op { (old_entry kv_command).Fits (entry_of 1 what.Noop) → ⊥ }
-    ensures new { (entry kv_command).spell (entry_of 1 (what.Request 7 1 0 (command.Put (codes "a") (codes "x")))) ≡ one ++ (1 ∷ put_asked) }
+    ensures new { (entry kv_command).spell (entry_of 1 (what.Request 7 1 0 (command.Put (codes "a") (codes "x"))))
+        ≡ one ++ (1 ∷ put_asked) }
     ensures no_op { (entry kv_command).spell (entry_of 1 what.Noop) ≡ one ++ (0 ∷ []) }
     ensures sent { (raft_message kv_command).spell (message.Append (append_of 1 0 0 0 (entry_of 1 what.Noop ∷ [])))
         ≡ 3 ∷ (one ++ (zero_of_four ++ (zero_of_eight ++ (zero_of_four ++ (1 ∷ (one ++ (0 ∷ []))))))) }
@@ -32,4 +35,17 @@ pub fn worked_lists()
     ensures one_key_of_two { (listed key 2).read (1 ∷ 97 ∷ []) ≡ None }
     ensures whole { read_whole table_command (3 ∷ 1 ∷ 108 ∷ []) ≡ Some (table.Holder (codes "l")) }
     ensures a_byte_after { read_whole table_command (3 ∷ 1 ∷ 108 ∷ 0 ∷ []) ≡ None }
+{}
+
+/// A message of the mirror: the byte 1, and a value, alone and behind its number.
+#[tactic(auto, unfolding(wire_fields::specs::Bytes::number_bytes, wire_fields::specs::Bytes::number_in, wire_fields::specs::Bytes::has_bytes, wire_fields::specs::Bytes::read_number))]
+pub fn worked_items()
+    ensures item { mirror_message.spell (mirror.Item (codes "a")) ≡ 1 ∷ 0 ∷ 1 ∷ 97 ∷ [] }
+    ensures reads_item { mirror_message.read (1 ∷ 0 ∷ 1 ∷ 97 ∷ []) ≡ Some (mirror.Item (codes "a"), []) }
+    ensures no_item_0 { mirror_message.read (0 ∷ 0 ∷ 1 ∷ 97 ∷ []) ≡ None }
+    ensures no_item_2 { mirror_message.read (2 ∷ 0 ∷ 1 ∷ 97 ∷ []) ≡ None }
+    ensures no_value { mirror_message.read (1 ∷ 0 ∷ 0 ∷ []) ≡ None }
+    ensures a_byte_after { read_whole mirror_message (1 ∷ 0 ∷ 1 ∷ 97 ∷ 0 ∷ []) ≡ None }
+    ensures numbered { (numbered mirror_message).spell (record { number = 1; inner = mirror.Item (codes "a") })
+        ≡ one ++ (1 ∷ 0 ∷ 1 ∷ 97 ∷ []) }
 {}

@@ -13,4 +13,6 @@ pub mod Sending
 pub mod LockDealLaws
 pub mod BackupDealLaws
 pub mod NumberedDealLaws
+pub mod MirrorDealLaws
+pub mod FifoDealLaws
 pub mod Examples

@@ -1,13 +1,20 @@
 -- What the messages and the states of handlers whose nodes never stop keep to, so that all that they send has bytes.
-use Rattle.std.specs.Prelude.{ℕ, ◌*◌, ◌≤◌, IfSome}
+use Rattle.std.specs.Prelude.{◌≡◌, ℕ, ◌*◌, ◌≤◌, Some, IfSome}
+use Rattle.std.specs.FinMap as map
 use Rattle.std.specs.List.{All}
+use Rattle.fifo_xform.specs.Fifo.{FifoState}
+use Rattle.fifo_xform.specs.Peers.{Peers, numbered_packets, peer_of}
+use Rattle.mirror.specs.declared.messages.MirrorInput.{MirrorInput}
+use Rattle.mirror.specs.declared.messages.MirrorInput.TheVariants as ask
+use Rattle.mirror.specs.declared.messages.MirrorMsg.{MirrorMsg}
 use Rattle.primary_backup.specs.Backup.{Backed}
 use Rattle.seqnum_xform.specs.Numbering.{Numbered}
 use Rattle.vst_base.specs.declared.lock.LockMsg.{LockMsg}
 use Rattle.vst_base.specs.declared.pb_msg.PbMsg.{PbMsg}
 use Rattle.vst_base.specs.declared.seq.SeqMsg.{SeqMsg}
+use Rattle.wire_fields.specs.Fields.{value}
 use Rattle.wire_fields.specs.Formats.{Format}
-use Rattle.wire_messages.specs.PeerBytes.{backup_message}
+use Rattle.wire_messages.specs.PeerBytes.{backup_message, mirror_message}
 
 -- any message of a lock server
 abbrev pub Any : ℕ → ℕ → LockMsg → Type 0
@@ -28,3 +35,21 @@ HasNumbered Has from to x = Has from to x.inner × (x.number ≤ 8000000)
 -- a node has used up at most eight numbers a step
 abbrev pub GoodNumbered : {S : Type 0} → (ℕ → ℕ → S → Type 0) → ℕ → ℕ → Numbered S → Type 0
 GoodNumbered Good t n s = Good t n s.inner × (s.next ≤ 8 * t)
+
+-- an input of the mirror whose value has bytes
+abbrev pub HasPut : MirrorInput → Type 0
+HasPut (ask.Put v) = value.Fits v
+
+-- a message of the mirror whose value has bytes
+abbrev pub HasMirror : ℕ → ℕ → MirrorMsg → Type 0
+HasMirror from to x = mirror_message.Fits x
+
+-- what a node holds back of each node keeps to what messages from there do
+abbrev pub HeldKeepTo : {M : Type 0} → (ℕ → ℕ → M → Type 0) → ℕ → Peers M → Type 0
+HeldKeepTo {M} Has n ps = (from number : ℕ) (content : M) → map.get (peer_of ps from).held number ≡ Some content → Has from n content
+
+-- a node has numbered at most eight packets a step, and what it holds back may be given to the handlers within
+pub record GoodFifo {S M : Type 0} (Has : ℕ → ℕ → M → Type 0) (Good : ℕ → ℕ → S → Type 0) (t n : ℕ) (s : FifoState S M) : Type 0 where
+  pub within : Good t n s.inner
+  pub numbers : numbered_packets s.peers ≤ 8 * t
+  pub held : HeldKeepTo Has n s.peers

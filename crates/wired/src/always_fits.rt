@@ -26,7 +26,7 @@ fn key_fits(token: &Key)
 }
 
 // A value has bytes.
-fn value_fits(token: &Value)
+pub(crate) fn value_fits(token: &Value)
     ensures { value.Fits token.now }
 {
     token.as_bytes();

@@ -2,15 +2,21 @@ ghost use Rattle.std.specs.Prelude.{ℕ, ◌+◌, ◌≤◌, length};
 ghost use Rattle.lock_server.specs.Locks.{IsSound};
 ghost use Rattle.net_semantics.specs.Runs.{no_recovery};
 ghost use Rattle.node_body.specs.declared.commands.TheConstants.{MAX_COMMAND};
+ghost use Rattle.vst_base.specs.declared.token.TheConstants.{MAX_VALUE};
 ghost use Rattle.wired.specs.BackupDealLaws.{backup_deals, backup_fits};
 ghost use Rattle.wired.specs.Dealing.{DealsInBytes, nothing_saved};
+ghost use Rattle.wired.specs.FifoDealLaws.{fifo_deals};
 ghost use Rattle.wired.specs.LockDealLaws.{lock_deals, lock_fits};
+ghost use Rattle.wired.specs.MirrorDealLaws.{mirror_deals, mirror_fits};
 ghost use Rattle.wired.specs.NumberedDealLaws.{numbered_deals, numbered_fits};
-ghost use Rattle.wired.specs.Sending.{Any, GoodBackup, GoodNumbered, HasBackup, HasNumbered};
+ghost use Rattle.wired.specs.Sending.{Any, GoodBackup, GoodFifo, GoodNumbered, HasBackup, HasMirror, HasNumbered, HasPut};
 
 use crate::AlwaysFits;
+use crate::always_fits::value_fits;
+use fifo_xform::Fifo;
 use handler_trait::Handlers;
 use lock_server::LockServer;
+use mirror::{Mirror, MirrorInput};
 use primary_backup::PrimaryBackup;
 use seqnum_xform::SeqNum;
 use vst_base::{LockInput, Machine};
@@ -79,6 +85,26 @@ where
     ghost deals = { λ p. backup_deals M.Cmd.format (M.meaning p) };
 }
 
+impl OnWire for Mirror {
+    ghost has_bytes = { HasPut };
+
+    ghost sends = { HasMirror };
+
+    ghost good = { λ _ _ _ _. Unit {0} };
+
+    ghost longest = { MAX_VALUE + 3 };
+
+    fn has_bytes(input: &MirrorInput) {
+        match input {
+            MirrorInput::Put(value) => value_fits(value),
+        }
+    }
+
+    ghost fits = { mirror_fits };
+
+    ghost deals = { mirror_deals };
+}
+
 impl<H: OnWire> OnWire for SeqNum<H> {
     ghost has_bytes = { H.has_bytes };
 
@@ -95,4 +121,22 @@ impl<H: OnWire> OnWire for SeqNum<H> {
     ghost fits = { numbered_fits H.sends H.Msg.format H.longest H.fits };
 
     ghost deals = { λ h. numbered_deals H.sends H.has_bytes (H.meaning h) (H.good h) (H.deals h) };
+}
+
+impl<H: OnWire> OnWire for Fifo<H> {
+    ghost has_bytes = { H.has_bytes };
+
+    ghost sends = { HasNumbered H.sends };
+
+    ghost good = { λ h. GoodFifo H.sends (H.good h) };
+
+    ghost longest = { H.longest + 8 };
+
+    fn has_bytes(input: &H::Input) {
+        H::has_bytes(input);
+    }
+
+    ghost fits = { numbered_fits H.sends H.Msg.format H.longest H.fits };
+
+    ghost deals = { λ h. fifo_deals H.sends H.has_bytes (H.meaning h) (H.good h) (H.deals h) };
 }

@@ -1,7 +1,9 @@
 ghost use Rattle.std.specs.Prelude.{ℕ, ◌≤◌};
+ghost use Rattle.fifo_xform.specs.Fifo.{fifo};
 ghost use Rattle.kv_machine.specs.declared.cmd.KvCmd.{KvCmd as SpecKvCmd};
 ghost use Rattle.lock_server.specs.Locks.{lock_server};
 ghost use Rattle.lock_table.specs.declared.cmd.TableCmd.{TableCmd as SpecTableCmd};
+ghost use Rattle.mirror.specs.Mirroring.{mirror};
 ghost use Rattle.primary_backup.specs.Backup.{primary_backup};
 ghost use Rattle.raft_types.specs.Messages.{IsClusterSize};
 ghost use Rattle.raft_xform.specs.Raft.{raft, raft_recovery};
@@ -9,16 +11,19 @@ ghost use Rattle.seqnum_xform.specs.Numbering.{sequence_numbered};
 ghost use Rattle.vst_base.specs.Machines.{MachineMeaning};
 ghost use Rattle.vst_base.specs.declared.stack.StackId.TheVariants as stack;
 ghost use Rattle.wire_messages.specs.KvBytes.{kv_command};
-ghost use Rattle.wire_messages.specs.PeerBytes.{backup_message, lock_message, numbered};
+ghost use Rattle.wire_messages.specs.PeerBytes.{backup_message, lock_message, mirror_message, numbered};
 ghost use Rattle.wire_messages.specs.RaftBytes.{raft_message};
 ghost use Rattle.wire_messages.specs.TableBytes.{table_command};
 ghost use Rattle.wired.specs.RaftSaving.{IsAsked, raft_saving};
+ghost use Rattle.wired.specs.Sending.{HasPut};
 ghost use Rattle.wired.specs.StackRuns.{RunsAsBytes, RunsOnBytesAlone};
 
 use crate::{clusters_run_the_same_on_bytes_alone, runs_as_bytes};
+use fifo_xform::Fifo;
 use kv_machine::KvCmd;
 use lock_server::LockServer;
 use lock_table::TableCmd;
+use mirror::Mirror;
 use seqnum_xform::SeqNum;
 
 /// The stacks whose nodes never stop: with packets that are bytes each refuses what it refuses with messages, and clients see the
@@ -34,9 +39,13 @@ pub fn worked_stacks<S, O>()
     ensures table_pb_seq { (m : MachineMeaning S SpecTableCmd O)
         → RunsAsBytes (numbered (backup_message table_command)) stack.TablePbSeq table_command.Fits
         (sequence_numbered (primary_backup m)) }
+    ensures mirror { (nodes : ℕ) → nodes ≤ 9 → RunsAsBytes mirror_message stack.Mirror HasPut (mirror nodes) }
+    ensures mirror_fifo { (nodes : ℕ) → nodes ≤ 9 → RunsAsBytes (numbered mirror_message) stack.MirrorFifo HasPut (fifo (mirror nodes)) }
 {
     runs_as_bytes::<LockServer>();
     runs_as_bytes::<SeqNum<LockServer>>();
+    runs_as_bytes::<Mirror>();
+    runs_as_bytes::<Fifo<Mirror>>();
 }
 
 /// The stacks whose nodes stop and start again: on bytes alone, in packets and in what is kept, each refuses what it refuses with

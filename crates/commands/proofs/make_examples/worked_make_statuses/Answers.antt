@@ -1,4 +1,5 @@
 -- These print numbers, whose digits have to be computed.
+use Rattle.schedule_text.specs.Headers.{header_of}
 use Rattle.std.proofs.Common.{◌≡◌, ℕ, zero, suc, List, Option, None, Some, ap, arith, codes, inl, lit≤, refl}
 use Rattle.std.specs.Prelude.{get_or, length, take}
 use Rattle.std.specs.Fmt.{digits}
@@ -20,7 +21,7 @@ written_first None = 0
 written_first (Some bytes) = get_or bytes 0 0
 
 pub returns-clause-made : goal.returns-clause-made
-unfolding digits
+unfolding digits header_of
 returns-clause-made c = record {
   ended = tt;
   status = refl;
@@ -35,15 +36,15 @@ returns-clause-made c = record {
 }
 
 pub returns-clause-a_step_missing : goal.returns-clause-a_step_missing
-unfolding digits
+unfolding digits header_of
 returns-clause-a_step_missing c = λ h. let e : 22 ≡ 29 = ap written_length h.out in omega (arith, e)
 
 pub returns-clause-summarized_as_a_text : goal.returns-clause-summarized_as_a_text
-unfolding digits
+unfolding digits header_of
 returns-clause-summarized_as_a_text c = λ h. let e : 115 ≡ 101 = ap written_first h.out in omega (arith, e)
 
 pub returns-clause-write : goal.returns-clause-write
-unfolding digits
+unfolding digits header_of
 returns-clause-write c = record {
   front = record { out = (3, refl); verdict = tt; kept_up = tt };
   failed = inl (record { rose = lit≤ tt; wants = refl; reads = refl; err = refl });
@@ -54,11 +55,11 @@ another zero e = let d : 4 ≡ 0 = ap written_length e in omega (arith, d)
 another (suc n) e = let d : 116 ≡ 115 = ap written_first e in omega (arith, d)
 
 pub returns-clause-write_of_another_text : goal.returns-clause-write_of_another_text
-unfolding digits
+unfolding digits header_of
 returns-clause-write_of_another_text c = λ h. another h.front.out.0 h.front.out.1
 
 pub returns-clause-memory : goal.returns-clause-memory
-unfolding digits
+unfolding digits header_of
 returns-clause-memory c = record {
   front = record { out = (3, refl); verdict = tt; kept_up = tt };
   writes = refl;

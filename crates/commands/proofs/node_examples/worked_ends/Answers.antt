@@ -1,4 +1,5 @@
 -- The line of the turns has a number in it, whose digits have to be computed.
+use Rattle.schedule_text.specs.Headers.{header_of}
 use Rattle.std.proofs.Common.{◌≡◌, ℕ, inl, inr, ap, arith, refl}
 use Rattle.std.specs.Fmt.{digits}
 use Rattle.node_device.specs.Examples.{node_at}
@@ -9,7 +10,7 @@ use Rattle.commands.proofs.NodeSilent.{configured, served, sized}
 use Rattle.commands.proofs.node_examples.worked_ends.Goals as goal
 
 pub returns-clause-done : goal.returns-clause-done
-unfolding digits
+unfolding digits header_of
 returns-clause-done c = record {
   served = served _ _ (record { begin = refl; receive = refl; store = refl; send = omega arith });
   out = refl;
@@ -18,7 +19,7 @@ returns-clause-done c = record {
 }
 
 pub returns-clause-done_without_the_line : goal.returns-clause-done_without_the_line
-unfolding digits
+unfolding digits header_of
 returns-clause-done_without_the_line c = λ h. let e : ◌≡◌ {A = ℕ} 0 8 = ap sized h.out in omega (arith, e)
 
 pub returns-clause-done_after_a_failed_write : goal.returns-clause-done_after_a_failed_write

@@ -1,4 +1,5 @@
 -- These print numbers, whose digits have to be computed.
+use Rattle.schedule_text.specs.Headers.{header_of}
 use Rattle.std.proofs.Common.{arith, codes, inl, inr, lit≤, refl, sym, ◌∙◌, ap, ◌≡◌, Some, []}
 use Rattle.std.specs.Prelude.{slice_index}
 use Rattle.std.specs.Fmt.{digits}
@@ -15,7 +16,7 @@ pub returns-clause-usage : goal.returns-clause-usage
 returns-clause-usage c = record { saying = complaint.Words; cause = refl; hides = record { reads = inl refl; writes = refl; wants = inl refl }; line_is = refl }
 
 pub returns-clause-refused_line : goal.returns-clause-refused_line
-unfolding digits
+unfolding digits header_of
 returns-clause-refused_line c = record {
   saying = complaint.Line 2 why.NoCopy;
   cause = (refl, record { status = refl; line = refl });
@@ -24,7 +25,7 @@ returns-clause-refused_line c = record {
 }
 
 pub returns-clause-condition : goal.returns-clause-condition
-unfolding digits
+unfolding digits header_of
 returns-clause-condition c = record {
   saying = complaint.Condition 5 1;
   cause = (refl, record { status = refl; line = refl });
@@ -65,7 +66,7 @@ returns-clause-saying_for_a_failed_read c = record {
 
 -- the only refused line is that of the answer
 another : (c : Complaint) → HasCause (Some command.Replay) (quiet_run (codes "schedule 1 bag lock 2\ndeliver 7\n") [] [] []) c → codes "line 1: no copy\n" ≡ line_of c → ⊥
-unfolding digits
+unfolding digits header_of
 another (complaint.Condition condition line) cause is = cc (cause.0)
 another complaint.Words cause is = cc cause
 another (complaint.Line line w) cause is =

@@ -1,4 +1,5 @@
 -- These print numbers, whose digits have to be computed.
+use Rattle.schedule_text.specs.Headers.{header_of}
 use Rattle.std.proofs.Common.{◌≡◌, ◌++◌, ◌∙◌, ap, arith, codes, inl, inr, lit≤, refl, ℕ, List, [], Option, Some}
 use Rattle.std.specs.Fmt.{digits}
 use Rattle.line_reader.specs.declared.why.Why.TheVariants as why
@@ -18,7 +19,7 @@ nothing : {written written' : Option (List ℕ)} → CountsNothing (record { wri
 nothing = record { faults = refl; wants = refl }
 
 pub returns-clause-replayed : goal.returns-clause-replayed
-unfolding digits
+unfolding digits header_of
 returns-clause-replayed c =
     let bytes = codes "schedule 1 bag lock 2\n" in
     record {
@@ -32,7 +33,7 @@ returns-clause-replayed c =
     }
 
 pub returns-clause-permitted : goal.returns-clause-permitted
-unfolding digits
+unfolding digits header_of
 returns-clause-permitted c = record {
   ended = refl;
   status = refl;
@@ -44,7 +45,7 @@ returns-clause-permitted c = record {
 }
 
 pub returns-clause-denied : goal.returns-clause-denied
-unfolding digits
+unfolding digits header_of
 returns-clause-denied c = record {
   condition = 5;
   line = 1;
@@ -68,7 +69,7 @@ returns-clause-words c = record {
 }
 
 pub returns-clause-refused : goal.returns-clause-refused
-unfolding digits
+unfolding digits header_of
 returns-clause-refused c = record {
   line = 2;
   why = why.NoCopy;
@@ -83,7 +84,7 @@ returns-clause-refused c = record {
 }
 
 pub returns-clause-read : goal.returns-clause-read
-unfolding digits
+unfolding digits header_of
 returns-clause-read c = record {
   reading = refl;
   rose = lit≤ tt;
@@ -100,14 +101,14 @@ returns-clause-read c = record {
 }
 
 pub returns-clause-write : goal.returns-clause-write
-unfolding digits
+unfolding digits header_of
 returns-clause-write c = record {
   front = record { out = (3, refl); verdict = (3, refl); kept_up = tt };
   failed = inl (record { rose = lit≤ tt; wants = refl; reads = refl; err = refl });
 }
 
 pub returns-clause-write_of_a_line : goal.returns-clause-write_of_a_line
-unfolding digits
+unfolding digits header_of
 returns-clause-write_of_a_line c = record {
   front = record { out = (0, refl); verdict = tt; kept_up = kept-few (codes "schedule 1 bag lock 2\ndeliver 7\n") [] (lit≤ tt) };
   failed = inr (record {
@@ -127,7 +128,7 @@ returns-clause-write_of_a_line c = record {
 }
 
 pub returns-clause-memory : goal.returns-clause-memory
-unfolding digits
+unfolding digits header_of
 returns-clause-memory c = record {
   front = record { out = (3, refl); verdict = tt; kept_up = kept-few (codes "schedule 1 bag lock 2\n") (codes "bel") (lit≤ tt) };
   writes = refl;
@@ -136,7 +137,7 @@ returns-clause-memory c = record {
 }
 
 pub returns-clause-memory_of_the_error_stream : goal.returns-clause-memory_of_the_error_stream
-unfolding digits
+unfolding digits header_of
 returns-clause-memory_of_the_error_stream c = record {
   front = record { out = (0, refl); verdict = tt; kept_up = kept-few (codes "schedule 1 bag lock 2\n") [] (lit≤ tt) };
   writes = refl;
@@ -153,7 +154,7 @@ returns-clause-memory_of_the_error_stream c = record {
 
 -- a read failed at the end of this input
 pub returns-clause-memory_while_it_said_read : goal.returns-clause-memory_while_it_said_read
-unfolding digits
+unfolding digits header_of
 returns-clause-memory_while_it_said_read c = record {
   front = record { out = (0, refl); verdict = tt; kept_up = kept-few (codes "schedule 1 bag lock 2\n") [] (lit≤ tt) };
   writes = refl;

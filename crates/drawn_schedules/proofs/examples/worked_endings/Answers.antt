@@ -1,4 +1,5 @@
 -- These print the number of a line, whose digits have to be computed.
+use Rattle.schedule_text.specs.Headers.{header_of}
 use Rattle.std.proofs.Common.{◌≡◌, ◌∙◌, ap, arith, codes, inl, inr, refl, sym, ℕ, List, [], Option, None, Some}
 use Rattle.std.specs.Prelude.{slice_index, unwrap_or}
 use Rattle.std.specs.Fmt.{digits}
@@ -11,7 +12,7 @@ use Rattle.drawn_schedules.specs.Examples.{refused_text}
 use Rattle.drawn_schedules.proofs.examples.worked_endings.Goals as goal
 
 pub returns-clause-refused : goal.returns-clause-refused
-unfolding digits
+unfolding digits header_of
 returns-clause-refused c = inr (inl (
   refl,
   record {
@@ -34,7 +35,7 @@ line_of (Some r) = refusal_line r.0 r.1
 
 -- the line that was said has the digit 2 where that of the refusal has 3
 another : EndsAs (quiet_run refused_text [] [] (codes "line 2: no copy\n")) 3 → ⊥
-unfolding digits
+unfolding digits header_of
 another (inl p) = let e : 3 ≡ 0 = p.0 in omega (arith, e)
 another (inr (inl p)) =
     let r = p.1 in

@@ -14,3 +14,11 @@ returns-clause-one_step c = refl
 pub returns-clause-ten_steps : goal.returns-clause-ten_steps
 unfolding digits
 returns-clause-ten_steps c = refl
+
+pub returns-clause-none_out_of_turn : goal.returns-clause-none_out_of_turn
+unfolding digits
+returns-clause-none_out_of_turn c = refl
+
+pub returns-clause-in_any_order : goal.returns-clause-in_any_order
+unfolding digits
+returns-clause-in_any_order c = refl

@@ -1,9 +1,12 @@
 use Rattle.made_schedules.proofs.RaftSends.{raft-few}
-use Rattle.made_schedules.proofs.Sends.{backup-few, lock-few, numbered-few}
+use Rattle.made_schedules.proofs.Sends.{backup-few, fifo-few, lock-few, mirror-few, numbered-few}
 use Rattle.made_schedules.proofs.few.events_send_few.Goals as goal
 
 pub returns-clause-lock : goal.returns-clause-lock
 returns-clause-lock g c = lock-few
+
+pub returns-clause-mirror : goal.returns-clause-mirror
+returns-clause-mirror g c = mirror-few
 
 pub returns-clause-backup : goal.returns-clause-backup
 returns-clause-backup g c = λ m. backup-few m
@@ -13,3 +16,6 @@ returns-clause-raft g c = λ nodes m most. raft-few nodes m most
 
 pub returns-clause-numbered : goal.returns-clause-numbered
 returns-clause-numbered g c = λ m few. numbered-few m few
+
+pub returns-clause-ordered : goal.returns-clause-ordered
+returns-clause-ordered g c = λ m few. fifo-few m few

@@ -1,8 +1,11 @@
-use Rattle.made_schedules.proofs.Texts.{kv-texts, lock-texts, of-clients, of-commands, table-texts}
+use Rattle.made_schedules.proofs.Texts.{kv-texts, lock-texts, mirror-texts, of-clients, of-commands, table-texts}
 use Rattle.made_schedules.proofs.lines.made_inputs_have_texts.Goals as goal
 
 pub returns-clause-lock : goal.returns-clause-lock
 returns-clause-lock c = lock-texts
+
+pub returns-clause-mirror : goal.returns-clause-mirror
+returns-clause-mirror c = mirror-texts
 
 pub returns-clause-kv : goal.returns-clause-kv
 returns-clause-kv c = of-commands kv-texts

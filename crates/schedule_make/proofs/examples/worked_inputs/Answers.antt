@@ -30,3 +30,15 @@ returns-clause-acquire c = refl
 pub returns-clause-holder : goal.returns-clause-holder
 unfolding digits
 returns-clause-holder c = refl
+
+pub returns-clause-put_for_the_mirror : goal.returns-clause-put_for_the_mirror
+unfolding digits
+returns-clause-put_for_the_mirror c = refl
+
+pub returns-clause-of_any_word : goal.returns-clause-of_any_word
+unfolding digits
+returns-clause-of_any_word c = refl
+
+pub returns-clause-of_a_later_place : goal.returns-clause-of_a_later_place
+unfolding digits
+returns-clause-of_a_later_place c = refl

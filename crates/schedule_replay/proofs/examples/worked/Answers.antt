@@ -7,6 +7,10 @@ use Rattle.std.specs.Fmt.{digits}
 use Rattle.kv_machine.specs.declared.cmd.KvCmd.{KvCmd}
 use Rattle.kv_machine.specs.declared.cmd.KvCmd.TheVariants as cmd
 use Rattle.kv_machine.specs.declared.out.KvOut.{KvOut}
+use Rattle.mirror.specs.declared.messages.MirrorInput.{MirrorInput}
+use Rattle.mirror.specs.declared.messages.MirrorInput.TheVariants as mirrored
+use Rattle.mirror.specs.declared.messages.MirrorOutput.{MirrorOutput}
+use Rattle.mirror.specs.declared.messages.MirrorOutput.TheVariants as from
 use Rattle.net_semantics.specs.BelowPb.{below_pb}
 use Rattle.trace_maps.specs.SingleNode.{alone}
 use Rattle.vst_base.specs.declared.pb_out.PbOut.{PbOut}
@@ -18,35 +22,37 @@ use Rattle.vst_base.specs.declared.lock.LockOutput.{LockOutput}
 use Rattle.vst_base.specs.declared.lock.LockOutput.TheVariants as told
 use Rattle.vst_base.specs.declared.step.Item.TheVariants as item
 use Rattle.vst_base.specs.declared.step.Step.TheVariants as step
+use Rattle.schedule_text.specs.Headers.{header_of}
 use Rattle.schedule_text.specs.Schedules.{Script}
 use Rattle.schedule_replay.specs.Explained.{steps_of}
 use Rattle.transformers.specs.Numbering.{numbering}
+use Rattle.transformers.specs.Ordering.{ordering}
 use Rattle.stacks.specs.Kinds.{Alone, Backed, Own, Through, service, service_play}
 use Rattle.stacks.specs.Plays.{Play}
-use Rattle.stacks.specs.Table.{locks, store}
+use Rattle.stacks.specs.Table.{locks, mirrors, store}
 use Rattle.vst_base.specs.declared.step.Step.{Step}
 use Rattle.schedule_replay.proofs.Wholly.{whole-out, whole-out-by}
 use Rattle.number_set.specs.NumberSetLaws.{set_tests}
 use Rattle.schedule_replay.proofs.examples.worked.Goals as goal
 
 pub returns-clause-handed_over : goal.returns-clause-handed_over
-unfolding digits
+unfolding digits header_of
 returns-clause-handed_over c = refl
 
 pub returns-clause-nothing_happens : goal.returns-clause-nothing_happens
-unfolding digits
+unfolding digits header_of
 returns-clause-nothing_happens c = refl
 
 pub returns-clause-trace_before_it : goal.returns-clause-trace_before_it
-unfolding digits
+unfolding digits header_of
 returns-clause-trace_before_it c = refl
 
 pub returns-clause-waits : goal.returns-clause-waits
-unfolding digits
+unfolding digits header_of
 returns-clause-waits c = refl
 
 pub returns-clause-overtakes : goal.returns-clause-overtakes
-unfolding digits
+unfolding digits header_of
 returns-clause-overtakes c = refl
 
 -- what a store has at a key
@@ -55,19 +61,19 @@ ruleset lookups = (get-empty, get-insert, get-remove, nat_list_cmp_total)
 ruleset lookups_and_sets = (get-empty, get-insert, get-remove, nat_list_cmp_total, set_tests)
 
 pub returns-clause-acknowledged : goal.returns-clause-acknowledged
-unfolding digits
+unfolding digits header_of
 returns-clause-acknowledged c = simp lookups
 
 pub returns-clause-a_table_at_once : goal.returns-clause-a_table_at_once
-unfolding digits
+unfolding digits header_of
 returns-clause-a_table_at_once c = simp lookups
 
 pub returns-clause-a_table_acknowledged : goal.returns-clause-a_table_acknowledged
-unfolding digits
+unfolding digits header_of
 returns-clause-a_table_acknowledged c = simp lookups_and_sets
 
 pub returns-clause-broken_off : goal.returns-clause-broken_off
-unfolding digits
+unfolding digits header_of
 returns-clause-broken_off c = refl
 
 -- a packet that is copied, and the second copy delivered last
@@ -87,7 +93,7 @@ copied-trace : copied_stack.trace (steps_of copied_script) ≡ item.Input 1 ask.
 copied-trace = simp set_tests
 
 pub returns-clause-copied : goal.returns-clause-copied
-unfolding digits
+unfolding digits header_of
 returns-clause-copied c = whole-out copied_stack copied_script refl copied-allowed (item.Input 1 ask.Lock ∷ item.Output 1 told.Locked ∷ []) copied-trace
 
 -- a packet that was sent later is delivered first
@@ -110,11 +116,11 @@ late-trace : copied_stack.trace (steps_of late_script) ≡ late_items
 late-trace = simp set_tests
 
 pub returns-clause-late_first_delivery : goal.returns-clause-late_first_delivery
-unfolding digits
+unfolding digits header_of
 returns-clause-late_first_delivery c = whole-out copied_stack late_script refl late-allowed late_items late-trace
 
 pub returns-clause-equal_numbers : goal.returns-clause-equal_numbers
-unfolding digits
+unfolding digits header_of
 returns-clause-equal_numbers c = simp set_tests
 
 -- an acknowledgement that is copied, and both copies delivered
@@ -142,7 +148,7 @@ acked-trace : acked_stack.trace (steps_of acked_script) ≡ acked_items
 acked-trace = simp lookups_and_sets
 
 pub returns-clause-acknowledged_twice : goal.returns-clause-acknowledged_twice
-unfolding digits
+unfolding digits header_of
 returns-clause-acknowledged_twice c = whole-out-by acked_stack acked_script refl acked-allowed (λ items. alone (below_pb items)) refl acked_items acked-trace
 
 -- each command of a machine alone is answered at once
@@ -173,31 +179,66 @@ alone-trace : alone_stack.trace (steps_of alone_script) ≡ alone_items
 alone-trace = simp lookups
 
 pub returns-clause-at_once : goal.returns-clause-at_once
-unfolding digits
+unfolding digits header_of
 returns-clause-at_once c = whole-out alone_stack alone_script refl alone-allowed alone_items alone-trace
 
 -- and of sessions, by the numbers of clients
 ruleset lookups_and_sessions = (get-empty, get-insert, get-remove, nat_list_cmp_total, nat_cmp_total)
 
+-- of two values the second comes first, and is held until a tick: what is held of a sender is by number too
+abbrev held_script : Script MirrorInput
+held_script = record {
+  steps =
+      (2, step.In 1 (mirrored.Put (codes "a"))) ∷ (3, step.In 1 (mirrored.Put (codes "b"))) ∷ (4, step.Deliver 1) ∷ (5, step.Deliver 0)
+      ∷ (6, step.Tick 0) ∷ [];
+  fault = None;
+}
+
+abbrev held_stack : Play MirrorInput MirrorOutput (Step MirrorInput)
+held_stack = service_play (service (Through ordering (Own mirrors))) 2
+
+held-allowed : held_stack.refused (steps_of held_script) ≡ None
+held-allowed = refl
+
+abbrev held_items : List (Item MirrorInput MirrorOutput)
+held_items =
+    item.Input 1 (mirrored.Put (codes "a")) ∷ item.Input 1 (mirrored.Put (codes "b")) ∷ item.Output 0 (from.From 1 (codes "a"))
+    ∷ item.Output 0 (from.From 1 (codes "b")) ∷ []
+
+held-trace : held_stack.trace (steps_of held_script) ≡ held_items
+held-trace = simp lookups_and_sessions
+
+abbrev held_image : List (Step MirrorInput)
+held_image =
+    step.In 1 (mirrored.Put (codes "a")) ∷ step.In 1 (mirrored.Put (codes "b")) ∷ step.Deliver 0 ∷ step.Deliver 1 ∷ []
+
+held-image : held_stack.image (steps_of held_script) ≡ held_image
+held-image = simp lookups_and_sessions
+
+pub returns-clause-held_until_a_tick : goal.returns-clause-held_until_a_tick
+unfolding digits header_of
+returns-clause-held_until_a_tick c = whole-out-by held_stack held_script refl held-allowed (λ _. held_image) held-image held_items held-trace
+
 pub returns-clause-one_node_cluster : goal.returns-clause-one_node_cluster
-unfolding digits
+unfolding digits header_of
 returns-clause-one_node_cluster c = simp lookups_and_sessions
 
 pub returns-clause-a_table_on_a_cluster : goal.returns-clause-a_table_on_a_cluster
-unfolding digits
+unfolding digits header_of
 returns-clause-a_table_on_a_cluster c = simp lookups_and_sessions
 
 pub returns-clause-asked_again : goal.returns-clause-asked_again
-unfolding digits
+unfolding digits header_of
 returns-clause-asked_again c = simp lookups_and_sessions
 
 pub returns-clause-a_vote_outlives_a_reboot : goal.returns-clause-a_vote_outlives_a_reboot
-unfolding digits
+unfolding digits header_of
 returns-clause-a_vote_outlives_a_reboot c = refl
 
 pub returns-clause-one_node_cluster_counted : goal.returns-clause-one_node_cluster_counted
+unfolding header_of
 returns-clause-one_node_cluster_counted c = simp lookups_and_sessions
 
 pub returns-clause-the_trace_before_that_line : goal.returns-clause-the_trace_before_that_line
-unfolding digits
+unfolding digits header_of
 returns-clause-the_trace_before_that_line c = refl

@@ -1,4 +1,5 @@
 -- These print numbers, whose digits have to be computed.
+use Rattle.schedule_text.specs.Headers.{header_of}
 use Rattle.std.proofs.Common.{◌≡◌, ℕ, ap, arith, refl}
 use Rattle.std.specs.Fmt.{digits}
 use Rattle.vst_base.specs.declared.lock.LockInput.{LockInput}
@@ -20,11 +21,11 @@ pub returns-clause-nothing_is_written_while_it_waits : goal.returns-clause-nothi
 returns-clause-nothing_is_written_while_it_waits c = λ v n w. cc (w.nothing)
 
 pub returns-clause-writes : goal.returns-clause-writes
-unfolding digits
+unfolding digits header_of
 returns-clause-writes c = record { written = refl; forgets = refl; stays = λ ss had. had; counted = refl }
 
 pub returns-clause-not_without_its_text : goal.returns-clause-not_without_its_text
-unfolding digits
+unfolding digits header_of
 returns-clause-not_without_its_text c = λ w. cc (w.written)
 
 pub returns-clause-not_uncleared : goal.returns-clause-not_uncleared

@@ -1,4 +1,5 @@
 -- What a replay of one input keeps up with.
+use Rattle.schedule_text.specs.Headers.{header_of}
 use Rattle.std.proofs.Common.{◌≡◌, ℕ, List, [], ◌∷◌, ◌++◌, codes, length, Option, Some, refl, sym, ap, ◌∙◌, arith, append_assoc}
 use Rattle.std.proofs.lemmas.List.{append-nil, append_cancel_right}
 use Rattle.std.specs.Fmt.{digits}
@@ -24,7 +25,7 @@ returns-clause-ahead_of_a_buffer c = record {
 }
 
 pub returns-clause-more_than_a_buffer : goal.returns-clause-more_than_a_buffer
-unfolding digits
+unfolding digits header_of
 returns-clause-more_than_a_buffer c = record {
   early = one_input;
   past = record { late = hashes 4096; others = []; left_is = refl; whole = ap (λ xs. one_input ++ xs) (sym (append-nil (hashes 4096))); few = omega (arith, size 4096) };

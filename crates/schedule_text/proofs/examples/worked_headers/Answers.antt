@@ -14,3 +14,11 @@ returns-clause-numbered_text c = refl
 pub returns-clause-cluster_text : goal.returns-clause-cluster_text
 unfolding digits
 returns-clause-cluster_text c = refl
+
+pub returns-clause-mirror_text : goal.returns-clause-mirror_text
+unfolding digits
+returns-clause-mirror_text c = refl
+
+pub returns-clause-fifo_text : goal.returns-clause-fifo_text
+unfolding digits
+returns-clause-fifo_text c = refl

@@ -6,6 +6,7 @@ use Rattle.line_reader.specs.Lines.{whole_lines}
 use Rattle.line_reader.specs.Outcomes.{ReadsPast}
 use Rattle.line_reader.proofs.Lining.{whole-append}
 use Rattle.schedule_text.specs.Schedules.{EndedAt, Opening, Opened, RefusedAt, opening, script}
+use Rattle.schedule_text.specs.Headers as headers
 use Rattle.schedule_text.proofs.reading_examples.worked_nearness.Goals as goal
 
 abbrev hashes : List ℕ
@@ -43,6 +44,7 @@ opens (RefusedAt number w) = 0
 opens (EndedAt number) = 0
 
 pub returns-clause-past_the_header : goal.returns-clause-past_the_header
+unfolding headers.header_of
 returns-clause-past_the_header c = λ x.
     let line : List ℕ = codes "schedule 1 bag lock 2\n" in
     let e = begun line x.0 x.1 in

@@ -2,9 +2,11 @@
 use Rattle.std.proofs.Common.{◌≡◌, ℕ, List, [], ◌++◌, codes, length, Option, Some, refl, sym, ap, ◌∙◌, arith}
 use Rattle.std.proofs.lemmas.List.{append-nil}
 use Rattle.line_reader.specs.Lines.{lines_of}
+use Rattle.schedule_text.specs.Headers as headers
 use Rattle.schedule_text.proofs.reading_examples.worked_openings.Goals as goal
 
 pub returns-clause-opens : goal.returns-clause-opens
+unfolding headers.header_of
 returns-clause-opens c = (
   codes "#\nschedule 1 bag lock 2\n",
   record {

@@ -1,6 +1,7 @@
 -- These print numbers, whose digits have to be computed, and look keys up.
 use Rattle.std.specs.Prelude.{◌≡◌, ℕ, [], ◌∷◌, Some, None, Result, Ok, codes, refl}
 use Rattle.std.specs.Fmt.{digits}
+use Rattle.schedule_text.specs.Headers.{header_of}
 use Rattle.std.proofs.Common.{inl, subst, sym}
 use Rattle.app_text.specs.KvTexts.{kv_out}
 use Rattle.kv_machine.specs.Kv.{kv}
@@ -66,29 +67,32 @@ pub returns-clause-no_image : goal.returns-clause-no_image
 returns-clause-no_image c = λ p. let read = p.read in cc
 
 pub returns-clause-locked : goal.returns-clause-locked
+unfolding header_of
 returns-clause-locked c = record { claim = locks; read = refl; so = record { allowed = refl; trace = refl } }
 
 pub returns-clause-locked_too_early : goal.returns-clause-locked_too_early
+unfolding header_of
 returns-clause-locked_too_early c = λ p.
     let same : locks_too_early ≡ p.claim = cc in
     let shown = (subst (λ claim. IsWhatClientsSee net.Bag (lock_server (nodes_of claim.header)) claim) (sym same) p.so).trace in
     cc
 
 pub returns-clause-replied : goal.returns-clause-replied
-unfolding digits
+unfolding digits header_of
 returns-clause-replied c = (c.permitted_claims_are_explained.ensures.explained stack.KvPb (codes "in 0 put a x\nout 0 a =x -\nin 1 get a\nout 1 redirect\nbelow\nschedule 1 one kv 1\nin 0 put a x\n")).0 (simp lookups)
 
 -- the check says no
 pub returns-clause-another_reply : goal.returns-clause-another_reply
-unfolding digits
+unfolding digits header_of
 returns-clause-another_reply c = λ p.
     let text = codes "in 0 put a x\nout 0 a =y -\nbelow\nschedule 1 one kv 1\nin 0 put a x\n" in
     other-verdict (checked stack.KvPb text) ((c.permitted_claims_are_explained.ensures.explained stack.KvPb text).1 p) refl
 
 pub returns-clause-refused_step : goal.returns-clause-refused_step
+unfolding header_of
 returns-clause-refused_step c = c.permitted_claims_are_explained.ensures.refuted stack.LockSeq (codes "in 1 lock\nbelow\nschedule 1 bag lock 2\nin 1 lock\ndeliver 1\n") 4 5 refl
 
 pub returns-clause-read_misses_the_write : goal.returns-clause-read_misses_the_write
-unfolding digits
+unfolding digits header_of
 returns-clause-read_misses_the_write c =
     c.permitted_claims_are_explained.ensures.refuted stack.Kv (codes "in 0 put a x\nout 0 a =x -\nin 0 get a\nout 0 a - -\nbelow\nschedule 1 one kv 1\nin 0 put a x\nin 0 get a\n") 5 4 (simp lookups)

@@ -1,6 +1,7 @@
 -- These print numbers, whose digits have to be computed.
 use Rattle.std.proofs.Common.{refl, arith}
 use Rattle.std.specs.Fmt.{digits}
+use Rattle.schedule_text.specs.Headers.{header_of}
 use Rattle.claim_verdicts.proofs.Lookups.{lookups}
 use Rattle.trace_check.proofs.replay_examples.worked_replays.Goals as goal
 
@@ -17,25 +18,33 @@ pub returns-clause-too_many_lines : goal.returns-clause-too_many_lines
 returns-clause-too_many_lines c = λ out many within. let few = within refl in omega (arith, many, few)
 
 pub returns-clause-lock : goal.returns-clause-lock
-unfolding digits
+unfolding digits header_of
 returns-clause-lock c = refl
 
 pub returns-clause-copied : goal.returns-clause-copied
-unfolding digits
+unfolding digits header_of
 returns-clause-copied c = refl
 
 pub returns-clause-nothing_happens : goal.returns-clause-nothing_happens
-unfolding digits
+unfolding digits header_of
 returns-clause-nothing_happens c = refl
 
 pub returns-clause-refused_step : goal.returns-clause-refused_step
-unfolding digits
+unfolding digits header_of
 returns-clause-refused_step c = refl
 
 pub returns-clause-another_stack : goal.returns-clause-another_stack
-unfolding digits
+unfolding digits header_of
 returns-clause-another_stack c = refl
 
 pub returns-clause-held : goal.returns-clause-held
-unfolding digits
+unfolding digits header_of
 returns-clause-held c = simp lookups
+
+pub returns-clause-mirrored : goal.returns-clause-mirrored
+unfolding digits header_of
+returns-clause-mirrored c = refl
+
+pub returns-clause-copied_in_order : goal.returns-clause-copied_in_order
+unfolding digits header_of
+returns-clause-copied_in_order c = refl

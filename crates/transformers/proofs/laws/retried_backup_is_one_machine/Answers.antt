@@ -4,7 +4,7 @@ use Rattle.net_semantics.specs.Runs.{no_recovery}
 use Rattle.primary_backup.proofs.Backing.{bag_explained}
 use Rattle.primary_backup.specs.Backup.{primary_backup}
 use Rattle.transformers.proofs.Carried.{numbered_twice}
-use Rattle.transformers.specs.Known.{retransmission}
+use Rattle.transformers.specs.Retransmission.{retransmission}
 use Rattle.transformers.specs.Numbering.{numbering}
 use Rattle.transformers.specs.Transformers.{over}
 use Rattle.transformers.proofs.laws.retried_backup_is_one_machine.Goals as goal

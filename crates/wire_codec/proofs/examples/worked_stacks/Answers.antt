@@ -23,6 +23,12 @@ returns-clause-kv_pb_seq c = λ bytes. refl
 pub returns-clause-table_pb_seq : goal.returns-clause-table_pb_seq
 returns-clause-table_pb_seq c = λ bytes. refl
 
+pub returns-clause-mirror : goal.returns-clause-mirror
+returns-clause-mirror c = λ bytes. refl
+
+pub returns-clause-mirror_fifo : goal.returns-clause-mirror_fifo
+returns-clause-mirror_fifo c = λ bytes. refl
+
 pub returns-clause-kv_raft : goal.returns-clause-kv_raft
 returns-clause-kv_raft c = λ bytes. refl
 

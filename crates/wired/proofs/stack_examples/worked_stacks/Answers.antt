@@ -46,3 +46,9 @@ returns-clause-table_pb_seq g c = λ m.
     (λ from to x sent. let fits = numbered_fits has f 2120 (backup_fits table_command table_length) from to x sent in (fits.0, omega (arith, fits.1))) table_command.Fits
     (sequence_numbered (primary_backup m)) (omega arith) (GoodNumbered (GoodBackup table_command))
     (numbered_deals has table_command.Fits (primary_backup m) (GoodBackup table_command) (backup_deals table_command m))
+
+pub returns-clause-mirror : goal.returns-clause-mirror
+returns-clause-mirror g c = λ nodes few. c.runs_as_bytes-3.ensures nodes stack.Mirror tt (λ bytes. refl) few (omega arith)
+
+pub returns-clause-mirror_fifo : goal.returns-clause-mirror_fifo
+returns-clause-mirror_fifo g c = λ nodes few. c.runs_as_bytes-4.ensures nodes stack.MirrorFifo tt (λ bytes. refl) few (omega arith)

@@ -1,0 +1,5 @@
+pub mod Counting
+pub mod Following
+pub mod Giving
+pub mod Numbers
+pub mod Worlds
