@@ -17,6 +17,7 @@ import time
 
 SCHEDULE = os.path.join(os.path.dirname(os.path.dirname(os.path.abspath(__file__))), "tools", "schedule")
 STACKS = ["lock", "lock/seq", "kv/pb", "kv/pb/seq", "kv/raft", "table/pb/seq", "table/raft", "mirror", "mirror/fifo"]
+STACKS += ["lock/seq/retry", "kv/pb/seq/retry"]
 
 
 def run(program, words, text=b""):

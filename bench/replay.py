@@ -14,6 +14,19 @@ One round of `lock`, on three nodes, is five events and three packets. The clien
 
 A round of `lock/seq` has two events more: packet k is copied, and its copy comes too, which the image leaves out.
 
+A round of `lock/seq/retry` is ten events and seven packets, of which the image has three:
+
+    in c lock        packet k goes to the server
+    lose k           and is lost
+    tick c           it is sent again, as packet k + 1
+    deliver k + 1    the server hands the lock over by packet k + 2, and acknowledges what came by packet k + 3
+    deliver k + 3    the client has nothing to send again
+    deliver k + 2    c is told `locked`: packet k + 4 acknowledges it
+    in c unlock      packet k + 5 goes to the server
+    deliver k + 4    the server has nothing to send again
+    deliver k + 5    nobody waits: packet k + 6 acknowledges it
+    deliver k + 6    the client has nothing to send again
+
 A round of `mirror`, on three nodes, is two events and one packet. The nodes 1 and 2 take turns:
 
     in c put ..      packet k goes to node 0
@@ -36,7 +49,15 @@ A round of `kv` is one command, of `kv/pb` three events and two packets:
     deliver k + 1    the primary replies
 
 A round of `kv/pb/seq` has two events more, the copy of the acknowledgement and its delivery. The commands put and get
-under a thousand keys in turn.
+under a thousand keys in turn. A round of `kv/pb/seq/retry` is seven events and five packets, of which the image has two:
+
+    in 0 put ..      packet k goes to the backup
+    deliver k        the backup applies the command and says so by packet k + 1, and acknowledges what came by packet k + 2
+    lose k + 1       the former is lost
+    deliver k + 2    the primary has nothing to send again
+    tick 1           the backup says it again, as packet k + 3
+    deliver k + 3    the primary replies: packet k + 4 acknowledges it
+    deliver k + 4    the backup has nothing to send again
 
 Before the rounds of `kv/raft`, on three nodes, node 0 is elected, and both others take its no-op. A round is five events and four packets:
 
@@ -86,6 +107,28 @@ def copied_round(turn, packet):
     """The same, with a copy of the first packet that comes after the answer."""
     asked, taken, *rest = lock_round(turn, packet)
     return (asked, (f"dup {packet}", 0, None), taken, (f"deliver {packet}", 0, None), *rest)
+
+
+def again(packet):
+    """What the delivery of a packet that can be sent again is in the image, where its number is this."""
+    return f"dup {packet}\ndeliver {packet}"
+
+
+def retried_round(turn, packet):
+    """The lock is handed over and given back, though the first packet is lost."""
+    client, below = 1 + turn % 2, 3 * turn
+    return (
+        (f"in {client} lock", 1, f"in {client} lock"),
+        (f"lose {packet}", 0, None),
+        (f"tick {client}", 0, f"tick {client}"),
+        (f"deliver {packet + 1}", 0, again(below)),
+        (f"deliver {packet + 3}", 0, None),
+        (f"deliver {packet + 2}", 1, again(below + 1)),
+        (f"in {client} unlock", 1, f"in {client} unlock"),
+        (f"deliver {packet + 4}", 0, None),
+        (f"deliver {packet + 5}", 0, again(below + 2)),
+        (f"deliver {packet + 6}", 0, None),
+    )
 
 
 def mirror_round(turn, packet):
@@ -139,6 +182,20 @@ def copied_backed_round(turn, packet):
     return (asked, applied, (f"dup {packet + 1}", 0, None), replied, (f"deliver {packet + 1}", 0, None))
 
 
+def retried_backed_round(turn, packet):
+    """A command that is replied to, though the backup's first answer is lost."""
+    below = 2 * turn
+    return (
+        (command_in(turn), 1, command_in(turn)),
+        (f"deliver {packet}", 0, again(below)),
+        (f"lose {packet + 1}", 0, None),
+        (f"deliver {packet + 2}", 0, None),
+        ("tick 1", 0, "tick 1"),
+        (f"deliver {packet + 3}", 1, again(below + 1)),
+        (f"deliver {packet + 4}", 0, None),
+    )
+
+
 # Node 0 asks for votes, both come, and both nodes take its no-op and answer.
 ELECTION = ("tick 0", *(f"deliver {packet}" for packet in range(8)))
 
@@ -160,11 +217,13 @@ def cluster_round(turn, packet):
 STACKS = {
     "lock": ("schedule 1 bag lock 3", "schedule 1 bag lock 3", (), lock_round, 3),
     "lock/seq": ("schedule 1 dup lock/seq 3", "schedule 1 bag lock 3", (), copied_round, 3),
+    "lock/seq/retry": ("schedule 1 loss lock/seq/retry 3", "schedule 1 dup lock/seq 3", (), retried_round, 7),
     "mirror": ("schedule 1 ord mirror 3", "schedule 1 ord mirror 3", (), mirror_round, 1),
     "mirror/fifo": ("schedule 1 dup mirror/fifo 3", "schedule 1 ord mirror 3", (), ordered_round, 2),
     "kv": ("schedule 1 one kv 1", "schedule 1 one kv 1", (), kv_round, 0),
     "kv/pb": ("schedule 1 bag kv/pb 2", "schedule 1 one kv 1", (), backed_round, 2),
     "kv/pb/seq": ("schedule 1 dup kv/pb/seq 2", "schedule 1 one kv 1", (), copied_backed_round, 2),
+    "kv/pb/seq/retry": ("schedule 1 loss kv/pb/seq/retry 2", "schedule 1 dup kv/pb/seq 2", (), retried_backed_round, 5),
     "kv/raft": ("schedule 1 fail kv/raft 3", None, ELECTION, cluster_round, 4),
 }
 

@@ -9,6 +9,8 @@ kinds:
     newest first     all inputs, and then each packet, the last one first: numbers are seen from the greatest down
     at random        the same in an order that is drawn from a number
                      (of `mirror/fifo` what comes early waits, and in both as many ticks follow, of which each gives one)
+    sent again       all inputs, of which each packet is sent again by a tick, and comes as that
+    acknowledged     all inputs and their packets, and then each acknowledgement, the last one first
     a follower down  node 2 of three is down while the others take the entries, and then takes them from the leader, eight at a time
     crashes          a node of a cluster of one with 20,000 entries crashes and reboots so many times
     keys             so many keys are put, and then deleted in another order
@@ -74,6 +76,23 @@ def at_random(stack):
     return lines
 
 
+def sent_again(count):
+    """The same on a network that loses packets: each packet is sent again before it comes."""
+    yield replay.STACKS["lock/seq/retry"][0]
+    yield from asked("lock/seq/retry", count)
+    yield from ("tick 1" for _ in range(count))
+    yield from (f"deliver {packet}" for packet in range(count, 2 * count))
+
+
+def acknowledged(count):
+    """The same, where each packet comes, and then the acknowledgements, the last one first."""
+    yield replay.STACKS["lock/seq/retry"][0]
+    yield from asked("lock/seq/retry", count)
+    yield from (f"deliver {packet}" for packet in range(count))
+    # the lock is handed over before the first acknowledgement
+    yield from (f"deliver {packet}" for packet in range(2 * count, count, -1))
+
+
 def backed_inputs_first(stack):
     """All commands at the primary, which hands them to the backup one after the other: two packets for each."""
     header = replay.STACKS[stack][0]
@@ -135,6 +154,7 @@ MOST, MANY, SOME = (50_000, 500_000), (30_000, 300_000), (10_000, 100_000)
 KINDS = {
     "inputs first, lock": (inputs_first("lock"), MANY, "inputs"),
     "inputs first, lock/seq": (inputs_first("lock/seq"), MANY, "inputs"),
+    "inputs first, lock/seq/retry": (inputs_first("lock/seq/retry"), MANY, "inputs"),
     "inputs first, mirror": (inputs_first("mirror"), MOST, "inputs"),
     "inputs first, mirror/fifo": (inputs_first("mirror/fifo"), MOST, "inputs"),
     "inputs first, kv/pb": (backed_inputs_first("kv/pb"), MANY, "inputs"),
@@ -142,9 +162,12 @@ KINDS = {
     "inputs first, kv/raft": (cluster_inputs_first, SOME, "inputs"),
     "newest first, lock": (newest_first("lock"), MANY, "inputs"),
     "newest first, lock/seq": (newest_first("lock/seq"), MANY, "inputs"),
+    "newest first, lock/seq/retry": (newest_first("lock/seq/retry"), MANY, "inputs"),
     "newest first, mirror/fifo": (newest_first("mirror/fifo"), MANY, "inputs"),
     "at random, lock/seq": (at_random("lock/seq"), SOME, "inputs"),
     "at random, mirror/fifo": (at_random("mirror/fifo"), MANY, "inputs"),
+    "sent again, lock/seq/retry": (sent_again, MANY, "inputs"),
+    "acknowledged, lock/seq/retry": (acknowledged, MANY, "inputs"),
     "a follower down, kv/raft": (follower_down, SOME, "entries"),
     "crashes, kv/raft": (crashes, (200, 2_000), "crashes"),
     "keys, kv": (keys, SOME, "keys"),

@@ -3,6 +3,7 @@ from __future__ import annotations
 
 import argparse
 import math
+import os
 import signal
 import sys
 import time
@@ -93,6 +94,16 @@ def complain(prog: str, why: object, status: int) -> int:
     """Says why on standard error, and answers the status."""
     print(f"{prog}: {said(why) if isinstance(why, Exception) else why}", file=sys.stderr)
     return status
+
+
+def write_out(text: str) -> None:
+    """Writes a text, each character a byte, on standard output. Where nobody reads it any more, as behind `head`, that is no fault."""
+    try:
+        sys.stdout.buffer.write(text.encode("latin-1"))
+        sys.stdout.buffer.flush()
+    except BrokenPipeError:
+        # what is still kept would be tried again at the end
+        os.dup2(os.open(os.devnull, os.O_WRONLY), sys.stdout.fileno())
 
 
 def take_interrupts() -> None:

@@ -47,7 +47,10 @@ class Reply:
 
 @dataclass
 class Claim:
-    """A claim: its lines, its trace, the line `below`, and the image, whose lines are steps or requests, each with its number."""
+    """A claim: its lines, its trace, the line `below`, and the image, whose lines are steps or requests, each with its number.
+
+    `replay` is what an image of steps runs to, once it has been run.
+    """
 
     stack: Stack
     lines: list[str]
@@ -56,6 +59,7 @@ class Claim:
     nodes: int = 0
     steps: list[tuple[int, Step]] = field(default_factory=list)
     order: list[tuple[int, Request]] = field(default_factory=list)
+    replay: Replay | None = None
 
     def inputs(self, node: int) -> list[Item]:
         """The inputs at a node."""
@@ -93,6 +97,7 @@ class RefusedLine(Exception):
 
     def __init__(self, line: int, why: str) -> None:
         super().__init__(f"line {line}: {why}")
+        self.line, self.why = line, why
 
 
 def is_output(stack: Stack, text: str) -> bool:
@@ -142,14 +147,14 @@ def read_item(claim: Claim, line: int, text: str, inputs: int) -> Item:
 
 def read_image_line(claim: Claim, line: int, text: str) -> None:
     """A line of the image."""
-    if claim.stack.over != "raft" and not claim.nodes:
+    if claim.stack.explained != "order" and not claim.nodes:
         stack, claim.nodes = read_header(text)
         if stack != image_stack(claim.stack):
             raise Refused("header")
         return
     if len(claim.order) + len(claim.steps) == MAX_EACH:
         raise Refused("too many events")
-    if claim.stack.over == "raft":
+    if claim.stack.explained == "order":
         if not text.startswith("order "):
             raise Refused("unknown word")
         request = read_request(text.removeprefix("order "), claim.stack.app)
@@ -167,7 +172,7 @@ def read_image_line(claim: Claim, line: int, text: str) -> None:
 
 def image_stack(stack: Stack) -> Stack:
     """The stack of an image's schedule."""
-    return STACKS[stack.app]
+    return STACKS[stack.below]
 
 
 def read_claim(stack: Stack, lines: list[str]) -> Claim:
@@ -188,7 +193,7 @@ def read_claim(stack: Stack, lines: list[str]) -> Claim:
                 inputs += claim.trace[-1].kind == "in"
         except Refused as why:
             raise RefusedLine(number, str(why)) from None
-    if not claim.below or (stack.over != "raft" and not claim.nodes):
+    if not claim.below or (stack.explained != "order" and not claim.nodes):
         raise RefusedLine(number + 1, "header")
     return claim
 
@@ -250,7 +255,9 @@ def late(claim: Claim) -> int | None:
 
 def ran(claim: Claim) -> Replay:
     """What the schedule of an image runs to."""
-    found = Replay()
+    if claim.replay is not None:
+        return claim.replay
+    claim.replay = found = Replay()
     found.world = World(image_stack(claim.stack), claim.nodes)
     for line, step in claim.steps:
         try:
@@ -318,17 +325,15 @@ def wrong_at_backup(claim: Claim) -> int | None:
 
 
 CONDITIONS = {
-    "raft": ((1, unrequested), (2, unexplained), (3, late)),
-    "lock": ((4, refused_step), (5, differs)),
-    "mirror": ((4, refused_step), (5, differs)),
-    "one": ((4, refused_step), (5, differs)),
-    "pb": ((6, other_image), (7, wrong_answer), (8, wrong_at_backup)),
+    "order": ((1, unrequested), (2, unexplained), (3, late)),
+    "schedule": ((4, refused_step), (5, differs)),
+    "replies": ((6, other_image), (7, wrong_answer), (8, wrong_at_backup)),
 }
 
 
 def judge(claim: Claim) -> Verdict:
     """The first condition that is false, and the line."""
-    for condition, fault in CONDITIONS[claim.stack.over]:
+    for condition, fault in CONDITIONS[claim.stack.explained]:
         line = fault(claim)
         if line is not None:
             return Verdict(condition, line)

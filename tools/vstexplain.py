@@ -6,6 +6,7 @@ from dataclasses import dataclass, field
 
 from vstclaims import Claim, Item, Verdict, expected_image, first_asked, image_stack, name_of, outputs_of, places_of, primary_outputs, ran
 from vstraft import Request
+from vstworld import Lock, Refused, Step, World
 
 MOST_LINES = 12
 MEANS = {
@@ -22,9 +23,10 @@ WHYS = {
     "not this network": "this network has no such steps",
     "no such node": "there is no such node",
     "no input here": "this node takes no input",
-    "no copy": "no copy of this packet is in flight: it was never sent, or has come already",
+    "no copy": "no copy of this packet is in flight",
     "not first": "an earlier packet of the same node to the same node is in flight, and this network keeps their order",
 }
+DONE = {"deliver": "it came here", "dup": "it was copied here"}
 
 
 @dataclass
@@ -126,29 +128,97 @@ def explain_late(claim: Claim, found: Explanation) -> None:
     remark_asked(claim, found, request, "first put in only here")
 
 
+class Played:
+    """An image that is run until its trace has so many lines, or a step is refused.
+
+    It knows of each line of the trace, and of each packet, the line of the claim with the step that made it.
+    """
+
+    def __init__(self, claim: Claim, enough: int) -> None:
+        self.world = World(image_stack(claim.stack), claim.nodes)
+        self.makes: list[int] = []
+        self.sends: list[int] = []
+        for line, step in claim.steps:
+            if len(self.makes) >= enough:
+                return
+            try:
+                self.world.take(step)
+            except Refused:
+                return
+            self.makes += [line] * (len(self.world.trace) - len(self.makes))
+            self.sends += [line] * (len(self.world.packets) - len(self.sends))
+
+
+def explain_no_copy(claim: Claim, found: Explanation, played: Played, step: Step) -> None:
+    """A packet of which no copy is in flight."""
+    if step.number >= len(played.sends):
+        sent = f"the steps before this one send {len(played.sends)}" if played.sends else "no step before this one sends any"
+        found.says.append(f"Packet {step.number} was not sent: packets are numbered from 0, and {sent}.")
+        return
+    sent_at = played.sends[step.number]
+    found.says.append(f"Packet {step.number} was sent at line {sent_at}, and each of its copies has come since.")
+    same = [(line, other) for line, other in claim.steps if other.number == step.number and other.kind in DONE and line < found.verdict.line]
+    found.lines |= {sent_at: f"sends packet {step.number}"} | {line: DONE[other.kind] for line, other in same}
+
+
 def explain_refused_step(claim: Claim, found: Explanation) -> None:
     """Condition 4."""
-    replay = ran(claim)
-    found.says.append(f"The network {image_stack(claim.stack).net} refuses this step of the image: {WHYS.get(replay.why, replay.why)}.")
-    found.lines[found.verdict.line] = replay.why
+    why = ran(claim).why
+    found.says.append(f"The network {image_stack(claim.stack).net} refuses this step of the image: {WHYS.get(why, why)}.")
+    found.lines[found.verdict.line] = why
+    played = Played(claim, len(claim.lines))
     step = next(step for line, step in claim.steps if line == found.verdict.line)
-    if replay.why == "not first":
-        assert replay.world is not None
-        earlier = next(packet for packet in replay.world.in_flight() if replay.world.packets[packet].ends() == replay.world.packets[step.number].ends())
+    if why == "no copy":
+        explain_no_copy(claim, found, played, step)
+    elif why == "not first":
+        ends = played.world.packets[step.number].ends()
+        earlier = next(packet for packet in played.world.in_flight() if played.world.packets[packet].ends() == ends)
         found.says.append(f"This is packet {earlier}.")
-    if step.kind == "deliver":
-        found.lines |= {line: "it came here" for line, other in claim.steps if other == step and line < found.verdict.line}
+        found.lines |= {played.sends[packet]: f"sends packet {packet}" for packet in (earlier, step.number)}
+
+
+def say_of_server(found: Explanation, world: World, when: str) -> None:
+    """What the lock server knows, where there is one."""
+    server = world.handlers.inner
+    if not isinstance(server, Lock):
+        return
+    first, *waiting = server.queue or [0]
+    if not server.queue:
+        found.says.append(f"{when} the lock server has nobody in its list: the lock is free.")
+    elif not waiting:
+        found.says.append(f"{when} the lock server gives node {first} the lock, and has nobody behind it in its list.")
+    else:
+        found.says.append(f"{when} the lock server gives node {first} the lock, and has behind it in its list: {', '.join(map(str, waiting))}.")
+
+
+def remark_earlier(claim: Claim, found: Explanation, made: int) -> None:
+    """Adds what decides an answer of a machine alone: the commands before it on the same key."""
+    commands = [step.text for line, step in claim.steps if line <= made]
+    outputs = outputs_of(claim.stack.app, commands)
+    near = [place for place, command in enumerate(commands[:-1]) if touches(command, commands[-1])]
+    found.lines |= {claim.steps[place][0]: f"a machine answers {outputs[place]}" for place in near[-MOST_LINES // 2 :]}
 
 
 def explain_differs(claim: Claim, found: Explanation) -> None:
     """Condition 5."""
-    world, line = ran(claim).world, found.verdict.line
-    assert world is not None
-    given = [*world.trace, "below"][line - 1]
-    found.says.append(f"The image, run on its network, makes {len(world.trace)} lines of trace, and `{given}` is line {line} of them.")
-    if given == "below":
-        found.says[-1] = f"The image, run on its network, makes {len(world.trace)} lines of trace, and none for line {line}."
-    found.lines[line] = f"the image makes {given}" if given != "below" else "the image makes nothing here"
+    line, whole = found.verdict.line, ran(claim).world
+    assert whole is not None
+    played, count, when = Played(claim, line), len(whole.trace), "At its end"
+    makes = f"The image, run on its network, makes {count} line{'s' * (count != 1)} of trace"
+    if line > len(whole.trace):
+        found.says.append(f"{makes}, and none for line {line}.")
+        found.lines[line] = "the image makes nothing here"
+    else:
+        given, made = whole.trace[line - 1], played.makes[line - 1]
+        when = f"After line {made}"
+        found.says.append(f"{makes}, and `{given}` is line {line} of them. It is made at line {made}.")
+        found.lines |= {made: f"makes {given}", line: f"the image makes {given}"}
+        step = next(step for at, step in claim.steps if at == made)
+        if step.kind == "deliver":
+            found.lines[played.sends[step.number]] = f"sends packet {step.number}"
+        elif step.kind == "in" and image_stack(claim.stack).over == "one":
+            remark_earlier(claim, found, made)
+    say_of_server(found, played.world, when)
 
 
 def explain_other_image(claim: Claim, found: Explanation) -> None:

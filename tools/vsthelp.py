@@ -4,8 +4,9 @@ from __future__ import annotations
 import re
 import sys
 
+from vstclaims import image_stack
 from vstwhy import STATUSES, why_refused
-from vstworld import KINDS, STACKS, lines_of
+from vstworld import KINDS, STACKS, Stack, lines_of
 
 TOPICS = {
     "replay": """vst replay < schedule
@@ -61,6 +62,13 @@ WHYS = {
     "no copy": "no copy of this packet is in flight: it was not sent yet, or it came, or was lost",
     "not first": "an earlier packet of the same node to the same node is in flight, and this network keeps their order",
 }
+# of a claim, what differs
+CLAIM_WHYS = {
+    "too many events": "8,000,000 lines stand before it, or 1,000,000 inputs in the trace, or 1,000,000 lines in the image",
+    "unknown word": "a line of the trace is `in NODE TEXT`, `out NODE TEXT` or `below`; behind `below` stand the lines of the image",
+    "no such node": "nodes are numbered from 0, and a trace of this stack has fewer",
+    "text": "this stack has no such input or output, or in an order no such request: `tools/vst help stacks` has the inputs",
+}
 KEYS = {
     "text": "the configuration is no document in TOML, or has more than 65,536 bytes",
     "stack": 'it has to be "kv/raft" or "table/raft"',
@@ -82,10 +90,10 @@ TEXTS = {
 
 def stacks() -> str:
     """The headers, and the texts of inputs."""
-    lines = ["header                            steps"]
+    lines = ["header                              steps"]
     for stack in STACKS.values():
         nodes = str(stack.least) if stack.least == stack.most else f"{stack.least}..{stack.most}"
-        lines.append(f"schedule 1 {stack.net:<4} {stack.word:<13} {nodes:<4}  {', '.join(KINDS[stack.net])}")
+        lines.append(f"schedule 1 {stack.net:<4} {stack.word:<15} {nodes:<4}  {', '.join(KINDS[stack.net])}")
     lines += ["", "inputs"] + [f"{app:<6} {text}" for app, text in TEXTS.items()]
     return "\n".join(lines + ["raft   CLIENT REQUEST in front of those of kv and table, two numbers"])
 
@@ -117,14 +125,30 @@ def hints(line: str) -> list[str]:
     return found
 
 
-def of_line(number: int, why: str, data: bytes) -> list[str]:
-    """Why a line is refused."""
-    lines = lines_of(data)
+def of_line(number: int, why: str, data: bytes, stack: Stack | None = None) -> list[str]:
+    """Why a line of a schedule is refused, or one of a claim on this stack."""
+    lines, means = lines_of(data), WHYS
+    if stack is not None:
+        means = WHYS | CLAIM_WHYS | {"header": claim_header(stack)}
     if number > len(lines):
-        return [f"the text ends before line {number}: {WHYS.get(why, why)}"]
+        return [f"the text ends before line {number}: {means.get(why, why)}"]
     line = lines[number - 1]
     shown = line if len(line) <= MOST_SHOWN else line[:MOST_SHOWN] + ".."
-    return [f"{number}: {shown.encode('unicode_escape').decode('ascii')}", WHYS.get(why, why), *hints(line)]
+    return [f"{number}: {shown.encode('unicode_escape').decode('ascii')}", means.get(why, why), *hints(line)]
+
+
+def claim_header(stack: Stack) -> str:
+    """What a claim has to have between its trace and its image."""
+    if stack.explained == "order":
+        return "behind the trace a line `below` has to stand, and then the order"
+    below = image_stack(stack)
+    nodes = str(below.least) if below.least == below.most else f"NODES, which is {below.least} to {below.most}"
+    return f"behind the trace a line `below` has to stand, and then `schedule 1 {below.net} {below.word} {nodes}`"
+
+
+def stack_of(words: list[str]) -> Stack | None:
+    """The stack that the words of a check name, if they are those of one."""
+    return STACKS.get(words[-1].removeprefix("--stack=")) if words[:1] == ["check"] else None
 
 
 def meaning(words: list[str], status: int, said: str, data: bytes) -> list[str]:
@@ -134,7 +158,7 @@ def meaning(words: list[str], status: int, said: str, data: bytes) -> list[str]:
         near = [usage for usage in USAGES if words and usage.split(" ")[1] == words[0]]
         return ["the program takes these words and no others:", *(near or USAGES), "`tools/vst help` tells more"]
     if refused:
-        return of_line(int(refused[1]), refused[2], data)
+        return of_line(int(refused[1]), refused[2], data, stack_of(words))
     if said.startswith("config: "):
         return [KEYS.get(said.removeprefix("config: "), ""), "`tools/vst help node` shows one"]
     if said.startswith("state: "):

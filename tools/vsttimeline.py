@@ -151,13 +151,24 @@ def spans(history: History, begins: str, ends: tuple[str, ...]) -> Iterator[tupl
     yield from ((which, at, history.end()) for which, at in since.items())
 
 
-def refused_request(claim: Claim | None, verdict: Verdict) -> tuple[int, int] | None:
-    """The client and number of the request that a verdict names."""
-    if claim is None or not verdict.condition or verdict.line > len(claim.lines):
+def check_claim(history: History, claim: Claim) -> None:
+    """Refuses a claim that is not of the same run. One that was made smaller still is: its trace is a part of what was noted."""
+    noted = iter([" ".join(one.words) for one in history.noted if one.words[0] in TRACE])
+    strange = next((item for item in claim.trace if item.spelled() not in noted), None)
+    if strange is not None:
+        raise HistoryError(f"the claim is not of this history, which does not have its line {strange.line} there: {strange.spelled()}")
+
+
+def refused_request(claim: Claim, verdict: Verdict) -> tuple[int, int] | None:
+    """The client and number of the request that a verdict names, if it refuses one."""
+    if not verdict.condition:
         return None
-    words = claim.lines[verdict.line - 1].split(" ")
-    place = {"in": 2, "out": 3, "order": 1}[words[0]]
-    return int(words[place]), int(words[place + 1])
+    line = claim.lines[verdict.line - 1] if 0 < verdict.line <= len(claim.lines) else "below"
+    words, place = line.split(" "), {"in": 2, "out": 3, "order": 1}
+    if words[0] not in place:
+        raise HistoryError(f"line {verdict.line} of the claim names no request, and so {verdict.text()} is no verdict on it")
+    first = place[words[0]]
+    return int(words[first]), int(words[first + 1])
 
 
 @dataclass
@@ -279,5 +290,8 @@ class Picture:
 
 def draw(history: History, claim: Claim | None, verdict: Verdict, begin: float = 0.0, end: float | None = None) -> str:
     """The picture of a history, with the refused request in red."""
-    said = verdict.text() if claim is not None else ""
-    return Picture(history, begin, history.end() if end is None else end, refused_request(claim, verdict), said).svg()
+    until = history.end() if end is None else end
+    if claim is None:
+        return Picture(history, begin, until).svg()
+    check_claim(history, claim)
+    return Picture(history, begin, until, refused_request(claim, verdict), verdict.text()).svg()

@@ -11,6 +11,7 @@ from contextlib import suppress
 from pathlib import Path
 
 from vstudp import why_not_free
+from vstwire import STACK_WORDS
 
 FILES = ("slot0", "slot1", "selector")
 OPEN, REFUSED_STATE = 6, 9
@@ -41,6 +42,9 @@ OTHERS = {
 def why_refused(line: str) -> str:
     """What `state: why` says of the files of a node."""
     why, *values = line.removeprefix("state: ").split(" ")
+    if why == "stack":
+        # the program says stacks by their bytes
+        values = [STACK_WORDS.get(int(value), value) if value.isdigit() else value for value in values]
     if why in OTHERS and len(values) == 2:
         return OTHERS[why].format(*values)
     return DAMAGES.get(why, "its files are refused")

@@ -23,7 +23,7 @@ NAME_BYTES = 16
 NO_VOTE = 0xFF
 
 STACK_BYTES = {"lock": 1, "lock/seq": 2, "kv/pb": 3, "kv/pb/seq": 4, "kv/raft": 5, "table/pb/seq": 6, "table/raft": 7}
-STACK_BYTES |= {"mirror": 8, "mirror/fifo": 9}
+STACK_BYTES |= {"mirror": 8, "mirror/fifo": 9, "lock/seq/retry": 10, "kv/pb/seq/retry": 11}
 STACK_WORDS = {number: word for word, number in STACK_BYTES.items()}
 CLUSTER_STACKS = ("kv/raft", "table/raft")
 PEER, REQUEST, REPLY = 0, 1, 2
@@ -204,7 +204,7 @@ def read_heading(reader: Reader) -> Heading:
     """The heading that comes."""
     reader.number(1, LETTER, LETTER)
     reader.number(1, VERSION, VERSION)
-    stack = STACK_WORDS[reader.number(1, 1, 7)]
+    stack = STACK_WORDS[reader.number(1, 1, len(STACK_WORDS))]
     kind = reader.number(1, PEER, REPLY)
     if kind != PEER and stack not in CLUSTER_STACKS:
         raise FormatError("a client of a stack that has none")
@@ -383,6 +383,26 @@ class State:
         return (self.log[-1].term if self.log else 0, len(self.log))
 
 
+@dataclass(frozen=True)
+class Owner:
+    """Whose files they are: of which stack and node, of how many nodes, and the cluster's name, which older files don't have."""
+
+    stack: str
+    me: int
+    nodes: int
+    name: bytes | None
+
+
+def read_owner(reader: Reader) -> tuple[Owner, int]:
+    """Whose body it is, and its version."""
+    reader.number(1, ord("S"), ord("S"))
+    version = reader.number(1, 1, 2)
+    stack = STACK_WORDS[reader.number(1, 1, len(STACK_WORDS))]
+    me = reader.number(1, 0, MAX_NODES - 1)
+    nodes = reader.number(1, me + 1, 5 if version == 1 else MAX_NODES)
+    return Owner(stack, me, nodes, reader.take(NAME_BYTES) if version == 2 else None), version
+
+
 def read_kept(reader: Reader, nodes: int) -> tuple[int, int | None]:
     """A term and a vote."""
     term = reader.number(8, 0, MAX_TERM)
@@ -397,18 +417,14 @@ EntryReader = Callable[[str, Reader], Entry]
 
 def read_body(stack: str, reader: Reader) -> tuple[State, int, EntryReader]:
     """The state of a body, the number of nodes, and how its entries are read."""
-    reader.number(1, ord("S"), ord("S"))
-    version = reader.number(1, 1, 2)
-    reader.number(1, STACK_BYTES[stack], STACK_BYTES[stack])
-    me = reader.number(1, 0, MAX_NODES - 1)
-    nodes = reader.number(1, me + 1, 5 if version == 1 else MAX_NODES)
-    if version == 2:
-        reader.take(NAME_BYTES)
+    owner, version = read_owner(reader)
+    if owner.stack != stack:
+        raise FormatError(f"the files are of {owner.stack}, and not of {stack}")
     entry = read_entry if version == 2 else read_old_entry
-    term, voted = read_kept(reader, nodes)
+    term, voted = read_kept(reader, owner.nodes)
     log = tuple(entry(stack, reader) for _ in range(reader.number(4, 0, MAX_INDEX)))
     reader.end()
-    return State(term, voted, log), nodes, entry
+    return State(term, voted, log), owner.nodes, entry
 
 
 def read_records(stack: str, reader: Reader, nodes: int, entry: EntryReader) -> Iterator[tuple[State, int]]:
@@ -440,14 +456,30 @@ def read_slot(stack: str, data: bytes) -> State:
     return replace(state, log=tuple(log))
 
 
-def read_state(stack: str, folder: Path) -> State:
-    """The state that a node keeps in its folder. One that has written nothing yet is in its first state."""
+def selected_slot(folder: Path) -> bytes | None:
+    """The slot that the selector in a node's folder names. A node that has written nothing yet has none."""
     selector = (folder / "selector").read_bytes() if (folder / "selector").exists() else b""
     if not selector:
-        return State(0, None, ())
+        return None
     if len(selector) != 1:
         raise FormatError(f"a selector of {len(selector)} bytes")
-    return read_slot(stack, (folder / f"slot{selector[0] % 2}").read_bytes())
+    return (folder / f"slot{selector[0] % 2}").read_bytes()
+
+
+def read_state(stack: str, folder: Path) -> State:
+    """The state that a node keeps in its folder. One that has written nothing yet is in its first state."""
+    slot = selected_slot(folder)
+    return State(0, None, ()) if slot is None else read_slot(stack, slot)
+
+
+def owner_of(folder: Path) -> Owner | None:
+    """Whose the files in a node's folder are, if it has written some."""
+    slot = selected_slot(folder)
+    if slot is None:
+        return None
+    reader = Reader(slot)
+    reader.number(4, 0, 2**32 - 1)
+    return read_owner(reader)[0]
 
 
 def executed(log: tuple[Entry, ...]) -> list[Asked]:

@@ -9,6 +9,7 @@ import re
 from collections import Counter
 from collections.abc import Iterable
 from dataclasses import dataclass, field
+from functools import cached_property
 
 from vstmachines import MACHINES, VALUE
 from vstraft import LEADER, Effect, Node, Request
@@ -16,12 +17,15 @@ from vstraft import LEADER, Effect, Node, Request
 MAX_LINE, MAX_LINES, MAX_EVENTS = 4_096, 2_000_000, 1_000_000
 MAX_NUMBER, MAX_REQUEST = 2**32 - 1, 2**64 - 1
 KINDS = {"one": ("in",), "bag": ("in", "tick", "deliver"), "ord": ("in", "tick", "deliver"), "dup": ("in", "tick", "deliver", "dup")}
-KINDS["fail"] = (*KINDS["dup"], "lose", "crash", "reboot")
+KINDS["loss"] = (*KINDS["dup"], "lose")
+KINDS["fail"] = (*KINDS["loss"], "crash", "reboot")
 WORDS = (*KINDS["fail"], "act", "stop")
 OF_NODES = ("in", "tick", "crash", "reboot")
 DIGITS = re.compile(r"0|[1-9][0-9]{0,19}")
 PUT = re.compile(rf"put {VALUE}")
-# applications of which node 0 takes no input, and whose image is a schedule of their own
+# a numbered message by its sender, its destination and its number
+Ends = tuple[int, int, int]
+# applications of which node 0 takes no input
 SERVERS = ("lock", "mirror")
 
 
@@ -34,17 +38,29 @@ class Stack:
     least: int
     most: int
 
-    @property
+    @cached_property
     def app(self) -> str:
         """Its application."""
         return self.word.split("/")[0]
 
-    @property
+    @cached_property
     def over(self) -> str:
         """What carries the application: `lock` or `mirror` itself, `one`, `pb` or `raft`."""
         if self.app in SERVERS:
             return self.app
         return self.word.split("/")[1] if "/" in self.word else "one"
+
+    @cached_property
+    def explained(self) -> str:
+        """What its image is: the `order` of requests, the inputs that have `replies`, or a `schedule` that has the same trace."""
+        if self.over == "raft":
+            return "order"
+        return "replies" if self.over == "pb" and not self.word.endswith("/retry") else "schedule"
+
+    @cached_property
+    def below(self) -> str:
+        """The word of the stack that the schedule of its image is of."""
+        return self.word.removesuffix("/retry") if self.word.endswith("/retry") else self.app
 
 
 STACKS = {
@@ -53,6 +69,7 @@ STACKS = {
         Stack("lock", "bag", 2, 9), Stack("lock/seq", "dup", 2, 9), Stack("kv", "one", 1, 1), Stack("table", "one", 1, 1),
         Stack("kv/pb", "bag", 2, 2), Stack("kv/pb/seq", "dup", 2, 2), Stack("table/pb/seq", "dup", 2, 2),
         Stack("kv/raft", "fail", 1, 9), Stack("table/raft", "fail", 1, 9), Stack("mirror", "ord", 2, 9), Stack("mirror/fifo", "dup", 2, 9),
+        Stack("lock/seq/retry", "loss", 2, 9), Stack("kv/pb/seq/retry", "loss", 2, 2),
     )
 }
 
@@ -122,6 +139,11 @@ class Alone:
         self.app = app
         self.machine = MACHINES[app]()
 
+    @property
+    def inner(self) -> Alone:
+        """What carries the application, within all that is around it."""
+        return self
+
     def is_input(self, text: str) -> bool:
         """Whether it is the text of an input."""
         return MACHINES[self.app].COMMAND.fullmatch(text) is not None
@@ -137,6 +159,10 @@ class Alone:
     def timeout(self, _node: int) -> Effect:
         """There are none."""
         return Effect()
+
+    def steps_within(self, step: Step, _places: dict[Ends, int]) -> list[Step]:
+        """What the last event, of this step, is to the handlers within: there are none, so it is itself."""
+        return [step]
 
 
 class Lock(Alone):
@@ -195,10 +221,91 @@ class Mirror(Alone):
 
 @dataclass(frozen=True)
 class Numbered:
-    """A message over FIFO channels: its number among those to its destination, and its content."""
+    """A message with a number, of all of its sender or over FIFO channels of those to its destination, and its content."""
 
     number: int
     content: object
+
+
+@dataclass(frozen=True)
+class Ack:
+    """An acknowledgement of a number."""
+
+    number: int
+
+
+class Over(Alone):
+    """Handlers around others, within them, whose messages they number."""
+
+    # whether a content can be given more than once
+    again = False
+
+    def __init__(self, within: Alone, _nodes: int) -> None:
+        self.within = within
+        # of the last event, whose content it gave: its sender, its destination and its number
+        self.given: Ends | None = None
+
+    @property
+    def inner(self) -> Alone:
+        """What carries the application."""
+        return self.within.inner
+
+    def is_input(self, text: str) -> bool:
+        """Those of the handlers within."""
+        return self.within.is_input(text)
+
+    def next_number(self, _node: int, _to: int) -> int:
+        """The number of the next message of a node to another."""
+        raise NotImplementedError
+
+    def numbered(self, node: int, effect: Effect) -> Effect:
+        """An effect of the handlers within, whose messages get their numbers."""
+        return Effect(effect.outputs, [(to, Numbered(self.next_number(node, to), content)) for to, content in effect.sends])
+
+    def input(self, node: int, text: str) -> Effect:
+        """An input is that of the handlers within."""
+        self.given = None
+        return self.numbered(node, self.within.input(node, text))
+
+    def give(self, node: int, sender: int, number: int, content: object) -> Effect:
+        """A content is given."""
+        self.given = sender, node, number
+        return self.numbered(node, self.within.message(node, sender, content))
+
+    def timeout(self, node: int) -> Effect:
+        """A timer is that of the handlers within."""
+        self.given = None
+        return self.numbered(node, self.within.timeout(node))
+
+    def steps_within(self, step: Step, places: dict[Ends, int]) -> list[Step]:
+        """The delivery of the packet whose content was given, if one was; before it the packet is copied, where it can be given again."""
+        if self.given is None:
+            return [] if step.kind == "deliver" else [step]
+        place = places[self.given]
+        return [Step("dup", place)] * self.again + [Step("deliver", place)]
+
+
+class Seq(Over):
+    """Handlers under sequence numbering: each node numbers its messages, and gives those of each other node once."""
+
+    def __init__(self, within: Alone, nodes: int) -> None:
+        super().__init__(within, nodes)
+        self.next = [0] * nodes
+        self.seen = [set[tuple[int, int]]() for _ in range(nodes)]
+
+    def next_number(self, node: int, _to: int) -> int:
+        """Messages to all destinations are numbered together."""
+        self.next[node] += 1
+        return self.next[node] - 1
+
+    def message(self, node: int, sender: int, message: object) -> Effect:
+        """What was seen does nothing."""
+        assert isinstance(message, Numbered)
+        self.given = None
+        if (sender, message.number) in self.seen[node]:
+            return Effect()
+        self.seen[node].add((sender, message.number))
+        return self.give(node, sender, message.number, message.content)
 
 
 @dataclass
@@ -210,43 +317,28 @@ class Peer:
     held: dict[int, object] = field(default_factory=dict)
 
 
-class Fifo(Alone):
-    """Handlers over FIFO channels: packets are numbered by destination, and the contents of each sender are given in order."""
+class Fifo(Over):
+    """Handlers over FIFO channels: messages are numbered by destination, and the contents of each sender are given in order."""
 
     def __init__(self, within: Alone, nodes: int) -> None:
-        self.within = within
+        super().__init__(within, nodes)
         self.peers = [[Peer() for _ in range(nodes)] for _ in range(nodes)]
-        # of the last event, whose content it gave, and under which number
-        self.given: tuple[int, int] | None = None
 
-    def is_input(self, text: str) -> bool:
-        """Those of the handlers within."""
-        return self.within.is_input(text)
+    def next_number(self, node: int, to: int) -> int:
+        """Messages to each destination are numbered by themselves."""
+        self.peers[node][to].next += 1
+        return self.peers[node][to].next - 1
 
-    def numbered(self, node: int, effect: Effect) -> Effect:
-        """An effect of the handlers within, whose packets get their numbers."""
-        sends: list[tuple[int, object]] = []
-        for to, content in effect.sends:
-            sends.append((to, Numbered(self.peers[node][to].next, content)))
-            self.peers[node][to].next += 1
-        return Effect(effect.outputs, sends)
-
-    def give(self, node: int, sender: int, content: object) -> Effect:
+    def give_expected(self, node: int, sender: int, content: object) -> Effect:
         """The expected content of a sender is given."""
         peer = self.peers[node][sender]
-        self.given = sender, peer.expected
         peer.held.pop(peer.expected, None)
         peer.expected += 1
-        return self.numbered(node, self.within.message(node, sender, content))
+        return self.give(node, sender, peer.expected - 1, content)
 
     def ready(self, node: int) -> int | None:
         """The least node of which the expected content is held."""
         return next((sender for sender, peer in enumerate(self.peers[node]) if peer.expected in peer.held), None)
-
-    def input(self, node: int, text: str) -> Effect:
-        """An input is that of the handlers within."""
-        self.given = None
-        return self.numbered(node, self.within.input(node, text))
 
     def message(self, node: int, sender: int, message: object) -> Effect:
         """What is expected is given, and what is early is held."""
@@ -254,7 +346,7 @@ class Fifo(Alone):
         peer = self.peers[node][sender]
         self.given = None
         if message.number == peer.expected:
-            return self.give(node, sender, message.content)
+            return self.give_expected(node, sender, message.content)
         if message.number > peer.expected:
             peer.held.setdefault(message.number, message.content)
         return Effect()
@@ -262,10 +354,52 @@ class Fifo(Alone):
     def timeout(self, node: int) -> Effect:
         """What is ready is given, else the timer within fires."""
         sender = self.ready(node)
-        self.given = None
         if sender is None:
-            return self.numbered(node, self.within.timeout(node))
-        return self.give(node, sender, self.peers[node][sender].held[self.peers[node][sender].expected])
+            return super().timeout(node)
+        return self.give_expected(node, sender, self.peers[node][sender].held[self.peers[node][sender].expected])
+
+
+class Retry(Over):
+    """Handlers over retransmission: each node numbers its messages, and keeps each until it is acknowledged."""
+
+    again = True
+
+    def __init__(self, within: Alone, nodes: int) -> None:
+        super().__init__(within, nodes)
+        self.next = [0] * nodes
+        # of each node, the messages that are not acknowledged, by number with their destinations, that to send again next first
+        self.kept: list[dict[int, tuple[int, Numbered]]] = [{} for _ in range(nodes)]
+
+    def next_number(self, node: int, _to: int) -> int:
+        """Messages to all destinations are numbered together."""
+        self.next[node] += 1
+        return self.next[node] - 1
+
+    def numbered(self, node: int, effect: Effect) -> Effect:
+        """What is sent is kept."""
+        found = super().numbered(node, effect)
+        self.kept[node] |= {message.number: (to, message) for to, message in found.sends if isinstance(message, Numbered)}
+        return found
+
+    def message(self, node: int, sender: int, message: object) -> Effect:
+        """A content is given each time, and is acknowledged after what it has sent; what is acknowledged is kept no more."""
+        if isinstance(message, Numbered):
+            found = self.give(node, sender, message.number, message.content)
+            return Effect(found.outputs, [*found.sends, (sender, Ack(message.number))])
+        assert isinstance(message, Ack)
+        self.given = None
+        if self.kept[node].get(message.number, (None,))[0] == sender:
+            del self.kept[node][message.number]
+        return Effect()
+
+    def timeout(self, node: int) -> Effect:
+        """The timer within fires; then the first message that was kept before is sent again, and is kept last."""
+        first = next(iter(self.kept[node]), None)
+        found = super().timeout(node)
+        if first is None:
+            return found
+        self.kept[node][first] = again = self.kept[node].pop(first)
+        return Effect(found.outputs, [*found.sends, again])
 
 
 class Backed(Alone):
@@ -341,8 +475,11 @@ class Cluster(Alone):
 def handlers_of(stack: Stack, nodes: int) -> Alone:
     """The handlers of a stack."""
     kinds: dict[str, type[Alone]] = {"one": Alone, "lock": Lock, "mirror": Mirror, "pb": Backed, "raft": Cluster}
-    within = kinds[stack.over](stack.app, nodes)
-    return Fifo(within, nodes) if stack.word.endswith("/fifo") else within
+    around: dict[str, type[Over]] = {"seq": Seq, "fifo": Fifo, "retry": Retry}
+    found = kinds[stack.over](stack.app, nodes)
+    for word in stack.word.split("/")[1:]:
+        found = around[word](found, nodes) if word in around else found
+    return found
 
 
 @dataclass(frozen=True)
@@ -373,9 +510,9 @@ class World:
         self.handlers = handlers_of(self.stack, self.nodes)
         self.up = set(range(self.nodes))
         self.came: set[int] = set()
-        # of a channel that numbers its packets, each by its ends and its number
-        self.numbered: dict[tuple[int, int, int], int] = {}
-        # the steps that were events of the handlers within
+        # where messages are numbered, the place of each among those of the handlers within, in the order in which they were first sent
+        self.places: dict[Ends, int] = {}
+        # what the steps were to the handlers within
         self.events: list[Step] = []
 
     @property
@@ -435,10 +572,9 @@ class World:
             del self.copies[packet]
 
     def deliver(self, step: Step) -> None:
-        """A copy comes. Where packets are numbered, a second one of a packet does nothing."""
+        """A copy comes."""
         self.end_copy(step.number)
-        if step.number not in self.came or not self.stack.word.endswith("/seq"):
-            self.happen(self.packets[step.number].to, step)
+        self.happen(self.packets[step.number].to, step)
         self.came.add(step.number)
 
     def happen(self, node: int, step: Step) -> None:
@@ -450,24 +586,15 @@ class World:
             effect = self.handlers.timeout(node)
         else:
             effect = self.handlers.message(node, self.packets[step.number].sender, self.packets[step.number].message)
-        self.events += self.event_within(node, step)
+        self.events += self.handlers.steps_within(step, self.places)
         self.trace += [f"out {node} {text}" for text in effect.outputs]
         for to, message in effect.sends:
             self.send(Packet(node, to, message))
 
-    def event_within(self, node: int, step: Step) -> list[Step]:
-        """What an event is to the handlers within: itself, or over FIFO channels the delivery of the packet that was given, if one was."""
-        if not isinstance(self.handlers, Fifo):
-            return [step]
-        if self.handlers.given is not None:
-            sender, number = self.handlers.given
-            return [Step("deliver", self.numbered[sender, node, number])]
-        return [] if step.kind == "deliver" else [step]
-
     def send(self, packet: Packet) -> None:
         """A packet is in flight."""
         if isinstance(packet.message, Numbered):
-            self.numbered[packet.sender, packet.to, packet.message.number] = len(self.packets)
+            self.places.setdefault((packet.sender, packet.to, packet.message.number), len(self.places))
         self.copies[len(self.packets)] += 1
         self.packets.append(packet)
 
@@ -477,16 +604,14 @@ class World:
 
     def image(self) -> list[str]:
         """The lines of the image, with its header if it has one."""
-        app = self.stack.app
-        if self.stack.over == "raft":
+        below = STACKS[self.stack.below]
+        if self.stack.explained == "order":
             return [f"order {request.text()}" for request in self.cluster.order]
-        if self.stack.over == "pb":
+        if self.stack.explained == "replies":
             inputs = [line.removeprefix("in 0 ") for line in self.trace if line.startswith("in 0 ")]
             replies = sum(line.startswith("out 0 ") for line in self.trace)
-            return [f"schedule 1 one {app} 1", *(f"in 0 {text}" for text in inputs[:replies])]
-        if self.stack.over in SERVERS and app != self.stack.word:
-            return [header_of(STACKS[app], self.nodes), *(step.line() for step in self.events)]
-        return [header_of(self.stack, self.nodes), *(step.line() for step in self.taken)]
+            return [header_of(below, 1), *(f"in 0 {text}" for text in inputs[:replies])]
+        return [header_of(below, self.nodes), *(step.line() for step in self.events)]
 
 
 def header_of(stack: Stack, nodes: int) -> str:

@@ -55,6 +55,34 @@ def cases(command: str) -> Iterator[Case]:
             yield case
 
 
+def areas_of(lines: list[str]) -> list[bytes]:
+    """The three areas of a node that lines tell, or none."""
+    joined = re.sub(r"\n  (?=[0-9a-f])", "", "\n".join(lines))
+    return [bytes.fromhex(told.replace("-", "")) for told in re.findall(r"^area [012] ([0-9a-f]+|-)$", joined, re.MULTILINE)]
+
+
+@dataclass
+class Node:
+    """A node at the end of a case: its number and configuration, how it ended, what it said, and its areas."""
+
+    name: str
+    me: int
+    config: str
+    status: int
+    said: str
+    areas: list[bytes]
+
+
+def nodes() -> Iterator[Node]:
+    """The nodes of the cases that are told with their areas."""
+    for name, given, told in sections():
+        words, areas = re.search(r"^words node --me (\d+) ", "\n".join(given), re.MULTILINE), areas_of(told)
+        if words and len(areas) == 3 and told[0].startswith("status "):
+            config = "".join(data_of(line) for line in given if line.startswith("|") and not line.startswith("|x"))
+            said = next((line[2:] for line in told if line.startswith("! ")), "")
+            yield Node(name, int(words[1]), config, int(told[0].split(" ")[1]), said, areas)
+
+
 def summaries() -> Iterator[tuple[str, int, int, list[int]]]:
     """Stack, seed and steps of made schedules, and the five counts of each."""
     for _, given, told in sections():

@@ -4,6 +4,8 @@ from __future__ import annotations
 import contextlib
 import importlib.machinery
 import importlib.util
+import io
+import re
 import shutil
 import signal
 import subprocess
@@ -12,15 +14,16 @@ import tempfile
 import time
 import unittest
 from collections.abc import Callable
-from dataclasses import replace
+from dataclasses import dataclass, replace
 from pathlib import Path
 from types import ModuleType
+from unittest import mock
 
 import vstcluster
 from vstcluster import ClusterError, Plan, Room
 
 TOOLS = Path(vstcluster.__file__).resolve().parent
-FAKE = Path(__file__).resolve().parent / "fake-vst"
+FAKE, MODEL = (Path(__file__).resolve().parent / name for name in ("fake-vst", "model-vst"))
 PATIENCE = 30.0
 
 
@@ -33,6 +36,21 @@ def load(name: str) -> ModuleType:
     sys.modules[name] = module
     loader.exec_module(module)
     return module
+
+
+def keys_of(told: object) -> set[str]:
+    """The keys of an object in JSON, and of those within it."""
+    if isinstance(told, dict):
+        return set(told).union(*map(keys_of, told.values()))
+    return set().union(*map(keys_of, told)) if isinstance(told, list) else set()
+
+
+def keys_in_guide(command: str) -> set[str]:
+    """The keys that the guide names of what a command prints."""
+    page = (TOOLS.parent / "docs" / "GUIDE.md").read_text(encoding="utf-8")
+    row = re.search(rf"^\| `{command}` \| (.*) \|$", page, re.MULTILINE)
+    assert row is not None, f"the guide has no row of {command}"
+    return set(re.findall(r"`(\w+)`", row[1]))
 
 
 def awaits(what: Callable[[], bool]) -> bool:
@@ -62,6 +80,27 @@ def remove(folder: Path) -> None:
 def tool(name: str, *words: object) -> subprocess.CompletedProcess[str]:
     """A tool run with these words."""
     return subprocess.run([str(TOOLS / name), *map(str, words)], capture_output=True, text=True, timeout=60, check=False)
+
+
+@dataclass(frozen=True)
+class Done:
+    """How a tool ended, and what it wrote."""
+
+    returncode: int
+    stdout: str
+    stderr: str
+
+
+def main_of(name: str, *words: object) -> Done:
+    """A tool run with these words within this process, which is quicker: for one that takes no signals and starts nothing in the background."""
+    out, err = (io.TextIOWrapper(io.BytesIO(), encoding="latin-1", write_through=True) for _ in range(2))
+    with contextlib.redirect_stdout(out), contextlib.redirect_stderr(err), mock.patch.object(sys, "argv", [name, *map(str, words)]):
+        try:
+            status = load(name).main()
+        except SystemExit as end:
+            status = end.code
+    told = (stream.buffer.getvalue().decode("latin-1") for stream in (out, err))
+    return Done(status, *told)
 
 
 class InFolder(unittest.TestCase):

@@ -6,9 +6,8 @@ import signal
 import subprocess
 import time
 
-from support import FAKE, PATIENCE, TOOLS, InFolder, awaits, hears_interrupts, load, tool
+from support import FAKE, PATIENCE, TOOLS, InFolder, awaits, hears_interrupts, keys_in_guide, keys_of, tool
 from vstcluster import Room
-from vstwire import Asked, Entry, State
 
 
 class Commands(InFolder):
@@ -50,20 +49,10 @@ class Commands(InFolder):
         told = json.loads(tool("client", "--dir", self.room.path, "--json", "get", "a").stdout)
         self.assertEqual((told["output"], told["node"], told["request"]), ("a - -", 0, 1))
         status = json.loads(tool("cluster", "status", "--dir", self.room.path, "--json").stdout)
-        self.assertEqual((status["leader"], [node["state"] for node in status["nodes"]]), (0, ["running"]))
+        self.assertEqual((status["leader"], status["text"], [node["state"] for node in status["nodes"]]), (0, "leader: node 0", ["running"]))
+        self.assertEqual((keys_of(told), keys_of(status)), (keys_in_guide("tools/client"), keys_in_guide("tools/cluster status")))
         kept = json.loads(tool("cluster", "inspect", "--dir", self.room.path, "--json").stdout)
-        self.assertEqual(kept["nodes"], [{"node": 0, "term": 0, "voted": None, "entries": 0, "requests": 0, "last": []}])
-
-    def test_what_a_node_keeps_in_words(self) -> None:
-        cluster = load("cluster")
-        asked = Asked(7, 1, 2, ("put", "a", "x"))
-        state = State(3, None, (Entry(1, None), Entry(1, asked), Entry(3, None)))
-        self.assertEqual(cluster.kept_lines(0, state, 2), [
-            "node 0: term 3, voted for nobody, 3 entries, 1 requests among them",
-            "    entry 2: term 1, request 1 of client 7, taken by node 2: put a x",
-            "    entry 3: term 3, no-op",
-        ])
-        self.assertEqual(cluster.kept_of(0, state, 1)["last"], [{"index": 3, "term": 3, "asked": None}])
+        self.assertEqual(kept["nodes"], [{"node": 0, "fault": None, "term": 0, "voted": None, "entries": 0, "requests": 0, "last": []}])
 
     def test_node_that_ends_at_once(self) -> None:
         self.complains(self.start("ends"), 1, "node 0 does not run")

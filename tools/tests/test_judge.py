@@ -3,15 +3,19 @@ from __future__ import annotations
 
 import contextlib
 import io
+import json
 import signal
 import subprocess
+from collections.abc import Callable
 from pathlib import Path
+from types import ModuleType
 from unittest import mock
 
+import model
 import vstasker
 import vstcluster
 import vsttimeline
-from support import FAKE, PATIENCE, TOOLS, InFolder, hears_interrupts, load, tool, remove
+from support import FAKE, PATIENCE, TOOLS, InFolder, hears_interrupts, keys_in_guide, keys_of, load, tool, remove
 from vstwire import Asked
 
 
@@ -48,11 +52,42 @@ class Judged(InFolder):
             judge.show_place(claim, "condition 2 line 2")
         self.assertEqual(said.getvalue().splitlines()[:2], ["  1: in 0 7 1 get a", "> 2: out 0 reply 7 1 a - -"])
 
-    def test_judge_that_is_told_nothing(self) -> None:
+    def judged(self, how: str, *options: str) -> tuple[ModuleType, Callable[[], int]]:
+        """The judge, and a short run of it over the fake, which behaves like this."""
         judge = load("judge")
-        words = judge.parser().parse_args(["--nodes", "1", "--clients", "1", "--seconds", "0.2"])
+        words = judge.parser().parse_args(["--nodes", "1", "--clients", "1", "--seconds", "0.2", *options])
         plan = vstcluster.make_plan("kv/raft", 1, 1, FAKE)
         self.room.make(plan)
-        (self.room.path / "fake").write_text("mute", encoding="ascii")
-        with mock.patch.object(vstasker, "ASK_SECONDS", 0.3), contextlib.redirect_stdout(io.StringIO()), self.refused("no verdict"):
-            judge.judge(self.room, plan, words)
+        (self.room.path / "fake").write_text(how, encoding="ascii")
+        return judge, lambda: judge.judge(self.room, plan, words)
+
+    def test_judge_that_is_told_nothing(self) -> None:
+        _, run = self.judged("mute", "--json")
+        with mock.patch.object(vstasker, "ASK_SECONDS", 0.3), contextlib.redirect_stdout(io.StringIO()) as said, self.refused("no verdict"):
+            run()
+        told = json.loads(said.getvalue())
+        self.assertEqual((told["verdict"], told["why"], told["requests"]["answered"]), (None, [], 0))
+
+    def refused_run(self, *options: str) -> str:
+        """What is said of a run that is refused: the log of the fake has none of the requests that it answers."""
+        judge, run = self.judged("", *options)
+
+        def check(_plan: vstcluster.Plan, claim: Path) -> str:
+            return model.check("kv/raft", claim.read_bytes())[2].strip()
+
+        with mock.patch.object(judge, "check", check), contextlib.redirect_stdout(io.StringIO()) as said:
+            self.assertEqual(run(), judge.REFUSED)
+        return said.getvalue()
+
+    def test_a_refused_run_is_explained(self) -> None:
+        said = self.refused_run()
+        self.assertIn("\nverdict: condition 2 line 2\n", said)
+        self.assertIn("\n> 2: out 0 reply 0 1 ", said)
+        self.assertIn("The order does not have request 1 of client 0, so no machine executed it, and yet it has a reply.", said)
+        self.assertIn("; condition 2 line 2</title>", (self.room.path / "history.svg").read_text(encoding="ascii"))
+
+    def test_a_refused_run_as_an_object(self) -> None:
+        told = json.loads(self.refused_run("--json"))
+        self.assertEqual((told["verdict"], told["executed"]), ("condition 2 line 2", 0))
+        self.assertEqual(keys_of(told), keys_in_guide("tools/judge"))
+        self.assertTrue(told["why"][0].startswith("condition 2 line 2: it is false that each reply is to a request of the order"))

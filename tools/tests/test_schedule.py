@@ -5,7 +5,7 @@ import unittest
 from dataclasses import replace
 
 import vstworld
-from support import load, tool
+from support import load, main_of, tool
 from vstworld import KINDS, STACKS, Stack
 
 schedule = load("schedule")
@@ -49,6 +49,13 @@ class Made(unittest.TestCase):
         self.assertGreater(ticks, 5 + sum(line.startswith("tick ") for line in world.image()))
         self.assertGreater(len(world.trace), 100)
 
+    def test_what_is_lost_is_sent_again(self) -> None:
+        for stack in ("lock/seq/retry", "kv/pb/seq/retry"):
+            with self.subTest(stack):
+                made = schedule.make(stack, schedule.NODES[STACKS[stack].over], 400, 1, rates(STACKS[stack], lose=0.3))
+                self.assertGreater(made.counts["lose"], 30)
+                self.assertGreater(sum(line.startswith("out ") for line in made.world.trace), 20)
+
     def test_the_words_decide(self) -> None:
         first, again, other = (schedule.make("kv/raft", 3, 100, seed, UNKIND).world.taken for seed in (1, 1, 2))
         self.assertEqual(first, again)
@@ -73,11 +80,12 @@ class Words(unittest.TestCase):
     def test_refusals(self) -> None:
         for words, part in (
             (("--stack", "lock/seq", "--lose", 0.1), "--lose: the network dup of lock/seq has none of this"),
+            (("--stack", "lock/seq/retry", "--crash", 0.1), "--crash: the network loss of lock/seq/retry has none of this"),
             (("--stack", "kv", "--nodes", 2), "kv has 1 to 1 nodes"),
             (("--stack", "kv/raft", "--crash", 2), "2 is not in 0 to 0.9"),
             ((), "--stack"),
         ):
             with self.subTest(words):
-                done = tool("schedule", *words)
+                done = main_of("schedule", *words)
                 self.assertEqual((done.returncode, done.stdout, done.stderr.count("\n")), (2, "", 1))
                 self.assertIn(part, done.stderr)

@@ -3,12 +3,11 @@ from __future__ import annotations
 
 import re
 import unittest
-import unittest.mock
 from xml.etree import ElementTree
 
 import vstclaims
 import vsttimeline
-from support import FAKE, TOOLS, load, tool
+from support import FAKE, TOOLS, load, main_of
 from vstworld import STACKS
 
 DATA = TOOLS.parent / "examples" / "cluster"
@@ -56,6 +55,34 @@ class Timeline(unittest.TestCase):
         self.assertNotIn("get a", svg)
         self.assertTrue(all(x >= vsttimeline.LEFT - 1 for _, x, _ in rectangles(svg)))
 
+    def test_a_claim_of_the_same_run(self) -> None:
+        smaller = [line for line in self.claim.lines if not re.match(r"(in \d|out \d reply|out \d notleader|order) 2 ", line)]
+        claim = vstclaims.read_claim(STACKS["kv/raft"], smaller)
+        svg = vsttimeline.draw(self.history, claim, vstclaims.judge(claim))
+        self.assertIn("client 3, request 1: get a: a =x =x; asked at 0.900 s, answered at 0.970 s; refused: condition 3 line ", svg)
+        moved = [self.claim.lines[1], self.claim.lines[0], *self.claim.lines[2:]]
+        for lines in (moved, ["in 0 7 1 get a", *self.claim.lines]):
+            other = vstclaims.read_claim(STACKS["kv/raft"], lines)
+            with self.subTest(lines[0]), self.assertRaisesRegex(vsttimeline.HistoryError, "not of this history"):
+                vsttimeline.draw(self.history, other, vstclaims.Verdict())
+
+    def test_verdicts_that_name_no_request(self) -> None:
+        for line in (0, self.claim.below, len(self.claim.lines) + 1):
+            with self.subTest(line), self.assertRaisesRegex(vsttimeline.HistoryError, "names no request"):
+                vsttimeline.draw(self.history, self.claim, vstclaims.Verdict(3, line))
+
+    def test_title_size_and_texts_for_the_pointer(self) -> None:
+        drawn = ElementTree.fromstring(vsttimeline.draw(self.history, self.claim, vstclaims.judge(self.claim)))
+        self.assertEqual(drawn.get("viewBox"), f"0 0 {drawn.get('width')} {drawn.get('height')}")
+        self.assertEqual(next(iter(drawn)).tag, f"{SVG}title")
+        bars = [group for group in drawn.iter(f"{SVG}g") if group.find(f"{SVG}title") is not None]
+        hovers = [str(group.findtext(f"{SVG}title")) for group in bars]
+        for part in ("node 0 killed from 0.100 to 0.810 s", "node 2 paused from 0.200 to 0.360 s", "links 1-2 2-1 cut from 0.250 to 0.500 s"):
+            self.assertIn(part, hovers)
+        self.assertEqual(len([hover for hover in hovers if hover.startswith("client ")]), len(vsttimeline.requests_of(self.history)))
+        style = str(drawn.findtext(f"{SVG}style"))
+        self.assertIn(".refused{fill:#cb181d}", style)
+
     def test_texts_are_escaped(self) -> None:
         lines = ["history 1 kv/raft 1", "0.0 in 0 1 1 put <b>& x", "9.0 out 0 reply 1 1 <b>& =x -"]
         self.assertIn("put &lt;b&gt;&amp; x", vsttimeline.draw(vsttimeline.read_history(lines), None, vstclaims.Verdict()))
@@ -72,20 +99,26 @@ class Command(unittest.TestCase):
     """The tool, and what the judge writes for it."""
 
     def test_command(self) -> None:
-        done = tool("timeline", HISTORY, "--claim", CLAIM)
+        done = main_of("timeline", HISTORY, "--claim", CLAIM)
         self.assertEqual((done.returncode, done.stderr), (0, ""))
         self.assertEqual(done.stdout, HISTORY.with_suffix(".svg").read_text(encoding="ascii"), "the picture beside the history is not up to date")
         self.assertTrue(re.search(r'class="refused" x="[0-9.]+" y="[0-9]+" width="[0-9.]+" height="16"', done.stdout))
-        for words in ((CLAIM,), (HISTORY, "--verdict", "x"), (HISTORY, "--from", 2, "--to", 1), (DATA / "none",)):
+        for words, part in (
+            ((CLAIM,), "line 1 is no header"), ((HISTORY, "--verdict", "x"), "no verdict: x"), ((HISTORY, "--verdict", ""), "no verdict: "),
+            ((HISTORY, "--verdict", "condition 3 line 15"), "--claim names it"), ((HISTORY, "--from", 2, "--to", 1), "--to is not after --from"),
+            ((HISTORY, "--claim", CLAIM, "--verdict", "condition 2 line 12"), "names no request"), ((DATA / "none",), "no such file"),
+            ((HISTORY, "--claim", DATA.parent / "kv_raft_stale.claim"), "the claim is not of this history"),
+        ):
             with self.subTest(words):
-                done = tool("timeline", *words)
+                done = main_of("timeline", *words)
                 self.assertEqual((done.returncode, done.stdout, done.stderr.count("\n")), (2, "", 1))
+                self.assertIn(part, done.stderr)
 
     def test_judge_explains(self) -> None:
         judge = load("judge")
         plan = judge.vstcluster.make_plan("kv/raft", 3, 1, FAKE)
-        with unittest.mock.patch("builtins.print") as said:
-            judge.say_why(plan, CLAIM, "condition 3 line 15")
-            judge.say_why(plan, CLAIM, "condition 2 line 4")
-        self.assertEqual(said.call_count, 1)
-        self.assertIn("The order has request 1 of client 3 before request 2 of client 1.", said.call_args.args[0])
+        told = judge.why_refused(plan, CLAIM, "condition 3 line 15")
+        self.assertIn("The order has request 1 of client 3 before request 2 of client 1.", told)
+        for verdict in ("condition 2 line 4", "condition 3 line 16", "x"):
+            self.assertEqual(len(judge.why_refused(plan, CLAIM, verdict)), 1)
+        self.assertIn("`condition 3 line 15`", judge.why_refused(plan, CLAIM, "condition 2 line 4")[0])

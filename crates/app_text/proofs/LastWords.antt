@@ -5,8 +5,8 @@ use Rattle.std.specs.Str.{bytes_eq}
 use Rattle.std.proofs.lemmas.Bool.{and_right, false_from_ne_true, both_ways}
 use Rattle.kv_machine.specs.declared.cmd.KvCmd.TheVariants.{Cas}
 use Rattle.lock_table.specs.Table.{told}
-use Rattle.mirror.specs.declared.messages.MirrorInput.TheVariants.{Put}
-use Rattle.mirror.specs.declared.messages.MirrorOutput.TheVariants.{From}
+use Rattle.vst_base.specs.declared.mirror.MirrorInput.TheVariants.{Put}
+use Rattle.vst_base.specs.declared.mirror.MirrorOutput.TheVariants.{From}
 use Rattle.vst_base.specs.Tokens.{is_token, token_of, is_key, is_value}
 use Rattle.app_text.specs.KvTexts.{cas_of, kv_out}
 use Rattle.app_text.specs.KvTexts as kv

@@ -2,10 +2,10 @@
 use Rattle.std.specs.Prelude.{ℕ, Bool, ◌&&◌, ◌+◌, ◌-◌, nat_le, nat_lt, List, [], ◌∷◌, Option, None, Some, codes, if◌then◌else◌}
 use Rattle.std.specs.Option.{option_map}
 use Rattle.std.specs.Str.{bytes_eq}
-use Rattle.mirror.specs.declared.messages.MirrorInput.{MirrorInput}
-use Rattle.mirror.specs.declared.messages.MirrorInput.TheVariants.{Put}
-use Rattle.mirror.specs.declared.messages.MirrorOutput.{MirrorOutput}
-use Rattle.mirror.specs.declared.messages.MirrorOutput.TheVariants.{From}
+use Rattle.vst_base.specs.declared.mirror.MirrorInput.{MirrorInput}
+use Rattle.vst_base.specs.declared.mirror.MirrorInput.TheVariants.{Put}
+use Rattle.vst_base.specs.declared.mirror.MirrorOutput.{MirrorOutput}
+use Rattle.vst_base.specs.declared.mirror.MirrorOutput.TheVariants.{From}
 use Rattle.vst_base.specs.Tokens.{is_value}
 use Rattle.vst_base.specs.declared.node.TheConstants.{MAX_NODES}
 use Rattle.app_text.specs.Words.{words_of, joined}

@@ -2,7 +2,7 @@ ghost use Rattle.std.specs.Prelude.{[], ◌∷◌, ◌++◌, IsTrue, codes, repl
 ghost use Rattle.app_text.specs.Examples.{Spells, none_of};
 ghost use Rattle.app_text.specs.MirrorTexts.{input_of, input_text, output_of, output_text};
 
-use mirror::{MirrorInput, MirrorOutput};
+use vst_base::{MirrorInput, MirrorOutput};
 
 /// The texts of the mirror's inputs, and what is none.
 pub fn worked_mirror_inputs()

@@ -8,9 +8,8 @@ use crate::printing::push_words;
 use crate::word::Word::Plain;
 use crate::words::cut_word;
 use crate::{AppText, TextFault};
-use mirror::{MirrorInput, MirrorOutput, Sender};
 use std::alloc::{AllocError, Global};
-use vst_base::{MAX_NODES, Node, Value};
+use vst_base::{MAX_NODES, MirrorInput, MirrorOutput, Node, Sender, Value};
 
 /// The texts of the mirror. Its input is `put` and a value, its output `from`, the node that the value came from, which is one digit
 /// from 0 to 8, and the value.

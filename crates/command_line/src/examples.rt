@@ -49,6 +49,10 @@ pub fn worked()
         ≡ Some (Command.Check StackId.Mirror) }
     ensures check_mirror_fifo { command_of (codes "vst" ∷ codes "check" ∷ codes "--stack" ∷ codes "mirror/fifo" ∷ [])
         ≡ Some (Command.Check StackId.MirrorFifo) }
+    ensures check_lock_seq_retry { command_of (codes "vst" ∷ codes "check" ∷ codes "--stack" ∷ codes "lock/seq/retry" ∷ [])
+        ≡ Some (Command.Check StackId.LockSeqRetry) }
+    ensures check_kv_pb_seq_retry { command_of (codes "vst" ∷ codes "check" ∷ codes "--stack" ∷ codes "kv/pb/seq/retry" ∷ [])
+        ≡ Some (Command.Check StackId.KvPbSeqRetry) }
     ensures attached { command_of (codes "vst" ∷ codes "check" ∷ codes "--stack=lock" ∷ []) ≡ Some (Command.Check StackId.Lock) }
     ensures check_end_of_options { command_of (codes "vst" ∷ codes "check" ∷ codes "--stack" ∷ codes "lock" ∷ codes "--" ∷ []) ≡ Some (Command.Check StackId.Lock) }
     ensures check_taken { takes_words (codes "vst" ∷ codes "check" ∷ codes "--stack" ∷ codes "lock" ∷ []) ≡ true }
@@ -101,7 +105,7 @@ pub fn worked()
 pub fn worked_schedules()
     // The stacks of which schedules can be made.
     ensures stacks { packet_stack_words ≡ codes "lock" ∷ codes "lock/seq" ∷ codes "kv/pb" ∷ codes "kv/pb/seq" ∷ codes "kv/raft"
-        ∷ codes "table/pb/seq" ∷ codes "table/raft" ∷ codes "mirror" ∷ codes "mirror/fifo" ∷ [] }
+        ∷ codes "table/pb/seq" ∷ codes "table/raft" ∷ codes "mirror" ∷ codes "mirror/fifo" ∷ codes "lock/seq/retry" ∷ codes "kv/pb/seq/retry" ∷ [] }
 
     // In any order, and in each spelling that clap takes.
     ensures apart { command_of (codes "vst" ∷ codes "make" ∷ codes "--stack" ∷ codes "lock" ∷ codes "--seed" ∷ codes "5" ∷ codes "--steps" ∷ codes "3" ∷ [])
@@ -118,6 +122,8 @@ pub fn worked_schedules()
         ≡ Some (Command.Summarize (made_schedule StackId.KvRaft 4294967295 1000000)) }
     ensures in_order { command_of (codes "vst" ∷ codes "make" ∷ codes "--stack=mirror/fifo" ∷ codes "--seed=1" ∷ codes "--steps=20" ∷ [])
         ≡ Some (Command.Make (made_schedule StackId.MirrorFifo 1 20)) }
+    ensures sent_again { command_of (codes "vst" ∷ codes "make" ∷ codes "--stack=kv/pb/seq/retry" ∷ codes "--seed=1" ∷ codes "--steps=20" ∷ codes "--summary" ∷ [])
+        ≡ Some (Command.Summarize (made_schedule StackId.KvPbSeqRetry 1 20)) }
 
     // An option that is missing, or has no value.
     ensures no_options { takes_words (codes "vst" ∷ codes "make" ∷ []) ≡ false }

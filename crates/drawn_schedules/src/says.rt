@@ -2,9 +2,8 @@ use crate::words::push_number;
 use app_text::{AppText, KvText, TableText};
 use kv_machine::KvCmd;
 use lock_table::TableCmd;
-use mirror::MirrorMsg;
 use std::alloc::AllocError;
-use vst_base::{LockMsg, PbMsg, SeqMsg};
+use vst_base::{LockMsg, MirrorMsg, PbMsg, RetryMsg, SeqMsg};
 
 /// What can be said in a few words, for people to read.
 pub trait Says {
@@ -40,12 +39,33 @@ impl Says for MirrorMsg {
     }
 }
 
+// Adds a number behind the words of what it numbers.
+fn say_number(number: u64, out: &mut Vec<u8>) -> Result<(), AllocError> {
+    out.extend_from_slice(b" #")?;
+    push_number(out, number)
+}
+
 // Its number, of all packets of its sender or of those to its destination.
 impl<M: Says> Says for SeqMsg<M> {
     fn say(&self, out: &mut Vec<u8>) -> Result<(), AllocError> {
         self.inner.say(out)?;
-        out.extend_from_slice(b" #")?;
-        push_number(out, self.number)
+        say_number(self.number, out)
+    }
+}
+
+// The number of the data, of all data of its sender or of that which gets the acknowledgement.
+impl<M: Says> Says for RetryMsg<M> {
+    fn say(&self, out: &mut Vec<u8>) -> Result<(), AllocError> {
+        match self {
+            RetryMsg::Data { number, inner } => {
+                inner.say(out)?;
+                say_number(*number, out)
+            }
+            RetryMsg::Ack { number } => {
+                out.extend_from_slice(b"ack")?;
+                say_number(*number, out)
+            }
+        }
     }
 }
 

@@ -15,6 +15,7 @@ use net_semantics::FailWorld;
 use primary_backup::PrimaryBackup;
 use raft_text::RaftText;
 use raft_xform::Raft;
+use retry_xform::Retry;
 use schedule_text::Header;
 use seqnum_xform::SeqNum;
 use std::alloc::AllocError;
@@ -69,6 +70,12 @@ impl Rest {
             StackId::Table => self.on::<_, TableText>(net, SingleNode::new(TableMachine)),
             StackId::Mirror => self.on::<_, MirrorText>(net, mirror),
             StackId::MirrorFifo => self.on::<_, MirrorText>(net, Fifo::new(mirror)),
+            StackId::LockSeqRetry => {
+                self.on::<_, LockText>(net, Retry::new(SeqNum::new(LockServer::new(n))))
+            }
+            StackId::KvPbSeqRetry => {
+                self.on::<_, PbText<KvText>>(net, Retry::new(SeqNum::new(kv)))
+            }
         }
     }
 }

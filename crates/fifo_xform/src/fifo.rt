@@ -7,7 +7,7 @@ ghost use Rattle.fifo_xform.specs.Peers.{numbered_packets};
 
 use crate::hand_on::hand_on;
 use crate::{FifoState, Peers};
-use handler_trait::{Effects, Handlers};
+use handler_trait::{Effects, Handlers, LeavesRoom};
 use std::alloc::{AllocError, Global};
 use std::marker::Model;
 use vst_base::{Node, SeqMsg};
@@ -173,4 +173,8 @@ impl<H: Handlers> Handlers for Fifo<H> {
     ghost modest_message = { modest_message H.meaning H.sound H.spent H.SENDS H.few_sends H.modest_message };
 
     ghost modest_timeout = { modest_timeout H.meaning H.sound H.spent H.SENDS H.few_sends H.modest_timeout H.modest_message };
+}
+
+impl<H: LeavesRoom> LeavesRoom for Fifo<H> {
+    ghost leaves_room = { H.leaves_room };
 }

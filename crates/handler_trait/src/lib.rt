@@ -7,9 +7,11 @@ mod effects;
 mod examples;
 mod handlers;
 mod rebootable;
+mod room;
 
 pub use echo::Echo;
 pub use effects::Effects;
 pub use examples::worked;
 pub use handlers::{Handlers, MAX_OUTPUTS, MAX_SENDS, SPENT_MAX, STEP_COST};
 pub use rebootable::Rebootable;
+pub use room::LeavesRoom;

@@ -5,7 +5,7 @@ ghost use Rattle.lock_server.specs.LockLaws.{modest_input, modest_message, modes
 
 use crate::rules::{client_input, client_message, server_message};
 use crate::{LockState, Queue};
-use handler_trait::{Effects, Handlers};
+use handler_trait::{Effects, Handlers, LeavesRoom};
 use std::alloc::{AllocError, Global};
 use std::marker::Model;
 use vst_base::{LockInput, LockMsg, LockOutput, Node};
@@ -154,4 +154,10 @@ impl Handlers for LockServer {
     ghost modest_message = { modest_message };
 
     ghost modest_timeout = { modest_timeout };
+}
+
+impl LeavesRoom for LockServer {
+    ghost use Rattle.std.proofs.Common.{arith};
+
+    ghost leaves_room = { omega arith };
 }

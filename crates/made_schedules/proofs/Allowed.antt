@@ -38,7 +38,7 @@ pub kind-allowed : (k : Kind) (n seed steps : ℕ) → KindMakes k → 0 < n →
     → (makes k n).plays.play.refused ((makes k n).made seed steps) ≡ None
 kind-allowed (Steady l) n seed steps can some sends =
     let s = service l in
-    taken s.net (s.handlers n) (no_recovery {S = s.State}) (layers_make l) seed steps sends (some-nodes l n can some)
+    taken s.net (s.handlers n) (no_recovery {S = s.State}) (layers_make l) seed steps sends (some-nodes l n can.layers some)
 kind-allowed (Clustered p) n seed steps can some sends =
     taken net.Fail (raft n p.machine) (raft_recovery p.machine) (asked_by_client p.makes) seed steps sends some
 

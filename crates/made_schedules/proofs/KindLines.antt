@@ -12,11 +12,11 @@ use Rattle.stacks.specs.Kinds.{Alone, Application, Backed, Clustered, Itself, Ki
 use Rattle.stacks.specs.Made.{layers_make, makes}
 use Rattle.vst_base.specs.declared.net.Net.TheVariants as net
 use Rattle.vst_base.specs.declared.node.TheConstants.{MAX_NODES}
-use Rattle.made_schedules.specs.Makes.{AllHaveLines, IsReadBack, KindMakes, LayersMake, MachineMakes, MakesTexts}
-use Rattle.made_schedules.specs.Sends.{SendsFew}
+use Rattle.made_schedules.specs.Makes.{AllHaveLines, IsReadBack, KindMakes, LayersMake, MachineMakes, MakesTexts, most_sends}
+use Rattle.made_schedules.specs.Sends.{SendsAtMost}
 use Rattle.made_schedules.specs.Texts.{HaveTexts}
 use Rattle.made_schedules.proofs.RaftSends.{raft-few}
-use Rattle.made_schedules.proofs.Sends.{backup-few, single-few}
+use Rattle.made_schedules.proofs.Sends.{at-most-more, backup-few, single-few}
 use Rattle.made_schedules.proofs.StepLines.{have-lines}
 use Rattle.made_schedules.proofs.Texts.{of-clients, of-commands}
 
@@ -35,11 +35,11 @@ few-nodes (Backed p) n can few = omega arith
 few-nodes (Through t l) n can few = omega (arith, can.0.nodes ((service l).handlers n), few-nodes l n can.1 few)
 few-nodes (Itself i l) n can few = few-nodes l n can few
 
-send-few : (l : Layers) (n : ℕ) → LayersMake l → SendsFew ((service l).handlers n)
+send-few : (l : Layers) (n : ℕ) → LayersMake l → SendsAtMost (most_sends l) ((service l).handlers n)
 send-few (Own h) n can = can.sends n
 send-few (Alone p) n can = single-few p.machine
 send-few (Backed p) n can = backup-few p.machine
-send-few (Through t l) n can = can.0.sends ((service l).handlers n) (send-few l n can.1)
+send-few (Through t l) n can = can.0.sends (most_sends l) ((service l).handlers n) (send-few l n can.1)
 send-few (Itself i l) n can = send-few l n can
 
 -- where values have one text each, those that have one are those that are read back
@@ -75,7 +75,7 @@ cluster-texts p can = by-spelling (raft_texts p.texts) (raft_inputs_are_spelled 
 -- the inputs of a kind are spelled
 pub kind-spelled : (k : Kind) (n : ℕ) → KindMakes k
     → IsSpelling (IsReadBack (makes k n).plays.play.texts.input_of (makes k n).plays.play.texts.input_text) (makes k n).plays.play.texts.input_of (makes k n).plays.play.texts.input_text
-kind-spelled (Steady l) n can = (layers-texts l can).spelled
+kind-spelled (Steady l) n can = (layers-texts l can.layers).spelled
 kind-spelled (Clustered p) n can = (cluster-texts p can).spelled
 
 -- and its made schedules have lines
@@ -83,7 +83,7 @@ pub kind-lines : (k : Kind) (n : ℕ) → n ≤ MAX_NODES → KindMakes k → Al
 kind-lines (Steady l) n few can =
     let s = service l in
     have-lines (IsReadBack s.texts.input_of s.texts.input_text) s.texts.input_text s.net (s.handlers n) (no_recovery {S = s.State}) (layers_make l)
-    (few-nodes l n can few) (send-few l n can) (layers-texts l can).texts
+    (few-nodes l n can.layers few) (at-most-more (most_sends l) MAX_NODES (s.handlers n) can.sends (send-few l n can.layers)) (layers-texts l can.layers).texts
 kind-lines (Clustered p) n few can =
     let t = raft_texts p.texts in
     have-lines (IsReadBack t.input_of t.input_text) t.input_text net.Fail (raft n p.machine) (raft_recovery p.machine) (asked_by_client p.makes)

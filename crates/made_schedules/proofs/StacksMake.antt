@@ -4,18 +4,21 @@ use Rattle.app_text.specs.LockTextLaws as lock_text
 use Rattle.app_text.specs.MirrorTextLaws as mirror_text
 use Rattle.app_text.specs.TableTextLaws as table_text
 use Rattle.schedule_make.specs.Inputs.{kv_input, lock_input, mirror_input, table_input}
-use Rattle.std.proofs.Common.{refl}
+use Rattle.std.specs.Prelude.{◌+◌, ◌≤◌}
+use Rattle.std.proofs.Common.{arith, refl}
 use Rattle.stacks.specs.Plays.{IfFound}
-use Rattle.stacks.specs.Kinds.{Service}
+use Rattle.stacks.specs.Kinds.{Layers, Service}
 use Rattle.stacks.specs.Table.{kind_at, kv_texts, lock_table, lock_texts, locks, mirror_texts, mirrors, store, table_texts}
 use Rattle.transformers.specs.Ordering.{ordering}
 use Rattle.transformers.specs.Numbering.{numbering}
+use Rattle.transformers.specs.Retransmission.{retransmission}
 use Rattle.vst_base.specs.Stacks.{row_of}
+use Rattle.vst_base.specs.declared.node.TheConstants.{MAX_NODES}
 use Rattle.vst_base.specs.declared.stack.StackId.{StackId}
 use Rattle.vst_base.specs.declared.stack.StackId.TheVariants as stack
-use Rattle.made_schedules.specs.Makes.{KeepsFew, KindMakes, MachineMakes, OwnMakes}
+use Rattle.made_schedules.specs.Makes.{KeepsFew, KindMakes, LayersMake, MachineMakes, OwnMakes, SteadyMakes, most_sends}
 use Rattle.made_schedules.proofs.KindLines.{by-spelling}
-use Rattle.made_schedules.proofs.Sends.{fifo-few, lock-few, mirror-few, numbered-few}
+use Rattle.made_schedules.proofs.Sends.{at-most-more, fifo-few, lock-few, mirror-few, numbered-few, retried-few}
 use Rattle.made_schedules.proofs.Texts as texts
 
 locks-make : OwnMakes locks
@@ -39,20 +42,28 @@ table-makes : MachineMakes lock_table
 table-makes = by-spelling table_texts table_text.inputs_are_spelled 3900 table_input texts.table-texts
 
 numbering-keeps : (s : Service) → KeepsFew numbering s
-numbering-keeps s = record { nodes = λ m. refl; sends = numbered-few }
+numbering-keeps s = record { nodes = λ m. refl; sends = λ most m few. at-most-more most (most + 1) (numbering.transforms m) (omega arith) (numbered-few most m few) }
 
 ordering-keeps : (s : Service) → KeepsFew ordering s
-ordering-keeps s = record { nodes = λ m. refl; sends = fifo-few }
+ordering-keeps s = record { nodes = λ m. refl; sends = λ most m few. at-most-more most (most + 1) (ordering.transforms m) (omega arith) (fifo-few most m few) }
+
+retransmission-keeps : (s : Service) → KeepsFew retransmission s
+retransmission-keeps s = record { nodes = λ m. refl; sends = retried-few }
+
+steady-makes : (l : Layers) → LayersMake l → most_sends l ≤ MAX_NODES → SteadyMakes l
+steady-makes l layers sends = record { layers = layers; sends = sends }
 
 pub stacks-make : (i : StackId) → IfFound (kind_at (row_of i).net i) KindMakes
-stacks-make stack.Lock = locks-make
-stacks-make stack.LockSeq = (numbering-keeps _, locks-make)
-stacks-make stack.KvPb = store-makes
-stacks-make stack.KvPbSeq = (numbering-keeps _, store-makes)
+stacks-make stack.Lock = steady-makes _ locks-make (omega arith)
+stacks-make stack.LockSeq = steady-makes _ (numbering-keeps _, locks-make) (omega arith)
+stacks-make stack.KvPb = steady-makes _ store-makes (omega arith)
+stacks-make stack.KvPbSeq = steady-makes _ (numbering-keeps _, store-makes) (omega arith)
 stacks-make stack.KvRaft = store-makes
-stacks-make stack.TablePbSeq = (numbering-keeps _, table-makes)
+stacks-make stack.TablePbSeq = steady-makes _ (numbering-keeps _, table-makes) (omega arith)
 stacks-make stack.TableRaft = table-makes
-stacks-make stack.Kv = store-makes
-stacks-make stack.Table = table-makes
-stacks-make stack.Mirror = mirrors-make
-stacks-make stack.MirrorFifo = (ordering-keeps _, mirrors-make)
+stacks-make stack.Kv = steady-makes _ store-makes (omega arith)
+stacks-make stack.Table = steady-makes _ table-makes (omega arith)
+stacks-make stack.Mirror = steady-makes _ mirrors-make (omega arith)
+stacks-make stack.MirrorFifo = steady-makes _ (ordering-keeps _, mirrors-make) (omega arith)
+stacks-make stack.LockSeqRetry = steady-makes _ (retransmission-keeps _, (numbering-keeps _, locks-make)) (omega arith)
+stacks-make stack.KvPbSeqRetry = steady-makes _ (retransmission-keeps _, (numbering-keeps _, store-makes)) (omega arith)

@@ -1,5 +1,5 @@
 -- The kinds of stacks that schedules are made for: what is asked of their handlers, inputs and transformers.
-use Rattle.std.specs.Prelude.{◌≡◌, ℕ, ◌≤◌, List, Option, Some}
+use Rattle.std.specs.Prelude.{◌≡◌, ℕ, ◌+◌, ◌≤◌, List, Option, Some}
 use Rattle.app_text.specs.Spelling.{IsSpelling}
 use Rattle.handler_trait.specs.Handling.{Meaning}
 use Rattle.schedule_make.specs.Made.{Inputs}
@@ -8,8 +8,9 @@ use Rattle.stacks.specs.Kinds.{Alone, Application, Backed, Clustered, Itself, Ki
 use Rattle.stacks.specs.Made.{AnyMade}
 use Rattle.stacks.specs.Plays.{Texts}
 use Rattle.transformers.specs.Transformers.{Transformer}
+use Rattle.vst_base.specs.declared.node.TheConstants.{MAX_NODES}
 use Rattle.vst_base.specs.declared.step.TheConstants.{MAX_STEPS}
-use Rattle.made_schedules.specs.Sends.{SendsFew}
+use Rattle.made_schedules.specs.Sends.{SendsAtMost}
 use Rattle.made_schedules.specs.Texts.{HaveTexts}
 
 -- a value that is read back from its text
@@ -21,20 +22,24 @@ pub record MakesTexts {I O : Type 0} (most : ℕ) (t : Texts I O) (inputs : Inpu
   pub spelled : IsSpelling (IsReadBack t.input_of t.input_text) t.input_of t.input_text
   pub texts : HaveTexts most (IsReadBack t.input_of t.input_text) t.input_text inputs
 
+-- the most packets that an event sends of handlers without a transformer
+abbrev pub own_sends : ℕ
+own_sends = 2
+
 -- handlers have as many nodes as are asked for, their events send few packets, and their inputs have short texts
 pub record OwnMakes (h : OwnHandlers) : Type 0 where
   pub nodes : (n : ℕ) → (h.handlers n).nodes ≡ n
-  pub sends : (n : ℕ) → SendsFew (h.handlers n)
+  pub sends : (n : ℕ) → SendsAtMost own_sends (h.handlers n)
   pub inputs : MakesTexts 4000 h.texts h.makes
 
 -- a machine's commands leave room for a client's number and the request's
 abbrev pub MachineMakes : Application → Type 0
 MachineMakes p = MakesTexts 3900 p.texts p.makes
 
--- transformed handlers have the nodes of those within, and their events send few packets where those within send few
+-- transformed handlers have the nodes of those within, and their events send one packet more at most
 pub record KeepsFew (t : Transformer) (s : Service) : Type 0 where
   pub nodes : (m : Meaning s.State s.Input s.Output s.Msg) → (t.transforms m).nodes ≡ m.nodes
-  pub sends : (m : Meaning s.State s.Input s.Output s.Msg) → SendsFew m → SendsFew (t.transforms m)
+  pub sends : (most : ℕ) (m : Meaning s.State s.Input s.Output s.Msg) → SendsAtMost most m → SendsAtMost (most + 1) (t.transforms m)
 
 -- schedules can be made for such layers, and for such a kind of stack
 abbrev pub LayersMake : Layers → Type 0
@@ -44,8 +49,20 @@ LayersMake (Backed p) = MachineMakes p
 LayersMake (Through t l) = KeepsFew t (service l) × LayersMake l
 LayersMake (Itself i l) = LayersMake l
 
+-- the most packets that an event of layers sends then
+abbrev pub most_sends : Layers → ℕ
+most_sends (Own h) = own_sends
+most_sends (Alone p) = own_sends
+most_sends (Backed p) = own_sends
+most_sends (Through t l) = most_sends l + 1
+most_sends (Itself i l) = most_sends l
+
+pub record SteadyMakes (l : Layers) : Type 0 where
+  pub layers : LayersMake l
+  pub sends : most_sends l ≤ MAX_NODES
+
 abbrev pub KindMakes : Kind → Type 0
-KindMakes (Steady l) = LayersMake l
+KindMakes (Steady l) = SteadyMakes l
 KindMakes (Clustered p) = MachineMakes p
 
 -- whatever the number that a schedule is made from, and however many steps it has, its steps have lines

@@ -15,11 +15,11 @@ use Rattle.net_semantics.specs.Worlds.{World, Packet, first_world, change_at, on
 use Rattle.net_semantics.specs.Steps.{Event, next, refusal_of, items_of_event, delivery, after_event, with_packets, flies_among}
 use Rattle.net_semantics.specs.Runs.{IsAllowed, trace, trace_from, first_refused_from, no_recovery}
 use Rattle.net_semantics.specs.RunLaws.{place_and_why-none}
-use Rattle.mirror.specs.declared.messages.MirrorInput.{MirrorInput}
-use Rattle.mirror.specs.declared.messages.MirrorInput.TheVariants as ask
-use Rattle.mirror.specs.declared.messages.MirrorOutput.{MirrorOutput}
-use Rattle.mirror.specs.declared.messages.MirrorMsg.{MirrorMsg}
-use Rattle.mirror.specs.declared.messages.MirrorMsg.TheVariants as msg
+use Rattle.vst_base.specs.declared.mirror.MirrorInput.{MirrorInput}
+use Rattle.vst_base.specs.declared.mirror.MirrorInput.TheVariants as ask
+use Rattle.vst_base.specs.declared.mirror.MirrorOutput.{MirrorOutput}
+use Rattle.vst_base.specs.declared.mirror.MirrorMsg.{MirrorMsg}
+use Rattle.vst_base.specs.declared.mirror.MirrorMsg.TheVariants as msg
 use Rattle.mirror.specs.Mirroring.{mirror, said, nothing}
 use Rattle.mirror.specs.Prefix.{MirrorTrace, Mirrors, put_at, said_from}
 

@@ -2,10 +2,10 @@
 use Rattle.std.specs.Prelude.{ℕ, ◌<◌, ◌==◌, Bool, true, false, cond}
 use Rattle.std.proofs.Common.{arith}
 use Rattle.handler_trait.specs.Handling.{IsModest}
-use Rattle.mirror.specs.declared.messages.MirrorInput.{MirrorInput}
-use Rattle.mirror.specs.declared.messages.MirrorInput.TheVariants as ask
-use Rattle.mirror.specs.declared.messages.MirrorMsg.{MirrorMsg}
-use Rattle.mirror.specs.declared.messages.MirrorMsg.TheVariants as msg
+use Rattle.vst_base.specs.declared.mirror.MirrorInput.{MirrorInput}
+use Rattle.vst_base.specs.declared.mirror.MirrorInput.TheVariants as ask
+use Rattle.vst_base.specs.declared.mirror.MirrorMsg.{MirrorMsg}
+use Rattle.vst_base.specs.declared.mirror.MirrorMsg.TheVariants as msg
 use Rattle.mirror.specs.Mirroring.{MirrorEffect, mirror, nothing, said}
 
 abbrev pub IsMirrorModest : ℕ → MirrorEffect → Type 0

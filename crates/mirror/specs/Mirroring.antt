@@ -1,12 +1,12 @@
 -- The mirror as functions: what is put at a node, node 0 outputs with the node's number.
 use Rattle.std.specs.Prelude.{ℕ, nat_lt, [], ◌∷◌, ◌==◌, if◌then◌else◌}
 use Rattle.handler_trait.specs.Handling.{Meaning, Effect}
-use Rattle.mirror.specs.declared.messages.MirrorInput.{MirrorInput}
-use Rattle.mirror.specs.declared.messages.MirrorInput.TheVariants as ask
-use Rattle.mirror.specs.declared.messages.MirrorOutput.{MirrorOutput}
-use Rattle.mirror.specs.declared.messages.MirrorOutput.TheVariants as told
-use Rattle.mirror.specs.declared.messages.MirrorMsg.{MirrorMsg}
-use Rattle.mirror.specs.declared.messages.MirrorMsg.TheVariants as msg
+use Rattle.vst_base.specs.declared.mirror.MirrorInput.{MirrorInput}
+use Rattle.vst_base.specs.declared.mirror.MirrorInput.TheVariants as ask
+use Rattle.vst_base.specs.declared.mirror.MirrorOutput.{MirrorOutput}
+use Rattle.vst_base.specs.declared.mirror.MirrorOutput.TheVariants as told
+use Rattle.vst_base.specs.declared.mirror.MirrorMsg.{MirrorMsg}
+use Rattle.vst_base.specs.declared.mirror.MirrorMsg.TheVariants as msg
 
 -- no node remembers anything
 abbrev pub MirrorEffect : Type 0

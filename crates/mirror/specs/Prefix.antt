@@ -3,10 +3,10 @@ use Rattle.std.specs.Prelude.{ℕ, ◌==◌, List, [], ◌∷◌, if◌then◌el
 use Rattle.lists.specs.Prefixes.{IsPrefix}
 use Rattle.vst_base.specs.declared.step.Item.{Item}
 use Rattle.vst_base.specs.declared.step.Item.TheVariants as item
-use Rattle.mirror.specs.declared.messages.MirrorInput.{MirrorInput}
-use Rattle.mirror.specs.declared.messages.MirrorInput.TheVariants as ask
-use Rattle.mirror.specs.declared.messages.MirrorOutput.{MirrorOutput}
-use Rattle.mirror.specs.declared.messages.MirrorOutput.TheVariants as told
+use Rattle.vst_base.specs.declared.mirror.MirrorInput.{MirrorInput}
+use Rattle.vst_base.specs.declared.mirror.MirrorInput.TheVariants as ask
+use Rattle.vst_base.specs.declared.mirror.MirrorOutput.{MirrorOutput}
+use Rattle.vst_base.specs.declared.mirror.MirrorOutput.TheVariants as told
 
 -- what clients see of a mirror
 abbrev pub MirrorTrace : Type 0

@@ -3,8 +3,7 @@ ghost use Rattle.net_semantics.specs.Runs.{first_refused, no_recovery, trace};
 ghost use Rattle.mirror.specs.Mirroring.{mirror};
 ghost use Rattle.mirror.specs.Prefix.{Mirrors, put_at, said_from};
 
-use crate::{MirrorInput, MirrorMsg, MirrorOutput};
-use vst_base::{Item, Net, Step, StepRefusal};
+use vst_base::{Item, MirrorInput, MirrorMsg, MirrorOutput, Net, Step, StepRefusal};
 
 /// What each event of the mirror does; a run on a network of FIFO channels, and one that such a network refuses.
 #[rattlefmt::skip]

@@ -2,7 +2,7 @@ ghost use Rattle.std.specs.Prelude.{ℕ, List};
 ghost use Rattle.net_semantics.specs.Runs.{IsAllowed, no_recovery, trace};
 ghost use Rattle.mirror.specs.Mirroring.{mirror};
 ghost use Rattle.mirror.specs.Prefix.{Mirrors};
-ghost use Rattle.mirror.specs.declared.messages.MirrorInput.{MirrorInput};
+ghost use Rattle.vst_base.specs.declared.mirror.MirrorInput.{MirrorInput};
 ghost use Rattle.vst_base.specs.declared.step.Step.{Step};
 
 use vst_base::Net;

@@ -5,12 +5,8 @@
 
 mod examples;
 mod laws;
-mod messages;
-mod sender;
 mod server;
 
 pub use examples::{worked, worked_traces};
 pub use laws::said_is_a_prefix;
-pub use messages::{MirrorInput, MirrorMsg, MirrorOutput};
-pub use sender::Sender;
 pub use server::Mirror;

@@ -3,11 +3,10 @@ ghost use Rattle.mirror.specs.Mirroring.{mirror};
 ghost use Rattle.mirror.specs.MirrorLaws.{modest_input, modest_message, modest_timeout};
 ghost use Rattle.vst_base.specs.declared.node.TheConstants.{MAX_NODES};
 
-use crate::{MirrorInput, MirrorMsg, MirrorOutput, Sender};
-use handler_trait::{Effects, Handlers};
+use handler_trait::{Effects, Handlers, LeavesRoom};
 use std::alloc::{AllocError, Global};
 use std::marker::Model;
-use vst_base::Node;
+use vst_base::{MirrorInput, MirrorMsg, MirrorOutput, Node, Sender};
 
 /// A cluster of a mirror, node 0, and of the nodes at which values are put, `MAX_NODES` at most. Contracts see how many nodes
 /// there are.
@@ -156,4 +155,10 @@ impl Handlers for Mirror {
     ghost modest_message = { λ h n s from m below from_below sound. modest_message h n from m };
 
     ghost modest_timeout = { λ h n s below sound. modest_timeout h n };
+}
+
+impl LeavesRoom for Mirror {
+    ghost use Rattle.std.proofs.Common.{arith};
+
+    ghost leaves_room = { omega arith };
 }

@@ -4,12 +4,14 @@ ghost use Rattle.vst_base.specs.Nets.{stops_no_node};
 use crate::net_semantics_tests::after;
 use fifo_xform::Fifo;
 use handler_trait::{Echo, Handlers};
-use mirror::{Mirror, MirrorInput, MirrorOutput, Sender};
+use mirror::Mirror;
 use net_semantics::{MAX_STEPS, Net, Node, Step, StepFault, StepRefusal, Trace};
+use primary_backup::PrimaryBackup;
 use retry_xform::Retry;
+use seqnum_xform::SeqNum;
 use std::alloc::{AllocError, Global};
 use std::test::Fail;
-use vst_base::{Item, Value};
+use vst_base::{Counter, Item, MirrorInput, MirrorOutput, PbOut, Sender, Value};
 
 // What clients see of these steps.
 fn seen<H: Handlers>(
@@ -116,5 +118,39 @@ fn a_mirror_on_an_ordered_network_hears_in_turn(rt: HostRuntime) -> Result<(), F
     world.step(&Step::Deliver(0))?;
     world.step(&Step::Deliver(1))?;
     assert!(rt; world.trace().items() == both_in_order(alloc)?.as_slice());
+    Ok(())
+}
+
+// What is lost is sent again by the next tick: the primary replies once its backup has a command, and a mirror says both values in order.
+#[test]
+fn transformers_stand_over_one_another(rt: HostRuntime) -> Result<(), Fail> {
+    let alloc = rt.alloc();
+    let asked = [
+        Step::In(0, 5),
+        Step::Lose(0),
+        Step::Tick(0),
+        Step::Deliver(1),
+        Step::Deliver(2),
+    ];
+    let backed = Retry::new(SeqNum::new(PrimaryBackup::new(Counter)));
+    let replies = seen(alloc, backed, Net::Loss, &asked)?;
+    let primary = Node::new(0, 2).unwrap();
+    let wanted = [
+        Item::Input(primary, 5),
+        Item::Output(primary, PbOut::Reply(0)),
+    ];
+    assert!(rt; replies.items() == wanted.as_slice());
+    let puts = [
+        Step::In(1, put(alloc, b"a")?),
+        Step::In(1, put(alloc, b"b")?),
+        Step::Lose(0),
+        Step::Deliver(1),
+        Step::Tick(1),
+        Step::Deliver(3),
+        Step::Tick(0),
+    ];
+    let mirrored = Retry::new(Fifo::new(Mirror::new(2)));
+    let says = seen(alloc, mirrored, Net::Loss, &puts)?;
+    assert!(rt; says.items() == both_in_order(alloc)?.as_slice());
     Ok(())
 }

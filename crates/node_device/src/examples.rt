@@ -80,6 +80,8 @@ pub fn worked_telling()
     ensures now { OnSome (tells (Now 5 ∷ [])) (Did (tells []) (tells (Now 5 ∷ [])) (Now 5 ∷ [])) }
     ensures another_value { OnSome (tells (Now 6 ∷ [])) (Did (tells []) (tells (Now 6 ∷ [])) (Now 5 ∷ [])) → ⊥ }
     ensures now_unrecorded { OnSome (tells []) (Did (tells []) (tells []) (Now 5 ∷ [])) → ⊥ }
+    ensures now_after_others { Did (tells (Now 4 ∷ [])) (tells (Now 4 ∷ Now 5 ∷ [])) (Now 5 ∷ []) }
+    ensures now_instead_of_others { Did (tells (Now 4 ∷ [])) (tells (Now 5 ∷ [])) (Now 5 ∷ []) → ⊥ }
     ensures now_stops { OnSome untold (Did (tells []) None (Now 5 ∷ [])) }
     ensures now_untold { OnSome untold (Did None None (Now 5 ∷ [])) }
     ensures now_begins_to_tell { OnSome (tells (Now 5 ∷ [])) (Did None (tells (Now 5 ∷ [])) (Now 5 ∷ [])) → ⊥ }

@@ -7,7 +7,7 @@ use Rattle.raft_types.specs.declared.client.RaftOut.{RaftOut}
 use Rattle.raft_types.specs.declared.msg.RaftMsg.{RaftMsg}
 use Rattle.vst_base.specs.declared.node.TheConstants.{MAX_NODES}
 use Rattle.wire_codec.specs.Bodies.{AreMessagesOf}
-use Rattle.wire_codec.specs.Datagrams.{AreBytesOf, read_typed}
+use Rattle.wire_codec.specs.Datagrams.{AreBytesOf, longest_message, read_typed}
 use Rattle.wire_codec.specs.Headings.{has_clients}
 use Rattle.wire_codec.specs.declared.kind.Kind.{Kind}
 use Rattle.wire_codec.specs.declared.kind.Kind.TheVariants as kind
@@ -33,7 +33,7 @@ pub record MaySay {C O : Type 0} (f : Format C) (g : Format O) (settings : Setti
 
 -- a message that has bytes, and no more than stand behind a heading
 abbrev pub HasFewBytes : {M : Type 0} → Format M → M → Type 0
-HasFewBytes f message = f.Fits message × (length (f.spell message) ≤ 59978)
+HasFewBytes f message = f.Fits message × (length (f.spell message) ≤ longest_message)
 
 -- another node of the same cluster, of this number
 pub record IsOtherNode (settings other : Settings) (n : ℕ) : Type 0 where

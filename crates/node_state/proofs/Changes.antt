@@ -40,7 +40,7 @@ module _ {C : Type 0} (s : StackId) (f : Format C) (store : StoreView) (kept : K
   pub not_held : ((kept.term == store.term && same_vote kept.voted store.voted) && (keep == length store.terms && keep == length kept.log)) ≡ false → is_held store kept ≡ false
   not_held e = subst (λ n. ((kept.term == store.term && same_vote kept.voted store.voted) && (n == length store.terms && n == length kept.log)) ≡ false) same e
 
-  acts_new : is_held store kept ≡ false → new_acts s f store.who (end_of store) keep kept ≡ state_acts s f store kept
+  pub acts_new : is_held store kept ≡ false → new_acts s f store.who (end_of store) keep kept ≡ state_acts s f store kept
   acts_new new =
       ap (λ n. new_acts s f store.who (end_of store) n kept) same
       ∙ ap (λ b. if b then (let none : List Act = [] in none) else new_acts s f store.who (end_of store) (stays store kept) kept) (sym new)

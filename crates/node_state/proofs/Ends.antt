@@ -1,5 +1,5 @@
 -- A record that is new has bytes.
-use Rattle.std.proofs.Common.{◌≡◌, ◌≢◌, ℕ, ◌≤◌, List, [], ◌∷◌, ◌++◌, drop, if◌then◌else◌, ◌∙◌, Option, Result, Ok, Err, OnOk, OnErr, sym, ap, subst, inl, inr}
+use Rattle.std.proofs.Common.{◌≡◌, ◌≢◌, ℕ, ◌≤◌, List, [], ◌∷◌, ◌++◌, drop, if◌then◌else◌, ◌∙◌, Result, Ok, Err, OnOk, sym, ap, subst}
 use Rattle.std.proofs.lemmas.Bool.{ne_eqb}
 use Rattle.disk.specs.Acts.{Act}
 use Rattle.raft_types.specs.Messages.{KeptView}
@@ -15,8 +15,6 @@ use Rattle.node_body.specs.Bodies.{VoteAmong}
 use Rattle.node_body.specs.Journals.{change, change_as, spell_change}
 use Rattle.node_body.specs.Slots.{base_of}
 use Rattle.node_body.specs.declared.who.Who.{Who}
-use Rattle.node_device.specs.Telling.{Told, StoppedIn}
-use Rattle.node_state.specs.Crashes.{StoppedWith}
 use Rattle.node_state.specs.Ends.{NewFits, new_acts}
 use Rattle.node_state.specs.declared.store.JournalEnd.{JournalEnd}
 
@@ -38,13 +36,6 @@ module _ {C : Type 0} (s : StackId) (f : Format C) (who : Who) (end : JournalEnd
   abbrev pub acts_with : List (EntryView C) → List Act
   acts_with entries = append_acts (named end.selector) end.gate (spell_change (entry f) (change_as kept.term kept.voted keep entries) ++ 0 ∷ [])
 
-  acts_are : (entries : List (EntryView C)) → entries ≡ drop keep kept.log → end.left ≢ 0 → acts_with entries ≡ new_acts s f who end keep kept
+  pub acts_are : (entries : List (EntryView C)) → entries ≡ drop keep kept.log → end.left ≢ 0 → acts_with entries ≡ new_acts s f who end keep kept
   acts_are entries is some =
       ap acts_with is ∙ ap (λ b. if b then save_acts end.selector (base_of s f who kept) else acts_with (drop keep kept.log)) (sym (ne_eqb end.left 0 some))
-
-  pub stopped_added : {T E : Type 0} (r : Result T E) (a b : Option Told) (entries : List (EntryView C)) → entries ≡ drop keep kept.log → end.left ≢ 0 → who.nodes ≤ MAX_NODES →
-      VoteAmong who.nodes kept.voted → OnErr r (StoppedWith (EntriesFit entries) a b [] (acts_with entries)) → OnErr r (StoppedWith (NewFits s f who end keep kept) a b [] (new_acts s f who end keep kept))
-  stopped_added (Ok x) a b entries is some few voted stopped = tt
-  stopped_added (Err x) a b entries is some few voted (inl y) = inl y
-  stopped_added (Err x) a b entries is some few voted (inr y) =
-      inr (added_fits entries is some few voted y.0, subst (λ xs. StoppedIn a b xs) (acts_are entries is some) y.1)

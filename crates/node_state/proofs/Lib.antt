@@ -7,3 +7,4 @@ pub mod Openings
 pub mod Ends
 pub mod Changes
 pub mod Remembering
+pub mod Reopenings

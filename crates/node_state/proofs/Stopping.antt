@@ -1,6 +1,6 @@
 -- Acts one after another, where they are told.
-use Rattle.std.proofs.Common.{◌≡◌, true, List, [], ◌∷◌, ◌++◌, Option, Some, None, option_map, Result, Ok, Err, OnOk, OnErr, IfErr, IsErrAnd, refl, sym, ap, subst, ◌∙◌, append_assoc, inl, inr}
-use Rattle.std.proofs.lemmas.List.{append-nil}
+use Rattle.std.proofs.Common.{◌≡◌, ℕ, ◌+◌, ◌<◌, true, List, [], ◌∷◌, ◌++◌, length, map, take, drop, get_or, Option, Some, None, option_map, Result, Ok, Err, OnOk, OnErr, IfErr, IsErrAnd, refl, sym, ap, subst, ◌∙◌, append_assoc, inl, inr}
+use Rattle.std.proofs.lemmas.List.{append-nil, drop_more, map-append, take-append-drop, take_more}
 use Rattle.disk.specs.Acts.{StoreCall, Act, StoreFailed}
 use Rattle.disk.specs.Disk.{Disk, may_hold}
 use Rattle.disk.specs.DiskLaws.{Fails, IsCutShort}
@@ -76,3 +76,25 @@ did_next (Err x) a b c xs ys d e = tt
 pub on_fault : {T E : Type 0} (r : Result T E) (e : E) (P : E → Type 0) → IsErrAnd r (λ y. y ≡ e) → P e → IfErr r P
 on_fault (Ok x) e P h p = tt
 on_fault (Err y) e P h p = subst P (sym h) p
+
+-- one act more of a list of them, and where it stops there
+module _ {X : Type 0} (act_of : X → Act) where
+  acts_parted : (xs : List X) (i : ℕ) (x : X) → i < length xs → x ≡ get_or xs i x → map act_of xs ≡ map act_of (take i xs) ++ (act_of x ∷ map act_of (drop (i + 1) xs))
+  acts_parted xs i x less there =
+      let parts : xs ≡ take i xs ++ (x ∷ drop (i + 1) xs) =
+      sym (take-append-drop i xs) ∙ ap (λ ys. take i xs ++ ys) (drop_more xs i x less ∙ ap (λ (y : X). y ∷ drop (i + 1) xs) (sym there)) in
+      ap (map act_of) parts ∙ map-append act_of (take i xs) (x ∷ drop (i + 1) xs)
+
+  pub did_more : (xs : List X) (i : ℕ) (x : X) (a b c : Option Told) → i < length xs → x ≡ get_or xs i x → Did a b (map act_of (take i xs)) →
+      Did b c (act_of x ∷ []) → Did a c (map act_of (take (i + 1) xs))
+  did_more xs i x a b c less there so_far one =
+      let more : take (i + 1) xs ≡ take i xs ++ x ∷ [] = take_more xs i x less ∙ ap (λ (y : X). take i xs ++ y ∷ []) (sym there) in
+      subst (λ (acts : List Act). Did a c acts) (sym (ap (map act_of) more ∙ map-append act_of (take i xs) (x ∷ [])))
+      (did_both a b c (map act_of (take i xs)) (act_of x ∷ []) so_far one)
+
+  pub stopped_more : (xs : List X) (i : ℕ) (x : X) (a b c : Option Told) → i < length xs → x ≡ get_or xs i x → Did a b (map act_of (take i xs)) →
+      StoppedIn b c (act_of x ∷ []) → StoppedIn a c (map act_of xs)
+  stopped_more xs i x a b c less there so_far one =
+      subst (λ (acts : List Act). StoppedIn a c acts) (sym (acts_parted xs i x less there))
+      (stopped_late a b c (map act_of (take i xs)) (act_of x ∷ map act_of (drop (i + 1) xs)) so_far
+      (stopped_early b c (act_of x ∷ []) (map act_of (drop (i + 1) xs)) one))

@@ -2,8 +2,8 @@
 use Rattle.std.specs.Prelude.{◌≡◌, ℕ, List, [], ◌∷◌, length, Option, Some, None, Result, Ok, Err, ◌⊎◌}
 use Rattle.outside.specs.Counting.{Rose}
 use Rattle.disk.specs.Acts.{Act}
-use Rattle.disk.specs.Areas.{area_at}
-use Rattle.disk.specs.Disk.{contents}
+use Rattle.disk.specs.Areas.{area_at, each}
+use Rattle.disk.specs.Disk.{Image, contents, settled}
 use Rattle.raft_types.specs.Messages.{KeptView}
 use Rattle.slots.specs.Opening.{Opening, Fresh, Held, BadSelector, named}
 use Rattle.slots.specs.Opening as area
@@ -93,6 +93,14 @@ abbrev pub RenewedFits : {C : Type 0} → StackId → Format C → Who → ℕ �
 RenewedFits {C} s f who selector told =
     (slot : held.Held C) → slot_found s f who (area_at told.disk (named selector)).bytes ≡ Ok slot → slot.version ≡ One →
     (body s f).Fits (body_of who slot.journal.kept)
+
+-- areas without a byte
+abbrev pub no_bytes : Image
+no_bytes = record { slot0 = []; slot1 = []; selector = [] }
+
+-- areas with these bytes and nothing pending, on which nothing was done
+abbrev pub rested : Image → Told
+rested image = record { acts = []; disk = each settled image }
 
 -- how areas were opened: as fresh ones, or with a slot that was found
 abbrev pub OpenedSo : {C : Type 0} → StackId → Format C → Who → Opened C → Told → Type 0

@@ -1,14 +1,15 @@
 -- Node 0 of three on areas that were worked out by hand, and what is said of its openings and saves.
-use Rattle.std.specs.Prelude.{ℕ, List, [], ◌∷◌, ◌++◌}
+use Rattle.std.specs.Prelude.{ℕ, List, [], ◌∷◌, ◌++◌, take, Some}
 use Rattle.disk.specs.Acts.{Act}
+use Rattle.disk.specs.Images.{image_by_word}
 use Rattle.raft_types.specs.Messages.{KeptView}
 use Rattle.vst_base.specs.declared.stack.StackId.TheVariants as stack
 use Rattle.wire_messages.specs.KvBytes.{kv_command}
 use Rattle.node_body.specs.Examples.{first_slot}
 use Rattle.node_body.specs.declared.version.Version.{Version}
 use Rattle.node_device.specs.Telling.{Told, told_after}
-use Rattle.node_acts.specs.Examples.{Command, at_rest, knowing, who}
-use Rattle.node_acts.specs.StateActs.{first_kept}
+use Rattle.node_acts.specs.Examples.{Command, at_rest, knowing, state, who}
+use Rattle.node_acts.specs.StateActs.{first_kept, state_acts}
 use Rattle.node_acts.specs.Stores.{StoreView}
 use Rattle.slots.specs.Opening.{Opening}
 use Rattle.node_state.specs.Answers.{Answers, FoundSo, OpenedSo}
@@ -62,3 +63,15 @@ saves kept = Saves stack.KvRaft kv_command known kept held
 
 abbrev pub is_held_before : StoreView → KeptView Command → Type 0
 is_held_before store kept = IsHeldBefore stack.KvRaft kv_command store kept held
+
+-- the acts of the first save after an opening of empty areas: of a vote in term 1
+abbrev pub first_save : List Act
+first_save = state_acts stack.KvRaft kv_command known (state 1 (Some 1) [])
+
+-- and those of the next one, of a no-op
+abbrev pub next_save : List Act
+next_save = state_acts stack.KvRaft kv_command (knowing 0 56 999 (state 1 (Some 1) [])) (state 1 (Some 1) (1 ∷ []))
+
+-- what a stop leaves in slot 0 after so many acts of the first save, by a word
+abbrev pub slot_left : ℕ → ℕ → List ℕ
+slot_left n word = (image_by_word held.disk (take n first_save) word).slot0

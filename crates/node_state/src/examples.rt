@@ -1,16 +1,18 @@
 ghost use Rattle.std.specs.Prelude.{◌≡◌, [], ◌∷◌, ◌++◌, Err, Ok, Some, take};
 ghost use Rattle.disk.specs.Acts.{StoreFailed, Sync, Synced, Wrote};
-ghost use Rattle.node_acts.specs.Examples.{knowing, state, three_syncs, whole};
-ghost use Rattle.node_acts.specs.StateActs.{first_kept};
-ghost use Rattle.node_body.specs.Examples.{first_slot, old_first, vote_record, voted_slot};
+ghost use Rattle.node_acts.specs.Examples.{knowing, state, three_syncs, who, whole};
+ghost use Rattle.node_acts.specs.StateActs.{first_kept, store_at_base};
+ghost use Rattle.node_body.specs.Examples.{first_slot, no_op, number_of_eight, number_of_four, old_first, vote_record, voted_slot};
 ghost use Rattle.node_device.specs.Examples.{counts};
 ghost use Rattle.node_state.specs.Answers.{IfRefused, OpenCounts, OpenGrowsFirst};
 ghost use Rattle.node_state.specs.Calls.{DeviceWants, GrowsFirst, StateCounts};
-ghost use Rattle.node_state.specs.Examples.{answers, empty, end_at, found_so, goes_on, held, is_held_before, known, leaves_either, leaves_found, opened_so, renewed, saves, told_at};
+ghost use Rattle.node_state.specs.Examples.{answers, empty, end_at, first_save, found_so, goes_on, held, is_held_before, known, leaves_either, leaves_found, next_save, opened_so, renewed, saves, slot_left, told_at};
 ghost use Rattle.slots.specs.Opening.{BadSelector, BadSlot, Fresh, Held, Refused};
+ghost use Rattle.wire_messages.specs.KvBytes.{kv_command};
 
 use crate::{OpenFault, Opened, Refusal, StateFault};
 use node_body::{Version, Why};
+use vst_base::StackId;
 
 /// What openings answer, by what the areas open as, and why they are refused.
 pub fn worked_answers()
@@ -84,4 +86,22 @@ pub fn worked_crashes()
     ensures either { leaves_either (state 1 (Some 1) [])
         (Wrote 0 39 (vote_record ++ 0 ∷ []) ∷ Synced 0 ∷ Wrote 0 38 (1 ∷ []) ∷ Synced 0 ∷ []) }
     ensures neither { leaves_either (state 1 (Some 1) []) (Wrote 0 38 (1 ∷ []) ∷ []) → ⊥ }
+{}
+
+/// The first save after an opening of empty areas: what is known before it, its acts, and what a stop after so many of them leaves in slot
+/// 0, by a word. The record may be torn where its gate is closed; the gate is found where it was written or torn, and not where it was
+/// not synced yet. Then a record with an entry.
+#[tactic(auto, unfolding(wire_fields::specs::Bytes::number_bytes))]
+pub fn worked_first_save()
+    ensures known { store_at_base StackId.KvRaft kv_command who 0 first_kept ≡ known }
+    ensures acts { first_save ≡ Wrote 0 39 (vote_record ++ 0 ∷ []) ∷ Synced 0 ∷ Wrote 0 38 (1 ∷ []) ∷ Synced 0 ∷ [] }
+    ensures nothing_stood { slot_left 1 0 ≡ first_slot ++ 0 ∷ [] }
+    ensures record_read { slot_left 1 1 ≡ first_slot ++ 0 ∷ (vote_record ++ 0 ∷ []) }
+    ensures gate_not_synced { slot_left 3 0 ≡ first_slot ++ 0 ∷ (vote_record ++ 0 ∷ []) }
+    ensures gate_read { slot_left 3 1 ≡ first_slot ++ 1 ∷ (vote_record ++ 0 ∷ []) }
+    ensures gate_torn { slot_left 3 2 ≡ first_slot ++ 255 ∷ (vote_record ++ 0 ∷ []) }
+    ensures gate_of_zeros { slot_left 3 3 ≡ first_slot ++ 0 ∷ (vote_record ++ 0 ∷ []) }
+    ensures all_synced { slot_left 4 0 ≡ first_slot ++ 1 ∷ (vote_record ++ 0 ∷ []) }
+    ensures an_entry { next_save ≡ Wrote 0 57 (number_of_eight 1 ++ (1 ∷ (number_of_four 0 ++ (number_of_four 1 ++ (no_op ++ 0 ∷ [])))))
+        ∷ Synced 0 ∷ Wrote 0 56 (1 ∷ []) ∷ Synced 0 ∷ [] }
 {}

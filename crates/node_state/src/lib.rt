@@ -8,17 +8,19 @@ mod faults;
 mod finding;
 mod opening;
 mod reading;
+mod reopening;
 mod saving;
 mod store;
 mod writing;
 
-pub use examples::{worked_answers, worked_counts, worked_crashes, worked_ends, worked_openings};
+pub use examples::{
+    worked_answers, worked_counts, worked_crashes, worked_ends, worked_first_save, worked_openings,
+};
 pub use faults::StateFault;
 pub use finding::find_in_area;
 pub use opening::{OpenFault, Opened, Refusal, open};
 pub use reading::{PIECE, read_front, read_on};
-pub use saving::{save, save_change};
+pub use reopening::{open_empty, reopen};
+pub use saving::{advance, save, save_acts, save_change};
 pub use store::Store;
-pub use writing::{
-    add_record, flip, open_gate, patch_slot, save_slot, sync_all, write_fresh, write_slot,
-};
+pub use writing::{make_acts, sync_all};

@@ -15,15 +15,17 @@ ghost use Rattle.node_state.specs.Crashes.{LeavesFound, StoppedWith};
 ghost use Rattle.node_state.specs.Ends.{renewed_end};
 ghost use Rattle.slots.specs.Opening.{Not, Refused, named, opening};
 ghost use Rattle.slots.specs.Saving.{fresh_acts, sync_acts};
+ghost use Rattle.store_acts.specs.StoreActs.{acts_of};
 
 use crate::common::terms_of;
-use crate::saving::write_base;
+use crate::saving::{Saving, saved_as_base};
 use crate::store::JournalEnd;
-use crate::{StateFault, Store, find_in_area, read_front, sync_all, write_fresh};
+use crate::{StateFault, Store, find_in_area, make_acts, read_front, sync_all};
 use node_body::{Commands, Held, Journal, MAX_RECORDS, Version, Who, Why, make_base};
 use node_device::Device;
 use raft_types::{Entries, Kept};
 use std::alloc::{AllocError, Global};
+use store_acts::{StoreAct, slots_begun};
 use thiserror::Error;
 
 /// Why the areas of a node are refused, the first that applies.
@@ -81,6 +83,28 @@ pub enum Opened<C> {
     Held(Store, Kept<C>),
 }
 
+// What opening does where area 2 is empty: the acts that write the first state, whatever the slots hold, and what is known then.
+pub(crate) fn begun<C: Commands>(
+    alloc: Global,
+    who: &Who,
+) -> Result<(Vec<StoreAct>, Store), AllocError>
+    requires who { IsNodeOf C.stack who.now }
+    ensures acts { IfOk result (λ p. acts_of p.0.items ≡ fresh_acts (base_of C.stack C.format who.now first_kept)) }
+    ensures fits { OnOk result ((body C.stack C.format).Fits (body_of who.now first_kept)) }
+    ensures knows { IfOk result (λ p. p.1 ≡ store_at_base C.stack C.format who.now 0 first_kept) }
+    ensures remembers { IfOk result (λ p. Knows p.1 (first_kept {C = C})) }
+{
+    let first = Kept::<C>::new(0, None, Entries::new(Vec::new(alloc)));
+    let base = make_base(alloc, who, &first)?;
+    let end = JournalEnd {
+        selector: 0,
+        gate: base.len() as u64 - 1,
+        left: MAX_RECORDS,
+    };
+    let acts = slots_begun(alloc, base)?;
+    Ok((acts, Store::new(*who, end, 0, None, Vec::new(alloc))))
+}
+
 // Writes the first state, whatever the slots hold.
 fn open_fresh<D: Device, C: Commands>(
     alloc: Global,
@@ -99,51 +123,73 @@ fn open_fresh<D: Device, C: Commands>(
     ensures wants { GrowsFirst (D.told device.new ≡ D.told device.old) (D.wants device.old) (D.wants device.new) result }
     ensures begun { D.begun device.new ≡ true }
 {
-    let first = Kept::<C>::new(0, None, Entries::new(Vec::new(alloc)));
-    let base = make_base(alloc, who, &first)?;
-    write_fresh(device, &base)?;
-    let end = JournalEnd {
-        selector: 0,
-        gate: base.len() as u64 - 1,
-        left: MAX_RECORDS,
-    };
-    Ok(Store::new(*who, end, 0, None, Vec::new(alloc)))
+    let (acts, store) = begun::<C>(alloc, who)?;
+    make_acts(device, &acts)?;
+    Ok(store)
 }
 
-// Where the journal of a slot that was found goes on. A state of version 1 is saved anew.
-fn renew<D: Device, C: Commands>(
+// What renews a slot that was found: one of version 1 is saved anew, as a base.
+fn renewal<C: Commands>(
     alloc: Global,
-    device: &mut D,
     who: &Who,
     version: Version,
     found: JournalEnd,
     kept: &Kept<C>,
-) -> Result<JournalEnd, StateFault>
-    requires begun { D.begun device.old ≡ true }
+) -> Result<Saving, AllocError>
     requires who { IsNodeOf C.stack who.now }
     requires voted { VoteAmong who.now.nodes kept.now.voted }
     requires room { found.gate + found.left * MAX_RECORD_LEN < 18446744073709551616 }
-    ensures did { OnOk result (Did (D.told device.old) (D.told device.new)
-        (renewing_acts C.stack C.format who.now found.selector version kept.now)) }
+    ensures acts { IfOk result (λ saving. acts_of saving.acts.items
+        ≡ renewing_acts C.stack C.format who.now found.selector version kept.now) }
     ensures fits { OnOk result (version ≡ One → (body C.stack C.format).Fits (body_of who.now kept.now)) }
-    ensures end { IfOk result (λ end. end ≡ renewed_end C.stack C.format who.now version found kept.now) }
-    ensures room { IfOk result (λ end. end.gate + end.left * MAX_RECORD_LEN < 18446744073709551616) }
-    ensures stopped { OnErr result (StoppedWith (version ≡ One → (body C.stack C.format).Fits (body_of who.now kept.now))
-        (D.told device.old) (D.told device.new) [] (renewing_acts C.stack C.format who.now found.selector version kept.now)) }
-    ensures causes { StateCounts (D.faults device.old) (D.faults device.new) result }
-    ensures wants { GrowsFirst (D.told device.new ≡ D.told device.old) (D.wants device.old) (D.wants device.new) result }
-    ensures begun { D.begun device.new ≡ true }
+    ensures end { IfOk result (λ saving. saving.end ≡ renewed_end C.stack C.format who.now version found kept.now) }
+    ensures room { IfOk result (λ saving. saving.end.gate + saving.end.left * MAX_RECORD_LEN < 18446744073709551616) }
 {
     match version {
         Version::One => {
             let (term, voted, log) = (kept.term(), kept.voted(), kept.log());
-            write_base(alloc, device, who, found.selector, term, voted, log)
+            saved_as_base(alloc, who, found.selector, term, voted, log)
         }
-        Version::Two => Ok(found),
+        Version::Two => Ok(Saving {
+            acts: Vec::new(alloc),
+            end: found,
+        }),
     }
 }
 
-// What is known of a slot that was found by a front of so many bytes.
+// What opening does with a slot that was found by a front of so many bytes: the acts that renew it, what is known then, and the state.
+pub(crate) fn taken<C: Commands>(
+    alloc: Global,
+    who: &Who,
+    selector: u8,
+    len: usize,
+    held: Held<C>,
+) -> Result<(Vec<StoreAct>, Store, Kept<C>), AllocError>
+    requires who { IsNodeOf C.stack who.now }
+    requires voted { VoteAmong who.now.nodes held.journal.kept.voted }
+    requires len { len < 9223372036854775808 }
+    ensures acts { IfOk result (λ p. acts_of p.0.items
+        ≡ renewing_acts C.stack C.format who.now selector held.version held.journal.kept) }
+    ensures fits { OnOk result (held.version ≡ One → (body C.stack C.format).Fits (body_of who.now held.journal.kept)) }
+    ensures knows { IfOk result (λ p. p.1 ≡ store_found C.stack C.format who.now selector len held.version held) }
+    ensures kept { IfOk result (λ p. p.2 ≡ held.journal.kept) }
+    ensures remembers { IfOk result (λ p. Knows p.1 p.2) }
+{
+    let version = held.version;
+    let Journal { kept, left, hidden } = held.journal;
+    let terms = terms_of(alloc, kept.log())?;
+    let gate = len.saturating_sub(hidden).saturating_sub(1) as u64;
+    let found = JournalEnd {
+        selector,
+        gate,
+        left,
+    };
+    let saving = renewal(alloc, who, version, found, &kept)?;
+    let store = Store::new(*who, saving.end, kept.term(), kept.voted(), terms);
+    Ok((saving.acts, store, kept))
+}
+
+// Goes on with a slot that was found by a front of so many bytes.
 fn hold<D: Device, C: Commands>(
     alloc: Global,
     device: &mut D,
@@ -168,17 +214,8 @@ fn hold<D: Device, C: Commands>(
     ensures wants { GrowsFirst (D.told device.new ≡ D.told device.old) (D.wants device.old) (D.wants device.new) result }
     ensures begun { D.begun device.new ≡ true }
 {
-    let version = held.version;
-    let Journal { kept, left, hidden } = held.journal;
-    let terms = terms_of(alloc, kept.log())?;
-    let gate = len.saturating_sub(hidden).saturating_sub(1) as u64;
-    let found = JournalEnd {
-        selector,
-        gate,
-        left,
-    };
-    let end = renew(alloc, device, who, version, found, &kept)?;
-    let store = Store::new(*who, end, kept.term(), kept.voted(), terms);
+    let (acts, store, kept) = taken(alloc, who, selector, len, held)?;
+    make_acts(device, &acts)?;
     Ok((store, kept))
 }
 

@@ -1,6 +1,7 @@
-ghost use Rattle.std.specs.Prelude.{◌≡◌, ◌+◌, ◌-◌, ◌*◌, ◌<◌, ◌≤◌, ◌≢◌, true, ℕ, suc, [], ◌∷◌, ◌++◌, length, IfOk, IfSome, OnErr, OnOk};
+ghost use Rattle.std.specs.Prelude.{◌≡◌, ◌+◌, ◌-◌, ◌*◌, ◌<◌, ◌≤◌, ◌≢◌, true, false, ℕ, suc, [], ◌∷◌, ◌++◌, length, IfOk, IfSome, OnErr, OnOk};
 ghost use Rattle.node_acts.specs.StateActs.{append_acts, gate_of_base, state_acts, store_after};
-ghost use Rattle.node_acts.specs.Stores.{Holds, Knows, common};
+ghost use Rattle.node_acts.specs.StateLaws.{HasBytes};
+ghost use Rattle.node_acts.specs.Stores.{Holds, Knows, common, is_held};
 ghost use Rattle.node_body.specs.Bodies.{VoteAmong, body, body_of, kept_as};
 ghost use Rattle.node_body.specs.Journals.{change, change_as, spell_change};
 ghost use Rattle.node_body.specs.Slots.{base_of};
@@ -8,138 +9,126 @@ ghost use Rattle.node_body.specs.declared.bases.TheConstants.{MAX_BASE_LEN, MAX_
 ghost use Rattle.node_body.specs.declared.journal.TheConstants.{MAX_RECORDS};
 ghost use Rattle.node_device.specs.Telling.{Did, StoppedIn, WhereTold};
 ghost use Rattle.node_state.specs.Calls.{GrowsFirst, IsNodeOf, StateCounts};
-ghost use Rattle.node_state.specs.Crashes.{IsHeldBefore, LeavesEither, Saves, StoppedWith};
+ghost use Rattle.node_state.specs.Crashes.{IsHeldBefore, LeavesEither, Saves};
 ghost use Rattle.node_state.specs.Ends.{NewFits, new_acts, new_end};
 ghost use Rattle.raft_types.specs.Messages.{IsIndex, IsTerm};
 ghost use Rattle.slots.specs.Opening.{named};
 ghost use Rattle.slots.specs.Saving.{next, save_acts};
+ghost use Rattle.store_acts.specs.StoreActs.{acts_of};
 ghost use Rattle.vst_base.specs.declared.node.TheConstants.{MAX_NODES};
 ghost use Rattle.wire_messages.specs.EntryBytes.{entry};
 
 use crate::store::JournalEnd;
-use crate::{StateFault, Store, add_record, save_slot};
+use crate::{StateFault, Store};
 use node_body::{Commands, MAX_RECORDS, Who, make_base_of, make_record};
 use node_device::Device;
 use raft_types::Kept;
-use std::alloc::Global;
+use std::alloc::{AllocError, Global};
+use store_acts::{StoreAct, record_added, slot_saved};
 use vst_base::{Entry, Node};
 
-// Saves a state as a base in the slot that the selector does not name.
-pub(crate) fn write_base<D: Device, C: Commands>(
+// What a save does: its acts, and where the journal goes on after them.
+#[derive(Drop)]
+pub(crate) struct Saving {
+    pub(crate) acts: Vec<StoreAct>,
+    pub(crate) end: JournalEnd,
+}
+
+// What saves a state as a base in the slot that the selector does not name.
+pub(crate) fn saved_as_base<C: Commands>(
     alloc: Global,
-    device: &mut D,
     who: &Who,
     selector: u8,
     term: u64,
     voted: Option<Node>,
     log: &[Entry<C>],
-) -> Result<JournalEnd, StateFault>
-    requires begun { D.begun device.old ≡ true }
+) -> Result<Saving, AllocError>
     requires who { IsNodeOf C.stack who.now }
     requires term { IsTerm term }
     requires voted { VoteAmong who.now.nodes voted }
     requires log { IsIndex (length log.now) }
-    ensures did { OnOk result (Did (D.told device.old) (D.told device.new)
-        (save_acts selector (base_of C.stack C.format who.now (kept_as term voted log.now)))) }
+    ensures acts { IfOk result (λ saving. acts_of saving.acts.items
+        ≡ save_acts selector (base_of C.stack C.format who.now (kept_as term voted log.now))) }
     ensures fits { OnOk result ((body C.stack C.format).Fits (body_of who.now (kept_as term voted log.now))) }
-    ensures end { IfOk result (λ end. end ≡ record {
+    ensures end { IfOk result (λ saving. saving.end ≡ record {
       selector = next selector;
       gate = gate_of_base C.stack C.format who.now (kept_as term voted log.now);
       left = MAX_RECORDS;
     }) }
-    ensures short { IfOk result (λ end. end.gate ≤ MAX_BASE_LEN) }
-    ensures stopped { OnErr result (StoppedWith ((body C.stack C.format).Fits (body_of who.now (kept_as term voted log.now)))
-        (D.told device.old) (D.told device.new) [] (save_acts selector (base_of C.stack C.format who.now (kept_as term voted log.now)))) }
-    ensures causes { StateCounts (D.faults device.old) (D.faults device.new) result }
-    ensures wants { GrowsFirst (D.told device.new ≡ D.told device.old) (D.wants device.old) (D.wants device.new) result }
-    ensures begun { D.begun device.new ≡ true }
+    ensures short { IfOk result (λ saving. saving.end.gate ≤ MAX_BASE_LEN) }
 {
     let base = make_base_of(alloc, who, term, voted, log)?;
-    save_slot(device, selector, &base)?;
-    Ok(JournalEnd {
+    let end = JournalEnd {
         selector: selector.wrapping_add(1),
         gate: base.len() as u64 - 1,
         left: MAX_RECORDS,
-    })
+    };
+    let acts = slot_saved(alloc, selector, base)?;
+    Ok(Saving { acts, end })
 }
 
-// Adds the record that makes a state of the one that is held, of whose log it keeps so many entries.
-pub(crate) fn write_record<D: Device, C: Commands>(
+// What adds the record that makes a state of the one that is held, of whose log it keeps so many entries.
+pub(crate) fn saved_as_record<C: Commands>(
     alloc: Global,
-    device: &mut D,
     end: &JournalEnd,
     term: u64,
     voted: Option<Node>,
     keep: u32,
     entries: &[Entry<C>],
-) -> Result<JournalEnd, StateFault>
-    requires begun { D.begun device.old ≡ true }
+) -> Result<Saving, AllocError>
     requires term { IsTerm term }
     requires voted { VoteAmong MAX_NODES voted }
     requires index { IsIndex (keep + length entries.now) }
     requires left { 0 < end.now.left }
     requires room { end.now.gate + end.now.left * MAX_RECORD_LEN < 18446744073709551616 }
-    ensures did { OnOk result (Did (D.told device.old) (D.told device.new) (append_acts (named end.now.selector) end.now.gate
-        (spell_change (entry C.format) (change_as term voted keep entries.now) ++ 0 ∷ []))) }
+    ensures acts { IfOk result (λ saving. acts_of saving.acts.items ≡ append_acts (named end.now.selector) end.now.gate
+        (spell_change (entry C.format) (change_as term voted keep entries.now) ++ 0 ∷ [])) }
     ensures fits { OnOk result ((nodes : ℕ) → nodes ≤ MAX_NODES → VoteAmong nodes voted
         → (change nodes (entry C.format)).Fits (change_as term voted keep entries.now)) }
-    ensures end { IfOk result (λ new. new ≡ record {
+    ensures end { IfOk result (λ saving. saving.end ≡ record {
       selector = end.now.selector;
       gate = end.now.gate + length (spell_change (entry C.format) (change_as term voted keep entries.now) ++ 0 ∷ []);
       left = end.now.left - 1;
     }) }
-    ensures room { IfOk result (λ new. new.gate + new.left * MAX_RECORD_LEN < 18446744073709551616) }
-    ensures stopped { OnErr result (StoppedWith ((nodes : ℕ) → nodes ≤ MAX_NODES → VoteAmong nodes voted
-        → (change nodes (entry C.format)).Fits (change_as term voted keep entries.now))
-        (D.told device.old) (D.told device.new) []
-        (append_acts (named end.now.selector) end.now.gate
-        (spell_change (entry C.format) (change_as term voted keep entries.now) ++ 0 ∷ []))) }
-    ensures causes { StateCounts (D.faults device.old) (D.faults device.new) result }
-    ensures wants { GrowsFirst (D.told device.new ≡ D.told device.old) (D.wants device.old) (D.wants device.new) result }
-    ensures begun { D.begun device.new ≡ true }
+    ensures room { IfOk result (λ saving. saving.end.gate + saving.end.left * MAX_RECORD_LEN < 18446744073709551616) }
 {
     let record = make_record(alloc, term, voted, keep, entries)?;
-    add_record(device, end.selector % 2, end.gate, &record)?;
-    Ok(JournalEnd {
+    let new = JournalEnd {
         selector: end.selector,
         gate: end.gate + record.len() as u64,
         left: end.left - 1,
-    })
+    };
+    let acts = record_added(alloc, end.selector, end.gate, record)?;
+    Ok(Saving { acts, end: new })
 }
 
-// Makes a state that is new durable, as a base or as a record.
-pub(crate) fn write_new<D: Device, C: Commands>(
+// What makes a state durable that is new, as a base or as a record.
+pub(crate) fn saved_anew<C: Commands>(
     alloc: Global,
-    device: &mut D,
     who: &Who,
     end: &JournalEnd,
     term: u64,
     voted: Option<Node>,
     keep: u32,
     log: &[Entry<C>],
-) -> Result<JournalEnd, StateFault>
-    requires begun { D.begun device.old ≡ true }
+) -> Result<Saving, AllocError>
     requires who { IsNodeOf C.stack who.now }
     requires term { IsTerm term }
     requires voted { VoteAmong who.now.nodes voted }
     requires log { IsIndex (length log.now) }
     requires keep { keep ≤ length log.now }
     requires room { end.now.gate + end.now.left * MAX_RECORD_LEN < 18446744073709551616 }
-    ensures did { OnOk result (Did (D.told device.old) (D.told device.new)
-        (new_acts C.stack C.format who.now end.now keep (kept_as term voted log.now))) }
+    ensures acts { IfOk result (λ saving. acts_of saving.acts.items
+        ≡ new_acts C.stack C.format who.now end.now keep (kept_as term voted log.now)) }
     ensures fits { OnOk result (NewFits C.stack C.format who.now end.now keep (kept_as term voted log.now)) }
-    ensures end { IfOk result (λ new. new ≡ new_end C.stack C.format who.now end.now keep (kept_as term voted log.now)) }
-    ensures room { IfOk result (λ new. new.gate + new.left * MAX_RECORD_LEN < 18446744073709551616) }
-    ensures stopped { OnErr result (StoppedWith (NewFits C.stack C.format who.now end.now keep (kept_as term voted log.now))
-        (D.told device.old) (D.told device.new) [] (new_acts C.stack C.format who.now end.now keep (kept_as term voted log.now))) }
-    ensures causes { StateCounts (D.faults device.old) (D.faults device.new) result }
-    ensures wants { GrowsFirst (D.told device.new ≡ D.told device.old) (D.wants device.old) (D.wants device.new) result }
-    ensures begun { D.begun device.new ≡ true }
+    ensures end { IfOk result (λ saving. saving.end
+        ≡ new_end C.stack C.format who.now end.now keep (kept_as term voted log.now)) }
+    ensures room { IfOk result (λ saving. saving.end.gate + saving.end.left * MAX_RECORD_LEN < 18446744073709551616) }
 {
     if end.left == 0 {
-        write_base(alloc, device, who, end.selector, term, voted, log)
+        saved_as_base(alloc, who, end.selector, term, voted, log)
     } else {
-        write_record(alloc, device, end, term, voted, keep, &log[keep as usize..])
+        saved_as_record(alloc, end, term, voted, keep, &log[keep as usize..])
     }
 }
 
@@ -227,4 +216,33 @@ pub fn save<D: Device, C: Commands>(
         kept.log(),
         0,
     )
+}
+
+/// The acts that `save` makes, in their order. There are none where the state is held.
+pub fn save_acts<C: Commands>(
+    alloc: Global,
+    store: &Store,
+    kept: &Kept<C>,
+) -> Result<Vec<StoreAct>, AllocError>
+    requires who { IsNodeOf C.stack store.now.who }
+    requires voted { VoteAmong store.now.who.nodes kept.now.voted }
+    ensures acts { IfOk result (λ acts. acts_of acts.items ≡ state_acts C.stack C.format store.now kept.now) }
+    ensures fits { OnOk result (is_held store.now kept.now ≡ false → HasBytes C.stack C.format store.now kept.now) }
+{
+    store.acts(alloc, kept.term(), kept.voted(), kept.log())
+}
+
+/// What the node knows once all of these acts were made. An `Err` leaves the store as it was.
+pub fn advance<C: Commands>(
+    alloc: Global,
+    store: &mut Store,
+    kept: &Kept<C>,
+) -> Result<(), AllocError>
+    requires who { IsNodeOf C.stack store.old.who }
+    requires voted { VoteAmong store.old.who.nodes kept.now.voted }
+    ensures knows { OnOk result (store.new ≡ store_after C.stack C.format store.old kept.now) }
+    ensures remembers { OnOk result (Knows store.new kept.now) }
+    ensures unchanged { OnErr result (store.new ≡ store.old) }
+{
+    store.advance(alloc, kept.term(), kept.voted(), kept.log())
 }

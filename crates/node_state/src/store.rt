@@ -9,14 +9,17 @@ ghost use Rattle.node_state.specs.Calls.{GrowsFirst, IsNodeOf, StateCounts};
 ghost use Rattle.node_state.specs.Crashes.{StoppedWith};
 ghost use Rattle.node_state.specs.Ends.{NewFits, end_of, new_acts, new_end};
 ghost use Rattle.raft_types.specs.Messages.{IsIndex, IsTerm};
+ghost use Rattle.store_acts.specs.StoreActs.{acts_of};
 
-use crate::StateFault;
 use crate::common::{common, terms_of};
-use crate::saving::write_new;
+use crate::saving::{Saving, saved_anew};
+use crate::{StateFault, make_acts};
 use node_body::{Commands, Who};
 use node_device::Device;
-use std::alloc::Global;
+use raft_types::Kept;
+use std::alloc::{AllocError, Global};
 use std::marker::Model;
+use store_acts::StoreAct;
 use vst_base::{Entry, Node};
 
 /// Where the journal of the named slot goes on: the selector, the place of the last gate, and how many records more may follow. Where
@@ -124,37 +127,92 @@ impl Store {
             && keep == len
     }
 
-    // Makes a state durable that is new, and whose log keeps so many of the entries that are held.
-    fn write_new<D: Device, C: Commands>(
+    /// Whether this state is the one that is held.
+    pub fn is_held<C>(&self, kept: &Kept<C>) -> bool
+        ensures { result ≡ is_held self.now kept.now }
+    {
+        let log = kept.log();
+        let keep = common(&self.terms, log, 0);
+        self.has(kept.term(), &kept.voted(), keep, log.len())
+    }
+
+    // What makes a state durable that is new, and whose log keeps so many of the entries that are held.
+    fn saved_anew<C: Commands>(
         &self,
         alloc: Global,
-        device: &mut D,
         term: u64,
         voted: &Option<Node>,
         keep: u32,
         log: &[Entry<C>],
-    ) -> Result<JournalEnd, StateFault>
-        requires begun { D.begun device.old ≡ true }
+    ) -> Result<Saving, AllocError>
         requires who { IsNodeOf C.stack self.now.who }
         requires term { IsTerm term }
         requires voted { VoteAmong self.now.who.nodes voted.now }
         requires log { IsIndex (length log.now) }
         requires keep { keep ≤ length log.now }
-        ensures did { OnOk result (Did (D.told device.old) (D.told device.new)
-            (new_acts C.stack C.format self.now.who (end_of self.now) keep (kept_as term voted.now log.now))) }
+        ensures acts { IfOk result (λ saving. acts_of saving.acts.items
+            ≡ new_acts C.stack C.format self.now.who (end_of self.now) keep (kept_as term voted.now log.now)) }
         ensures fits { OnOk result (NewFits C.stack C.format self.now.who (end_of self.now) keep (kept_as term voted.now log.now)) }
-        ensures end { IfOk result (λ new.
-            new ≡ new_end C.stack C.format self.now.who (end_of self.now) keep (kept_as term voted.now log.now)) }
-        ensures room { IfOk result (λ new. new.gate + new.left * MAX_RECORD_LEN < 18446744073709551616) }
-        ensures stopped { OnErr result (StoppedWith
-            (NewFits C.stack C.format self.now.who (end_of self.now) keep (kept_as term voted.now log.now))
-            (D.told device.old) (D.told device.new) []
-            (new_acts C.stack C.format self.now.who (end_of self.now) keep (kept_as term voted.now log.now))) }
-        ensures causes { StateCounts (D.faults device.old) (D.faults device.new) result }
-        ensures wants { GrowsFirst (D.told device.new ≡ D.told device.old) (D.wants device.old) (D.wants device.new) result }
-        ensures begun { D.begun device.new ≡ true }
+        ensures end { IfOk result (λ saving. saving.end
+            ≡ new_end C.stack C.format self.now.who (end_of self.now) keep (kept_as term voted.now log.now)) }
+        ensures room { IfOk result (λ saving. saving.end.gate + saving.end.left * MAX_RECORD_LEN < 18446744073709551616) }
     {
-        write_new(alloc, device, &self.who, &self.end, term, *voted, keep, log)
+        saved_anew(alloc, &self.who, &self.end, term, *voted, keep, log)
+    }
+
+    // The acts that save a state.
+    pub(crate) fn acts<C: Commands>(
+        &self,
+        alloc: Global,
+        term: u64,
+        voted: Option<Node>,
+        log: &[Entry<C>],
+    ) -> Result<Vec<StoreAct>, AllocError>
+        requires who { IsNodeOf C.stack self.now.who }
+        requires term { IsTerm term }
+        requires voted { VoteAmong self.now.who.nodes voted }
+        requires log { IsIndex (length log.now) }
+        ensures acts { IfOk result (λ acts. acts_of acts.items
+            ≡ state_acts C.stack C.format self.now (kept_as term voted log.now)) }
+        ensures fits { OnOk result (is_held self.now (kept_as term voted log.now) ≡ false
+            → HasBytes C.stack C.format self.now (kept_as term voted log.now)) }
+    {
+        let keep = common(&self.terms, log, 0);
+        if self.has(term, &voted, keep, log.len()) {
+            return Ok(Vec::new(alloc));
+        }
+        let saving = self.saved_anew::<C>(alloc, term, &voted, keep as u32, log)?;
+        Ok(saving.acts)
+    }
+
+    // Knows a state once the acts that save it were made.
+    pub(crate) fn advance<C: Commands>(
+        &mut self,
+        alloc: Global,
+        term: u64,
+        voted: Option<Node>,
+        log: &[Entry<C>],
+    ) -> Result<(), AllocError>
+        requires who { IsNodeOf C.stack self.old.who }
+        requires term { IsTerm term }
+        requires voted { VoteAmong self.old.who.nodes voted }
+        requires log { IsIndex (length log.now) }
+        ensures knows { OnOk result (self.new ≡ store_after C.stack C.format self.old (kept_as term voted log.now)) }
+        ensures unchanged { OnErr result (self.new ≡ self.old) }
+    {
+        let keep = common(&self.terms, log, 0);
+        if self.has(term, &voted, keep, log.len()) {
+            return Ok(());
+        }
+        let mut added = terms_of(alloc, &log[keep..])?;
+        self.terms.reserve(added.len())?;
+        let saving = self.saved_anew::<C>(alloc, term, &voted, keep as u32, log)?;
+        self.terms.truncate(keep);
+        self.terms.append(&mut added)?;
+        self.end = saving.end;
+        self.term = term;
+        self.voted = voted;
+        Ok(())
     }
 
     // Makes the acts that save a state, whose log keeps at least so many of the entries that are held. It first makes all its growths.
@@ -192,10 +250,11 @@ impl Store {
         }
         let mut added = terms_of(alloc, &log[keep..])?;
         self.terms.reserve(added.len())?;
-        let end = self.write_new(alloc, device, term, &voted, keep as u32, log)?;
+        let saving = self.saved_anew::<C>(alloc, term, &voted, keep as u32, log)?;
+        make_acts(device, &saving.acts)?;
         self.terms.truncate(keep);
         self.terms.append(&mut added)?;
-        self.end = end;
+        self.end = saving.end;
         self.term = term;
         self.voted = voted;
         Ok(())

@@ -4,7 +4,7 @@ ghost use Rattle.primary_backup.specs.BackupLaws.{modest_input, modest_message, 
 
 use crate::PbState;
 use crate::rules::{acknowledge, ask, follow};
-use handler_trait::{Effects, Handlers};
+use handler_trait::{Effects, Handlers, LeavesRoom};
 use std::alloc::{AllocError, Global};
 use std::collections::VecDeque;
 use std::marker::Model;
@@ -135,4 +135,10 @@ impl<M: Machine> Handlers for PrimaryBackup<M> {
     ghost modest_message = { λ p n s from c below from_below sound. modest_message (M.meaning p) n s from c };
 
     ghost modest_timeout = { λ p n s below sound. modest_timeout (M.meaning p) n s };
+}
+
+impl<M: Machine> LeavesRoom for PrimaryBackup<M> {
+    ghost use Rattle.std.proofs.Common.{arith};
+
+    ghost leaves_room = { omega arith };
 }

@@ -8,6 +8,7 @@ mod electing;
 mod examples;
 mod leading;
 mod raft;
+mod reading;
 mod replicating;
 mod role;
 mod seat;

@@ -3,8 +3,8 @@ use Rattle.std.specs.Prelude.{◌≡◌, ℕ, zero, suc, List, [], ◌∷◌, Op
 use Rattle.std.proofs.Common.{ap, refl, sym, ◌∙◌}
 use Rattle.std.proofs.lemmas.Option.{none-some, same_Some, slice_get-map}
 use Rattle.net_semantics.specs.Worlds.{Packet}
-use Rattle.retry_xform.specs.declared.message.RetryMsg.{RetryMsg}
-use Rattle.retry_xform.specs.declared.message.RetryMsg.TheVariants as msg
+use Rattle.vst_base.specs.declared.retry.RetryMsg.{RetryMsg}
+use Rattle.vst_base.specs.declared.retry.RetryMsg.TheVariants as msg
 use Rattle.retry_xform.specs.Image.{place_of, names, names_after, with_content}
 use Rattle.retry_xform.specs.Keeping.{Kept}
 use Rattle.retry_observer.specs.Observed.{carried_again, carried_in}

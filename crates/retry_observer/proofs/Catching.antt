@@ -5,7 +5,7 @@ use Rattle.std.proofs.lemmas.List.{length-map, take_all}
 use Rattle.std.proofs.lemmas.Option.{none-some, same_Some, slice_get-map}
 use Rattle.lists.specs.Places.{take_next}
 use Rattle.net_semantics.specs.Worlds.{Packet, ends_of}
-use Rattle.retry_xform.specs.declared.message.RetryMsg.{RetryMsg}
+use Rattle.vst_base.specs.declared.retry.RetryMsg.{RetryMsg}
 use Rattle.retry_observer.specs.Places.{ComeAfter, Comes, Follows, PlacesView, carried_by, named, number_in, numbers_in}
 
 module _ {M : Type 0} where

@@ -13,8 +13,8 @@ use Rattle.vst_base.specs.Nets.{Fate, StepView, AtNode, OfPacket, Starts, Stops,
 use Rattle.vst_base.specs.declared.net.Net.{Net}
 use Rattle.vst_base.specs.declared.step.Item.{Item}
 use Rattle.vst_base.specs.declared.step.Step.{Step}
-use Rattle.retry_xform.specs.declared.message.RetryMsg.{RetryMsg}
-use Rattle.retry_xform.specs.declared.message.RetryMsg.TheVariants as msg
+use Rattle.vst_base.specs.declared.retry.RetryMsg.{RetryMsg}
+use Rattle.vst_base.specs.declared.retry.RetryMsg.TheVariants as msg
 use Rattle.retry_xform.specs.Image.{image_from, image_in, image_step, names, of_packet, of_place, retried_image}
 use Rattle.retry_xform.specs.Keeping.{Kept, Retrying}
 use Rattle.retry_xform.specs.Retransmission.{kept_and_sent, retrying, takes_message, with_first_resent}

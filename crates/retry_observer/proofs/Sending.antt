@@ -8,8 +8,8 @@ use Rattle.lists.specs.Each.{each_append, each_weaker}
 use Rattle.lists.specs.Places.{slice_get_seam}
 use Rattle.handler_trait.specs.Handling.{Effect}
 use Rattle.net_semantics.specs.Worlds.{sent_by}
-use Rattle.retry_xform.specs.declared.message.RetryMsg.{RetryMsg}
-use Rattle.retry_xform.specs.declared.message.RetryMsg.TheVariants as msg
+use Rattle.vst_base.specs.declared.retry.RetryMsg.{RetryMsg}
+use Rattle.vst_base.specs.declared.retry.RetryMsg.TheVariants as msg
 use Rattle.retry_xform.specs.Keeping.{AreBelow, Kept, Retrying, acknowledged, is_meant, numbered_from, rotated}
 use Rattle.retry_xform.specs.Retransmission.{all_as_data, as_data, drop_acknowledged, kept_and_sent, with_acknowledgement, with_first_resent}
 use Rattle.retry_xform.specs.Image.{place_of}

@@ -15,8 +15,8 @@ use Rattle.vst_base.specs.Nets.{Copied, Delivered, Fate, Lost, StepView, AtNode,
 use Rattle.vst_base.specs.declared.net.Net.{Net}
 use Rattle.vst_base.specs.declared.step.Step.{Step}
 use Rattle.vst_base.specs.declared.step.Step.TheVariants as step
-use Rattle.retry_xform.specs.declared.message.RetryMsg.{RetryMsg}
-use Rattle.retry_xform.specs.declared.message.RetryMsg.TheVariants as msg
+use Rattle.vst_base.specs.declared.retry.RetryMsg.{RetryMsg}
+use Rattle.vst_base.specs.declared.retry.RetryMsg.TheVariants as msg
 use Rattle.retry_xform.specs.Keeping.{AreBelow, Kept, Retrying}
 use Rattle.retry_xform.specs.Retransmission.{retrying, takes_message}
 use Rattle.retry_observer.specs.Places.{named, number_in, numbers_at, numbers_in, up_to}

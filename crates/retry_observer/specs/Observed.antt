@@ -8,7 +8,7 @@ use Rattle.vst_base.specs.Nets.{StepView, AtNode, OfPacket, Stops, Starts, view_
 use Rattle.vst_base.specs.declared.net.Net.{Net}
 use Rattle.vst_base.specs.declared.step.Item.{Item}
 use Rattle.vst_base.specs.declared.step.Step.{Step}
-use Rattle.retry_xform.specs.declared.message.RetryMsg.{RetryMsg}
+use Rattle.vst_base.specs.declared.retry.RetryMsg.{RetryMsg}
 use Rattle.retry_xform.specs.Image.{at_node, names, of_place, place_of, retried_image}
 use Rattle.retry_xform.specs.Keeping.{Kept, Retrying}
 use Rattle.retry_xform.specs.Retransmission.{retrying}
@@ -39,8 +39,8 @@ looked_at w s = looked_in w (view_of s)
 abbrev pub image_with : {I : Type 0} → StepView I → Option ℕ → List (Step I)
 image_with (AtNode n input) looked = at_node n input ∷ []
 image_with (OfPacket k fate) looked = of_place looked
-image_with (Stops n) looked = of_place looked
-image_with (Starts n) looked = of_place looked
+image_with (Stops n) looked = []
+image_with (Starts n) looked = []
 
 abbrev pub image_of_step : {I : Type 0} → Step I → Option ℕ → List (Step I)
 image_of_step s looked = image_with (view_of s) looked

@@ -3,8 +3,8 @@
 use Rattle.std.specs.Prelude.{◌≡◌, ℕ, zero, suc, ◌+◌, ◌≤◌, ◌==◌, ◌&&◌, Bool, true, false, List, [], ◌∷◌, ◌++◌, length, map, take, Option, Some, None, slice_get, if◌then◌else◌}
 use Rattle.std.proofs.Common.{get_or}
 use Rattle.net_semantics.specs.Worlds.{Packet}
-use Rattle.retry_xform.specs.declared.message.RetryMsg.{RetryMsg}
-use Rattle.retry_xform.specs.declared.message.RetryMsg.TheVariants as msg
+use Rattle.vst_base.specs.declared.retry.RetryMsg.{RetryMsg}
+use Rattle.vst_base.specs.declared.retry.RetryMsg.TheVariants as msg
 use Rattle.retry_xform.specs.Image.{place_of, with_name}
 
 -- the number of data; an acknowledgement bears none of its own

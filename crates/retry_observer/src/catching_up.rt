@@ -4,7 +4,8 @@ ghost use Rattle.vst_base.specs.declared.step.Step.{Step};
 ghost use Rattle.xform_stack.specs.Systems.{world_of};
 
 use crate::Places;
-use retry_xform::{LeavesRoom, Retry};
+use handler_trait::LeavesRoom;
+use retry_xform::Retry;
 use std::alloc::{AllocError, Global};
 use vst_base::Node;
 use xform_stack::Network;

@@ -3,8 +3,7 @@ ghost use Rattle.retry_observer.specs.Observed.{image_of_step, last_carries, loo
 ghost use Rattle.retry_observer.specs.Places.{ComeAfter, IsKnown, IsNew, carried_at, named, numbers_at, numbers_in, up_to};
 ghost use Rattle.retry_xform.specs.Examples.{kept, keeping, only_at, packet};
 
-use retry_xform::RetryMsg;
-use vst_base::Step;
+use vst_base::{RetryMsg, Step};
 
 /// What a few packets carry, which of them are new data, and what steps are to the handlers within.
 pub fn worked()

@@ -7,8 +7,8 @@ ghost use Rattle.vst_base.specs.declared.step.Step.{Step};
 ghost use Rattle.xform_stack.specs.Running.{HasTaken};
 
 use crate::Places;
-use handler_trait::Handlers;
-use retry_xform::{LeavesRoom, Retry, RetryState};
+use handler_trait::{Handlers, LeavesRoom};
+use retry_xform::{Retry, RetryState};
 use vst_base::{Node, Step};
 use xform_stack::Network;
 

@@ -10,8 +10,8 @@ ghost use Rattle.xform_stack.specs.Systems.{system_of};
 use crate::Places;
 use crate::catching_up::catch_up;
 use crate::looking::look;
-use handler_trait::Handlers;
-use retry_xform::{LeavesRoom, Retry, RetryState};
+use handler_trait::LeavesRoom;
+use retry_xform::{Retry, RetryState};
 use std::alloc::{AllocError, Global};
 use std::marker::Model;
 use trace_maps::{Image, TraceMap};
@@ -47,11 +47,11 @@ fn take_within<H: LeavesRoom, F: TraceMap<H::Input, H::Output>>(
 {
     match (step, looked) {
         (Step::In(_, _) | Step::Tick(_), _) => map.take(alloc, handlers, step),
-        (_, Some(j)) => {
+        (Step::Deliver(_) | Step::Dup(_) | Step::Lose(_), Some(j)) => {
             map.take(alloc, handlers, &Step::Dup(j))?;
             map.take(alloc, handlers, &Step::Deliver(j))
         }
-        (_, None) => Ok(()),
+        _ => Ok(()),
     }
 }
 

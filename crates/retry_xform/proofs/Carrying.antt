@@ -8,9 +8,10 @@ use Rattle.lists.specs.Places.{slice_get_front, slice_get_seam, slice_get_either
 use Rattle.handler_trait.specs.Handling.{Effect}
 use Rattle.net_semantics.specs.Worlds.{Packet, put, change_at, sent_by}
 use Rattle.net_semantics.proofs.Places.{put-there, put-elsewhere}
-use Rattle.retry_xform.specs.declared.message.RetryMsg.{RetryMsg}
-use Rattle.retry_xform.specs.declared.message.RetryMsg.TheVariants as msg
+use Rattle.vst_base.specs.declared.retry.RetryMsg.{RetryMsg}
+use Rattle.vst_base.specs.declared.retry.RetryMsg.TheVariants as msg
 use Rattle.retry_xform.specs.Keeping.{Kept, Retrying, acknowledged, is_meant, numbered_from, rotated}
+use Rattle.retry_xform.specs.KeepingLaws.{each-acknowledged, each-rotated}
 use Rattle.retry_xform.specs.Retransmission.{all_as_data, as_data, kept_and_sent}
 use Rattle.retry_xform.specs.Image.{place_of, with_content, names_after, names, Keeps, IsKept}
 use Rattle.retry_xform.proofs.Names.{IsUnused, unused-next, fresh, length-fresh, fresh-known, names-append, names-changed, names-fresh, place-kept, place-there, with-known}
@@ -92,18 +93,6 @@ module _ {M : Type 0} where
   kept-rotated ns j q [] h = h
   kept-rotated ns j q (k ∷ ks) (inl h) = kept-right ns j q ks (k ∷ []) (inl h)
   kept-rotated ns j q (k ∷ ks) (inr h) = kept-left ns j q ks (k ∷ []) h
-
-  each-rotated : (P : Kept M → Type 0) (ks : List (Kept M)) → Each P ks → Each P (rotated ks)
-  each-rotated P [] h = tt
-  each-rotated P (k ∷ ks) h = each_append P ks (k ∷ []) h.1 (h.0, tt)
-
-  each-choice : (P : Kept M → Type 0) (b : Bool) (k : Kept M) (ks : List (Kept M)) → P k → Each P ks → Each P (cond b (k ∷ ks) ks)
-  each-choice P true k ks here there = (here, there)
-  each-choice P false k ks here there = there
-
-  each-acknowledged : (P : Kept M → Type 0) (from x : ℕ) (ks : List (Kept M)) → Each P ks → Each P (acknowledged from x ks)
-  each-acknowledged P from x [] h = tt
-  each-acknowledged P from x (k ∷ ks) h = each-choice P (not (is_meant from x k)) k (acknowledged from x ks) h.0 (each-acknowledged P from x ks h.1)
 
   each-changed : (P : Packet (RetryMsg M) → Type 0) (f : Packet (RetryMsg M) → Packet (RetryMsg M)) → ((p : Packet (RetryMsg M)) → P p → P (f p)) → (k : ℕ) (ps : List (Packet (RetryMsg M))) → Each P ps → Each P (change_at f k ps)
   each-changed P f so k [] h = tt

@@ -16,8 +16,8 @@ use Rattle.net_semantics.specs.Steps.{Event, next, refusal_of, items_of, deliver
 use Rattle.net_semantics.specs.Runs.{no_recovery, first_refused_from, trace_from, run_from, place_and_why}
 use Rattle.net_semantics.specs.Once.{delivered_from}
 use Rattle.net_semantics.proofs.Places.{put-there, put-elsewhere, change_at-there}
-use Rattle.retry_xform.specs.declared.message.RetryMsg.{RetryMsg}
-use Rattle.retry_xform.specs.declared.message.RetryMsg.TheVariants as msg
+use Rattle.vst_base.specs.declared.retry.RetryMsg.{RetryMsg}
+use Rattle.vst_base.specs.declared.retry.RetryMsg.TheVariants as msg
 use Rattle.retry_xform.specs.Keeping.{Kept, Retrying, numbered_from, rotated}
 use Rattle.retry_xform.specs.Retransmission.{as_data, kept_and_sent, with_acknowledgement, with_first_resent, drop_acknowledged, retrying}
 use Rattle.retry_xform.specs.Image.{names, of_packet, of_place, image_step}

@@ -5,7 +5,7 @@ use Rattle.std.proofs.lemmas.Bool.{eq-eqb, ne_eqb, false≢true}
 use Rattle.std.proofs.lemmas.Bool.Decides.{nat_tests}
 use Rattle.std.proofs.lemmas.Option.{none-some}
 use Rattle.net_semantics.specs.Worlds.{Packet, change_at, sent_by}
-use Rattle.retry_xform.specs.declared.message.RetryMsg.{RetryMsg}
+use Rattle.vst_base.specs.declared.retry.RetryMsg.{RetryMsg}
 use Rattle.retry_xform.specs.Keeping.{numbered_from}
 use Rattle.retry_xform.specs.Retransmission.{all_as_data}
 use Rattle.retry_xform.specs.Image.{is_same, place_of, with_name, with_content, names_after}

@@ -1,9 +1,10 @@
 -- Numbers that were given are below the next one.
-use Rattle.std.specs.Prelude.{◌≡◌, ◌≢◌, ℕ, ◌+◌, ◌<◌, ◌≤◌, List, [], ◌∷◌, ◌++◌, length, refl, Bool, true, false, not, cond}
+use Rattle.std.specs.Prelude.{◌≡◌, ◌≢◌, ℕ, ◌+◌, ◌<◌, ◌≤◌, List, [], ◌∷◌, ◌++◌, length, refl}
 use Rattle.std.proofs.Common.{arith}
 use Rattle.lists.specs.Each.{Each, each_append, each_weaker}
 use Rattle.handler_trait.specs.Handling.{AreSentBelow}
-use Rattle.retry_xform.specs.Keeping.{Kept, Retrying, AreBelow, ArePending, IsPending, numbered_from, rotated, acknowledged, is_meant}
+use Rattle.retry_xform.specs.Keeping.{Kept, Retrying, AreBelow, ArePending, IsPending, numbered_from, rotated, acknowledged}
+use Rattle.retry_xform.specs.KeepingLaws.{each-acknowledged, each-rotated}
 use Rattle.retry_xform.specs.Retransmission.{IsRetrying}
 
 pub none-there : {X : Type 0} (xs : List X) → length xs ≡ 0 → xs ≡ []
@@ -35,17 +36,10 @@ module _ {M : Type 0} where
       (numbered-pending next (next + length ps) nodes ps (omega arith) below)
 
   pub pending-rotated : (next nodes : ℕ) (ks : List (Kept M)) → ArePending next nodes ks → ArePending next nodes (rotated ks)
-  pending-rotated next nodes [] pending = tt
-  pending-rotated next nodes (k ∷ ks) pending = each_append (IsPending next nodes) ks (k ∷ []) pending.1 (pending.0, tt)
-
-  pending-choice : (next nodes : ℕ) (b : Bool) (k : Kept M) (ks : List (Kept M)) → IsPending next nodes k → ArePending next nodes ks → ArePending next nodes (cond b (k ∷ ks) ks)
-  pending-choice next nodes true k ks here there = (here, there)
-  pending-choice next nodes false k ks here there = there
+  pending-rotated next nodes ks pending = each-rotated (IsPending next nodes) ks pending
 
   pub pending-acknowledged : (next nodes from number : ℕ) (ks : List (Kept M)) → ArePending next nodes ks → ArePending next nodes (acknowledged from number ks)
-  pending-acknowledged next nodes from number [] pending = tt
-  pending-acknowledged next nodes from number (k ∷ ks) pending =
-      pending-choice next nodes (not (is_meant from number k)) k (acknowledged from number ks) pending.0 (pending-acknowledged next nodes from number ks pending.1)
+  pending-acknowledged next nodes from number ks pending = each-acknowledged (IsPending next nodes) from number ks pending
 
 -- a state that is sound, once what the handlers within sent is kept
 pub retrying-after : {S M : Type 0} (sound : S → Type 0) (nodes : ℕ) (s : Retrying S M) (inner : S) (next : ℕ) (kept : List (Kept M)) (ps : List (ℕ × M)) → IsRetrying sound nodes s → sound inner → AreSentBelow nodes ps

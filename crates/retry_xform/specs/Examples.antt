@@ -1,8 +1,8 @@
 -- What the definitions are computed on.
 use Rattle.std.specs.Prelude.{ℕ, true, List, [], ◌∷◌, None}
 use Rattle.net_semantics.specs.Worlds.{Packet, World, put}
-use Rattle.retry_xform.specs.declared.message.RetryMsg.{RetryMsg}
-use Rattle.retry_xform.specs.declared.message.RetryMsg.TheVariants as msg
+use Rattle.vst_base.specs.declared.retry.RetryMsg.{RetryMsg}
+use Rattle.vst_base.specs.declared.retry.RetryMsg.TheVariants as msg
 use Rattle.retry_xform.specs.Keeping.{Kept, Retrying}
 
 -- a kept packet, and a packet with one copy

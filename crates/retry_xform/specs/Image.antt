@@ -8,8 +8,8 @@ use Rattle.net_semantics.specs.Worlds.{World, Packet, first_world}
 use Rattle.net_semantics.specs.Steps.{delivered, next}
 use Rattle.net_semantics.specs.Runs.{no_recovery}
 use Rattle.net_semantics.specs.Once.{delivered_from}
-use Rattle.retry_xform.specs.declared.message.RetryMsg.{RetryMsg}
-use Rattle.retry_xform.specs.declared.message.RetryMsg.TheVariants as msg
+use Rattle.vst_base.specs.declared.retry.RetryMsg.{RetryMsg}
+use Rattle.vst_base.specs.declared.retry.RetryMsg.TheVariants as msg
 use Rattle.retry_xform.specs.Keeping.{Kept, Retrying}
 use Rattle.retry_xform.specs.Retransmission.{retrying}
 

@@ -1,4 +1,5 @@
 pub mod Keeping
+pub mod KeepingLaws
 pub mod KeptEntries
 pub mod Retransmission
 pub mod RetransmissionLaws

@@ -1,8 +1,8 @@
 -- Retransmission as a function on handlers: what is sent is kept, and sent again at each tick until it is acknowledged.
 use Rattle.std.specs.Prelude.{ℕ, ◌+◌, max, List, [], ◌∷◌, ◌++◌, length, map}
 use Rattle.handler_trait.specs.Handling.{Meaning, Effect}
-use Rattle.retry_xform.specs.declared.message.RetryMsg.{RetryMsg}
-use Rattle.retry_xform.specs.declared.message.RetryMsg.TheVariants as msg
+use Rattle.vst_base.specs.declared.retry.RetryMsg.{RetryMsg}
+use Rattle.vst_base.specs.declared.retry.RetryMsg.TheVariants as msg
 use Rattle.retry_xform.specs.Keeping.{Kept, Retrying, ArePending, acknowledged, numbered_from, rotated}
 
 -- the packet that carries what is kept

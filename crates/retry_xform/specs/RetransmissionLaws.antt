@@ -3,8 +3,8 @@ use Rattle.std.specs.Prelude.{◌≡◌, ℕ, ◌+◌, ◌<◌, ◌≤◌, List,
 use Rattle.std.proofs.Common.{ap, arith, suc, length-append}
 use Rattle.handler_trait.specs.Handling.{Meaning, Effect, IsModest, AreSentBelow}
 use Rattle.handler_trait.specs.declared.handlers.TheConstants.{MAX_SENDS}
-use Rattle.retry_xform.specs.declared.message.RetryMsg.{RetryMsg}
-use Rattle.retry_xform.specs.declared.message.RetryMsg.TheVariants as msg
+use Rattle.vst_base.specs.declared.retry.RetryMsg.{RetryMsg}
+use Rattle.vst_base.specs.declared.retry.RetryMsg.TheVariants as msg
 use Rattle.retry_xform.specs.Keeping.{Kept, Retrying, ArePending, numbered_from}
 use Rattle.retry_xform.specs.Retransmission.{as_data, all_as_data, kept_and_sent, with_acknowledgement, with_first_resent, drop_acknowledged, retrying, retrying_sound, retrying_spent}
 

@@ -7,8 +7,7 @@ ghost use Rattle.retry_xform.specs.Keeping.{AreBelow, ArePending, Retrying, ackn
 ghost use Rattle.retry_xform.specs.KeptEntries.{all_kept, goes_to};
 ghost use Rattle.retry_xform.specs.Retransmission.{retrying};
 
-use crate::RetryMsg;
-use vst_base::{Item, Net, Step, StepRefusal};
+use vst_base::{Item, Net, RetryMsg, Step, StepRefusal};
 
 /// What is kept and dropped, which packets of the run within are carried, and runs of three nodes that lose packets with their images.
 pub fn worked()
@@ -38,7 +37,11 @@ pub fn worked()
         ≡ (1, RetryMsg.Data 6 9) ∷ (0, RetryMsg.Data 4 9) ∷ [] }
     ensures and_goes_to_the_end { ((retrying (echo 3)).timeout 1 (record { inner = 1; next = 6; kept = kept 4 0 9 ∷ kept 5 2 8 ∷ [] })).state.kept
         ≡ kept 5 2 8 ∷ kept 6 1 9 ∷ kept 4 0 9 ∷ [] }
-    ensures each_time_acknowledged { ((retrying (echo 3)).message 0 (record { inner = 0; next = 0; kept = [] }) 1 (RetryMsg.Data 4 9)).sends ≡ (1, RetryMsg.Ack 4) ∷ [] }
+    ensures acknowledged_when_it_comes { ((retrying (echo 3)).message 0 (record { inner = 0; next = 0; kept = [] }) 1 (RetryMsg.Data 4 9)).sends
+        ≡ (1, RetryMsg.Ack 4) ∷ [] }
+    ensures and_when_it_comes_again { ((retrying (echo 3)).message 0
+        ((retrying (echo 3)).message 0 (record { inner = 0; next = 0; kept = [] }) 1 (RetryMsg.Data 4 9)).state 1 (RetryMsg.Data 4 9)).sends
+        ≡ (1, RetryMsg.Ack 4) ∷ [] }
 
     ensures loss_is_allowed { first_refused Net.Loss (retrying (echo 3)) (no_recovery {S = Retrying ℕ ℕ}) (Step.In 1 5 ∷ Step.Lose 0 ∷ Step.Tick 1 ∷ Step.Deliver 2 ∷ Step.Deliver 3 ∷ []) ≡ None }
     ensures lost_and_sent_again { retried_image (echo 3) (Step.In 1 5 ∷ Step.Lose 0 ∷ Step.Tick 1 ∷ Step.Deliver 2 ∷ Step.Deliver 3 ∷ [])

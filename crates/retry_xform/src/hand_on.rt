@@ -2,10 +2,10 @@ ghost use Rattle.std.specs.Prelude.{◌≡◌, ◌+◌, ◌<◌, ◌≤◌, ◌^
 ghost use Rattle.retry_xform.specs.Keeping.{AreBelow, numbered_from};
 ghost use Rattle.retry_xform.specs.Retransmission.{all_as_data};
 
-use crate::{KeptPackets, RetryMsg};
+use crate::KeptPackets;
 use handler_trait::{Effects, Handlers};
 use std::alloc::{AllocError, Global};
-use vst_base::Node;
+use vst_base::{Node, RetryMsg};
 
 // Hands on the packets, in order, each with the next number, and keeps a copy of each.
 fn sends<H: Handlers>(

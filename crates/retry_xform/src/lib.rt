@@ -7,16 +7,12 @@ mod examples;
 mod explained;
 mod hand_on;
 mod kept;
-mod message;
 mod resend;
 mod retry;
-mod room;
 mod state;
 
 pub use examples::worked;
 pub use explained::retries_lose_nothing;
 pub use kept::KeptPackets;
-pub use message::RetryMsg;
 pub use retry::Retry;
-pub use room::LeavesRoom;
 pub use state::RetryState;

@@ -2,9 +2,10 @@ ghost use Rattle.std.specs.Prelude.{◌≡◌, ◌<◌, ◌++◌, OnOk};
 ghost use Rattle.retry_xform.specs.Keeping.{rotated};
 ghost use Rattle.retry_xform.specs.Retransmission.{again};
 
-use crate::{KeptPackets, RetryMsg};
+use crate::KeptPackets;
 use handler_trait::{Effects, Handlers};
 use std::alloc::{AllocError, Global};
+use vst_base::RetryMsg;
 
 /// Sends the first kept packet again, if there is one, and moves it to the end. After an `Err` all is given up.
 pub(crate) fn resend<H: Handlers>(

@@ -6,11 +6,11 @@ ghost use Rattle.retry_xform.specs.RetransmissionLaws.{few_sends, fresh, modest_
 
 use crate::hand_on::hand_on;
 use crate::resend::resend;
-use crate::{KeptPackets, LeavesRoom, RetryMsg, RetryState};
-use handler_trait::{Effects, Handlers};
+use crate::{KeptPackets, RetryState};
+use handler_trait::{Effects, Handlers, LeavesRoom};
 use std::alloc::{AllocError, Global};
 use std::marker::Model;
-use vst_base::Node;
+use vst_base::{Node, RetryMsg};
 
 /// Handlers whose packets are kept and sent again until they are acknowledged. A packet that comes is given to the handlers within
 /// each time, and acknowledged each time. Contracts see the handlers within.

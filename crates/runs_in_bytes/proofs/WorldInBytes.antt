@@ -13,6 +13,7 @@ use Rattle.vst_base.specs.declared.node.TheConstants.{MAX_NODES}
 use Rattle.vst_base.specs.declared.stack.StackId.{StackId}
 use Rattle.vst_base.specs.declared.step.Step.{Step}
 use Rattle.vst_base.specs.declared.step.TheConstants.{MAX_STEPS}
+use Rattle.wire_codec.specs.Datagrams.{longest_message}
 use Rattle.wire_codec.specs.Headings.{HasByte}
 use Rattle.wire_fields.specs.Fields.{name}
 use Rattle.wire_fields.specs.Formats.{Format}
@@ -31,11 +32,11 @@ is_name bs named = subst (λ (x : List ℕ). name.Fits x) (sym named) (refl, ref
 
 module _ {H S I O M : Type 0} (f : Format M) (IsInput : I → Type 0) (longest : ℕ) (meaning : H → Meaning S I O M) where
   abbrev pub Law : Type 0
-  Law = (h : H) (stack : StackId) → HasByte stack → IsFormatOf stack f → (meaning h).nodes ≤ MAX_NODES → longest ≤ 59978 → RunsAsBytes f stack IsInput (meaning h)
+  Law = (h : H) (stack : StackId) → HasByte stack → IsFormatOf stack f → (meaning h).nodes ≤ MAX_NODES → longest ≤ longest_message → RunsAsBytes f stack IsInput (meaning h)
 
   -- of handlers that were wired so
   pub owned : (h : H) (stack : StackId) (w : Named H) {bs : List ℕ} → w ≡ record { inner = h; stack = stack; name = bs } → bs ≡ no_name → (meaning h).nodes ≤ MAX_NODES → HasByte stack
-      → IsFormatOf stack f → longest ≤ 59978 → AreOwnBytes f longest meaning w
+      → IsFormatOf stack f → longest ≤ longest_message → AreOwnBytes f longest meaning w
   owned h stack w {bs} made is few has of short = subst (λ (x : Named H). AreOwnBytes f longest meaning x) (sym made) (record { few = few; stack = has; format = of; short = short; named = is })
 
   abbrev pub Followed : WorldView (Named H) S I O (List ℕ) → List (Step I) → Type 0

@@ -10,6 +10,7 @@ use Rattle.vst_base.specs.declared.net.Net.{Net}
 use Rattle.vst_base.specs.declared.net.Net.TheVariants as net
 use Rattle.vst_base.specs.declared.node.TheConstants.{MAX_NODES}
 use Rattle.vst_base.specs.declared.step.Step.{Step}
+use Rattle.wire_codec.specs.Datagrams.{longest_message}
 use Rattle.wire_codec.specs.Headings.{HasByte}
 use Rattle.wire_fields.specs.Formats.{Format}
 use Rattle.wired.specs.Same.{RunsTheSame}
@@ -37,7 +38,7 @@ pub record AreOwnBytes {H S I O M : Type 0} (f : Format M) (longest : ℕ) (mean
   pub few : (meaning w.inner).nodes ≤ MAX_NODES
   pub stack : HasByte w.stack
   pub format : IsFormatOf w.stack f
-  pub short : longest ≤ 59978
+  pub short : longest ≤ longest_message
   pub named : w.name ≡ no_name
 
 -- what holds of a world in bytes when it is made and after each step that doesn't answer want of memory. It stands for some world

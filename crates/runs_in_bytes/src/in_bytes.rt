@@ -1,6 +1,7 @@
 ghost use Rattle.std.specs.Prelude.{◌≡◌, ◌≤◌, [], IfOk, IsTrue, refl};
 ghost use Rattle.vst_base.specs.Nets.{stops_no_node};
 ghost use Rattle.vst_base.specs.declared.node.TheConstants.{MAX_NODES};
+ghost use Rattle.wire_codec.specs.Datagrams.{longest_message};
 ghost use Rattle.wire_codec.specs.Headings.{HasByte};
 ghost use Rattle.wired.specs.StackRuns.{IsInputStep};
 ghost use Rattle.wired.specs.WiredRuns.{IsFormatOf};
@@ -60,7 +61,7 @@ impl<H: OnWire> InBytes<H> {
         requires few_nodes { (H.meaning handlers).nodes ≤ MAX_NODES }
         requires packets { HasByte stack }
         requires format { IsFormatOf stack H.Msg.format }
-        requires short { H.longest ≤ 59978 }
+        requires short { H.longest ≤ longest_message }
         ensures handlers { IfOk result (λ network. network.handlers.inner ≡ handlers) }
         ensures stack { IfOk result (λ network. network.handlers.stack ≡ stack) }
         ensures net { IfOk result (λ network. network.net ≡ net) }

@@ -2,7 +2,7 @@ ghost use Rattle.std.specs.Prelude.{◌≡◌, ◌+◌, ℕ, [], ◌∷◌, true
 ghost use Rattle.handler_trait.specs.Echo.{echo, echo_recovery};
 ghost use Rattle.kv_machine.specs.declared.cmd.KvCmd.{KvCmd};
 ghost use Rattle.lock_table.specs.declared.cmd.TableCmd.{TableCmd};
-ghost use Rattle.mirror.specs.declared.messages.MirrorInput.{MirrorInput};
+ghost use Rattle.vst_base.specs.declared.mirror.MirrorInput.{MirrorInput};
 ghost use Rattle.net_semantics.specs.Echo.{echo_after};
 ghost use Rattle.net_semantics.specs.Worlds.{first_world};
 ghost use Rattle.vst_base.specs.declared.lock.LockInput.{LockInput};

@@ -6,11 +6,10 @@ ghost use Rattle.schedule_make.specs.Made.{Inputs};
 
 use kv_machine::KvCmd;
 use lock_table::TableCmd;
-use mirror::MirrorInput;
 use raft_types::RaftInput;
 use std::alloc::{AllocError, Global};
 use std::marker::PhantomData;
-use vst_base::{ClientId, Key, LockInput, ReqId, Token, Value};
+use vst_base::{ClientId, Key, LockInput, MirrorInput, ReqId, Token, Value};
 
 /// The inputs of made schedules.
 pub trait MakesInputs {

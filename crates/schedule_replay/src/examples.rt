@@ -65,6 +65,14 @@ pub fn worked()
     ensures held_until_a_tick { (replayed (codes "schedule 1 dup mirror/fifo 2\nin 1 put a\nin 1 put b\ndeliver 1\ndeliver 0\ntick 0\n")).out
         ≡ codes "in 1 put a\nin 1 put b\nout 0 from 1 a\nout 0 from 1 b\nbelow\nschedule 1 ord mirror 2\nin 1 put a\nin 1 put b\ndeliver 0\ndeliver 1\n" }
 
+    // A packet that was lost is sent again by a tick. In the image a packet that comes is copied first, since it may come again; the
+    // acknowledgement is left out.
+    ensures sent_again { (replayed (codes "schedule 1 loss lock/seq/retry 2\nin 1 lock\nlose 0\ntick 1\ndeliver 1\ndeliver 2\ndeliver 3\n")).out
+        ≡ codes "in 1 lock\nout 1 locked\nbelow\nschedule 1 dup lock/seq 2\nin 1 lock\ntick 1\ndup 0\ndeliver 0\ndup 1\ndeliver 1\n" }
+    ensures applied_again { (replayed (codes "schedule 1 loss kv/pb/seq/retry 2\nin 0 put a x\ntick 0\ndeliver 0\ndeliver 1\nlose 2\ntick 1\ndeliver 5\n")).out
+        ≡ codes "in 0 put a x\nout 0 a =x -\nbelow\nschedule 1 dup kv/pb/seq 2\nin 0 put a x\ntick 0\ndup 0\ndeliver 0\ndup 0\ndeliver 0\ntick 1\ndup 1\ndeliver 1\n" }
+    ensures no_node_stops { (replayed (codes "schedule 1 loss lock/seq/retry 2\ncrash 0\n")).refused ≡ Some (2, NotThisNet) }
+
     // A command waits for the backup to apply it; an acknowledgement that is copied does nothing, and the backup redirects.
     ensures acknowledged { (replayed (codes "schedule 1 bag kv/pb 2\nin 0 put a x\nin 0 get a\ndeliver 0\ndeliver 1\n")).out
         ≡ codes "in 0 put a x\nin 0 get a\nout 0 a =x -\nbelow\nschedule 1 one kv 1\nin 0 put a x\n" }

@@ -75,14 +75,29 @@ pub fn worked_headers()
         × (header_of (codes "schedule 1 dup mirror/fifo 10") ≡ None) }
     ensures mirror_elsewhere { (header_of (codes "schedule 1 bag mirror 2") ≡ None) × (header_of (codes "schedule 1 dup mirror 2") ≡ None)
         × (header_of (codes "schedule 1 ord mirror/fifo 2") ≡ None) }
+    ensures least_retried { header_of (codes "schedule 1 loss lock/seq/retry 2")
+        ≡ Some (record { net = Net.Loss; stack = StackId.LockSeqRetry; nodes = 2 }) }
+    ensures most_retried { header_of (codes "schedule 1 loss lock/seq/retry 9")
+        ≡ Some (record { net = Net.Loss; stack = StackId.LockSeqRetry; nodes = 9 }) }
+    ensures beyond_retried { (header_of (codes "schedule 1 loss lock/seq/retry 1") ≡ None)
+        × (header_of (codes "schedule 1 loss lock/seq/retry 10") ≡ None) }
+    ensures retried_two_nodes { header_of (codes "schedule 1 loss kv/pb/seq/retry 2")
+        ≡ Some (record { net = Net.Loss; stack = StackId.KvPbSeqRetry; nodes = 2 }) }
+    ensures retried_not_two_nodes { (header_of (codes "schedule 1 loss kv/pb/seq/retry 1") ≡ None)
+        × (header_of (codes "schedule 1 loss kv/pb/seq/retry 3") ≡ None) }
+    ensures retried_elsewhere { (header_of (codes "schedule 1 dup lock/seq/retry 2") ≡ None)
+        × (header_of (codes "schedule 1 fail kv/pb/seq/retry 2") ≡ None) }
+    ensures other_stacks_losing { (header_of (codes "schedule 1 loss lock/seq 2") ≡ None) × (header_of (codes "schedule 1 loss lock/retry 2") ≡ None) }
     ensures other_stacks_in_order { header_of (codes "schedule 1 ord lock 2") ≡ None }
-    ensures networks_without_a_stack { (header_of (codes "schedule 1 loss lock/seq 2") ≡ None) × (header_of (codes "schedule 1 acts kv/raft 1") ≡ None) }
+    ensures network_without_a_stack { header_of (codes "schedule 1 acts kv/raft 1") ≡ None }
     ensures text { header_text (record { net = Net.Bag; stack = StackId.Lock; nodes = 2 }) ≡ codes "schedule 1 bag lock 2" }
     ensures numbered_text { header_text (record { net = Net.Dup; stack = StackId.LockSeq; nodes = 9 }) ≡ codes "schedule 1 dup lock/seq 9" }
     ensures cluster_text { header_text (record { net = Net.Fail; stack = StackId.KvRaft; nodes = 9 }) ≡ codes "schedule 1 fail kv/raft 9" }
     ensures mirror_text { header_text (record { net = Net.Ord; stack = StackId.Mirror; nodes = 4 }) ≡ codes "schedule 1 ord mirror 4" }
     ensures fifo_text { header_text (record { net = Net.Dup; stack = StackId.MirrorFifo; nodes = 4 })
         ≡ codes "schedule 1 dup mirror/fifo 4" }
+    ensures retried_text { header_text (record { net = Net.Loss; stack = StackId.KvPbSeqRetry; nodes = 2 })
+        ≡ codes "schedule 1 loss kv/pb/seq/retry 2" }
     ensures opens_empty { opening 2000000 1 [] ≡ EndedAt 1 }
     ensures opens_without_header { opening 2000000 1 (codes "# none" ∷ []) ≡ EndedAt 2 }
     ensures opens_after_comment { opening 2000000 1 (codes "# a lock" ∷ codes "schedule 1 bag lock 2" ∷ codes "tick 0" ∷ []) ≡ Opened (record { net = Net.Bag; stack = StackId.Lock; nodes = 2 }) 3 (codes "tick 0" ∷ []) }

@@ -6,7 +6,7 @@ ghost use Rattle.seqnum_xform.specs.NumberingLaws.{fresh, modest_input, modest_m
 
 use crate::hand_on::hand_on;
 use crate::{SeenNumbers, SeqState};
-use handler_trait::{Effects, Handlers};
+use handler_trait::{Effects, Handlers, LeavesRoom};
 use std::alloc::{AllocError, Global};
 use std::marker::Model;
 use vst_base::{Node, SeqMsg};
@@ -159,4 +159,8 @@ impl<H: Handlers> Handlers for SeqNum<H> {
     ghost modest_message = { modest_message H.meaning H.sound H.spent H.SENDS H.few_sends H.modest_message };
 
     ghost modest_timeout = { modest_timeout H.meaning H.sound H.spent H.SENDS H.few_sends H.modest_timeout };
+}
+
+impl<H: LeavesRoom> LeavesRoom for SeqNum<H> {
+    ghost leaves_room = { H.leaves_room };
 }

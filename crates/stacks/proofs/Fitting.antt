@@ -1,9 +1,10 @@
 -- Each stack of the table fits its row: the last line stands for each stack but the first, and is checked for each.
 use Rattle.std.specs.Prelude.{◌≡◌}
 use Rattle.std.proofs.Common.{rules}
-use Rattle.transformers.proofs.Carried.{numbering_is, ordering_is}
+use Rattle.transformers.proofs.Carried.{numbering_is, ordering_is, retransmission_is}
 use Rattle.transformers.specs.Ordering.{ordering}
 use Rattle.transformers.specs.Numbering.{numbering}
+use Rattle.transformers.specs.Retransmission.{retransmission}
 use Rattle.vst_base.specs.Stacks.{row_of}
 use Rattle.vst_base.specs.declared.stack.StackId.{StackId}
 use Rattle.vst_base.specs.declared.stack.StackId.TheVariants as stack
@@ -20,6 +21,10 @@ numbered s stands = record { stands = stands; carries = numbering_is s.State s.I
 ordered : (s : Service) → s.net ≡ ordering.lower → IsCarriedBy ordering s
 ordered s stands = record { stands = stands; carries = ordering_is s.State s.Input s.Output s.Msg }
 
+-- retransmission stands on one that loses nothing, and carries all
+retried : (s : Service) → s.net ≡ retransmission.lower → IsCarriedBy retransmission s
+retried s stands = record { stands = stands; carries = retransmission_is s.State s.Input s.Output s.Msg }
+
 pub fits : (i : StackId) → IfFound (kind_at (row_of i).net i) (IsFit (row_of i))
-fits stack.Lock = search (rules, numbered, ordered)
-fits _ = search (rules, numbered, ordered)
+fits stack.Lock = search (rules, numbered, ordered, retried)
+fits _ = search (rules, numbered, ordered, retried)

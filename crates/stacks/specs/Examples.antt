@@ -1,10 +1,11 @@
 -- Layers over the lock server, and a schedule in which a packet comes twice; and over the mirror, and one in which packets come in another
 -- order.
 use Rattle.std.specs.Prelude.{List, [], ◌∷◌}
-use Rattle.mirror.specs.declared.messages.MirrorInput.{MirrorInput}
-use Rattle.mirror.specs.declared.messages.MirrorInput.TheVariants.{Put}
+use Rattle.vst_base.specs.declared.mirror.MirrorInput.{MirrorInput}
+use Rattle.vst_base.specs.declared.mirror.MirrorInput.TheVariants.{Put}
 use Rattle.transformers.specs.Numbering.{numbering}
 use Rattle.transformers.specs.Ordering.{ordering}
+use Rattle.transformers.specs.Retransmission.{retransmission}
 use Rattle.vst_base.specs.declared.lock.LockInput.{LockInput}
 use Rattle.vst_base.specs.declared.lock.LockInput.TheVariants.{Lock}
 use Rattle.vst_base.specs.declared.stack.StackId.TheVariants as id
@@ -30,6 +31,17 @@ as_itself ss = (service (Itself id.LockSeq (Through numbering (Own locks)))).ima
 
 abbrev pub over_itself : List (Step LockInput) → List (Step LockInput)
 over_itself ss = (service (Through numbering (Itself id.LockSeq (Through numbering (Own locks))))).image 4 ss []
+
+-- a client asks for the lock, its packet is lost, and is sent again with the timer
+abbrev pub lost : List (Step LockInput)
+lost = step.In 1 Lock ∷ step.Lose 0 ∷ step.Tick 1 ∷ step.Deliver 1 ∷ []
+
+abbrev pub copied : List (Step LockInput)
+copied = step.In 1 Lock ∷ step.Tick 1 ∷ step.Dup 0 ∷ step.Deliver 0 ∷ []
+
+-- the image, of such a stack with packets that are sent again: the schedule within as one of that stack, and not what that runs
+abbrev pub retried : List (Step LockInput) → List (Step LockInput)
+retried ss = (service (Through retransmission (Itself id.LockSeq (Through numbering (Own locks))))).image 4 ss []
 
 -- two values are put at a node, and the packet of the second comes first: a tick gives it
 abbrev pub swapped : List (Step MirrorInput)

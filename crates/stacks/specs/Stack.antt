@@ -1,7 +1,8 @@
 -- A stack as one value: how its schedules play, how claims on it are read and judged, and the schedules that are made for it.
-use Rattle.std.specs.Prelude.{ℕ, List}
+use Rattle.std.specs.Prelude.{◌≡◌, ◌⊎◌, ℕ, List, [], ◌∷◌}
 use Rattle.check_text.specs.Claims.{Claim}
 use Rattle.schedule_text.specs.declared.header.Header.{Header}
+use Rattle.vst_base.specs.declared.stack.StackId.{StackId}
 use Rattle.vst_base.specs.declared.step.Step.{Step}
 use Rattle.stacks.specs.Claimed.{Claimed, cluster_claimed, layers_claimed}
 use Rattle.stacks.specs.Plays.{Found, found_map, AnyPlay, Play, any_play}
@@ -25,3 +26,8 @@ stack (Clustered p) n = record { plays = cluster_plays p n; claimed = cluster_cl
 -- and that of a header
 abbrev pub stack_at : Header → Found AnyStack
 stack_at h = found_map (λ k. stack k h.nodes) (kind_at h.net h.stack)
+
+-- it is one of these stacks
+abbrev pub IsOneOf : List StackId → StackId → Type 0
+IsOneOf [] i = ⊥
+IsOneOf (s ∷ ss) i = (i ≡ s) ⊎ IsOneOf ss i

@@ -18,14 +18,15 @@ use Rattle.lock_table.specs.Table.{table}
 use Rattle.lock_table.specs.declared.cmd.TableCmd.{TableCmd}
 use Rattle.lock_table.specs.declared.out.TableOut.{TableOut}
 use Rattle.mirror.specs.Mirroring.{mirror}
-use Rattle.mirror.specs.declared.messages.MirrorInput.{MirrorInput}
-use Rattle.mirror.specs.declared.messages.MirrorOutput.{MirrorOutput}
+use Rattle.vst_base.specs.declared.mirror.MirrorInput.{MirrorInput}
+use Rattle.vst_base.specs.declared.mirror.MirrorOutput.{MirrorOutput}
 use Rattle.schedule_make.specs.Inputs.{kv_input, lock_input, mirror_input, table_input}
 use Rattle.schedule_text.specs.declared.header.Header.{Header}
 use Rattle.transformers.specs.Ordering.{ordering}
 use Rattle.transformers.specs.Numbering.{numbering}
+use Rattle.transformers.specs.Retransmission.{retransmission}
 use Rattle.stacks.specs.Plays.{Found, Here, Nowhere, found_map, AnyPlay, Texts, texts_of}
-use Rattle.stacks.specs.Kinds.{Alone, Application, Backed, Clustered, Kind, Own, OwnHandlers, Steady, Through, application, own_handlers, plays}
+use Rattle.stacks.specs.Kinds.{Alone, Application, Backed, Clustered, Itself, Kind, Layers, Own, OwnHandlers, Steady, Through, application, own_handlers, plays}
 
 abbrev pub lock_texts : Texts LockInput LockOutput
 lock_texts = texts_of lock_text.input_of lock_text.input_text lock_text.output_of lock_text.output_text (λ _. true)
@@ -52,19 +53,28 @@ lock_table = application stack.Table table table_texts table_input
 abbrev pub mirrors : OwnHandlers
 mirrors = own_handlers stack.Mirror mirror mirror_texts mirror_input
 
+-- the lock server and the store with numbered packets: stacks by themselves, and images of others
+abbrev pub numbered_locks : Layers
+numbered_locks = Through numbering (Own locks)
+
+abbrev pub numbered_store : Layers
+numbered_store = Through numbering (Backed store)
+
 -- the kind of stack that a network and a name are, if there is one: one line a stack
 abbrev pub kind_at : Net → StackId → Found Kind
 kind_at net.Bag stack.Lock = Here (Steady (Own locks))
-kind_at net.Dup stack.LockSeq = Here (Steady (Through numbering (Own locks)))
+kind_at net.Dup stack.LockSeq = Here (Steady numbered_locks)
 kind_at net.One stack.Kv = Here (Steady (Alone store))
 kind_at net.Bag stack.KvPb = Here (Steady (Backed store))
-kind_at net.Dup stack.KvPbSeq = Here (Steady (Through numbering (Backed store)))
+kind_at net.Dup stack.KvPbSeq = Here (Steady numbered_store)
 kind_at net.Fail stack.KvRaft = Here (Clustered store)
 kind_at net.One stack.Table = Here (Steady (Alone lock_table))
 kind_at net.Dup stack.TablePbSeq = Here (Steady (Through numbering (Backed lock_table)))
 kind_at net.Fail stack.TableRaft = Here (Clustered lock_table)
 kind_at net.Ord stack.Mirror = Here (Steady (Own mirrors))
 kind_at net.Dup stack.MirrorFifo = Here (Steady (Through ordering (Own mirrors)))
+kind_at net.Loss stack.LockSeqRetry = Here (Steady (Through retransmission (Itself stack.LockSeq numbered_locks)))
+kind_at net.Loss stack.KvPbSeqRetry = Here (Steady (Through retransmission (Itself stack.KvPbSeq numbered_store)))
 kind_at n i = Nowhere
 
 -- how the schedules with a header play

@@ -9,6 +9,7 @@ ghost use Rattle.vst_base.specs.declared.net.Net.TheVariants as network;
 ghost use Rattle.vst_base.specs.declared.node.TheConstants.{MAX_NODES};
 ghost use Rattle.vst_base.specs.declared.step.TheConstants.{MAX_STEPS};
 ghost use Rattle.check_text.specs.declared.reading.TheConstants.{MAX_LINES};
+ghost use Rattle.wire_codec.specs.Datagrams.{longest_message};
 ghost use Rattle.wire_codec.specs.Headings.{HasByte};
 ghost use Rattle.wired.specs.WiredRuns.{IsFormatOf};
 ghost use Rattle.xform_stack.specs.Running.{HasTaken};
@@ -19,7 +20,9 @@ use check_text::{Claim, ImageText};
 use claim_verdicts::Verdict;
 use fifo_observer::InOrder;
 use fifo_xform::Fifo;
-use handler_trait::Handlers;
+use handler_trait::LeavesRoom;
+use retry_observer::Resent;
+use retry_xform::Retry;
 use runs_in_bytes::InBytes;
 use schedule_make::MakesInputs;
 use schedule_text::{Header, Printed};
@@ -29,6 +32,29 @@ use std::marker::PhantomData;
 use vst_base::{Net, StackId};
 use wired::OnWire;
 use xform_stack::{Mapped, Network, Observer, TraceMap, WithoutRepeats};
+
+/// A network that stops no node, on which handlers run in the packets of a stack.
+pub trait OfStack<H: OnWire>: Network<H, Kept = H::State> {
+    /// No step yet of these handlers, of at most `MAX_NODES` nodes, in the bytes of a stack whose messages are theirs.
+    fn of_stack(alloc: Global, handlers: H, stack: StackId, net: Net) -> Result<Self, AllocError>
+        requires net { IsTrue (stops_no_node net) }
+        requires sends { net ≢ Net.One }
+        requires few_nodes { (H.meaning handlers).nodes ≤ MAX_NODES }
+        requires packets { HasByte stack }
+        requires format { IsFormatOf stack H.Msg.format }
+        requires short { H.longest ≤ longest_message }
+        ensures system { IfOk result (λ w. Self.system w ≡ system_of net (H.meaning handlers)) }
+        ensures within { IfOk result (λ w. Self.within w ≡ handlers) }
+        ensures started { IfOk result (λ w. HasTaken (Self.system w) Self.follows Self.progress [] w) }
+        ensures trace { IfOk result (λ w. (Self.progress w).trace ≡ []) }
+        ensures sound { IfOk result Self.sound };
+}
+
+impl<H: OnWire> OfStack<H> for InBytes<H> {
+    fn of_stack(alloc: Global, handlers: H, stack: StackId, net: Net) -> Result<Self, AllocError> {
+        InBytes::new(alloc, handlers, stack, net)
+    }
+}
 
 /// An application whose nodes never stop, and the transformers over it: its handlers and their network, and what makes the image of
 /// a run.
@@ -50,10 +76,13 @@ pub trait Layered {
     type Lines: ImageText<Line = Self::Line>;
 
     /// What its schedules run on.
-    type Network: Network<Self::Handlers, Kept = <Self::Handlers as Handlers>::State>;
+    type Network: OfStack<Self::Handlers>;
 
     /// What watches a run, and makes its image.
-    type Observer: Observer<Self::Handlers, Self::Network, Line = Self::Line>;
+    type Observer: Observer<Self::Handlers, Self::Network, Look = Self::Look, Line = Self::Line>;
+
+    /// What that notes before a step.
+    type Look: Drop;
 
     /// The inputs of made schedules.
     type Inputs: MakesInputs<Input = Self::Input>;
@@ -88,19 +117,6 @@ pub trait Layered {
         ensures handlers { result ≡ handlers nodes }
         ensures few_nodes { (Self.Handlers.meaning result).nodes ≤ MAX_NODES };
 
-    /// These handlers on their network, in the packets of a stack, before the first step.
-    fn network(alloc: Global, stack: StackId, nodes: u8) -> Result<Self::Network, AllocError>
-        requires nodes { ready nodes }
-        requires packets { HasByte stack }
-        requires format { IsFormatOf stack Self.Handlers.Msg.format }
-        requires short { Self.Handlers.longest ≤ 59978 }
-        ensures system { IfOk result (λ w. Self.Network.system w ≡ system_of net (Self.Handlers.meaning (handlers nodes))) }
-        ensures within { IfOk result (λ w. Self.Network.within w ≡ handlers nodes) }
-        ensures started { IfOk result (λ w. HasTaken (Self.Network.system w) Self.Network.follows Self.Network.progress [] w) }
-        ensures trace { IfOk result (λ w. (Self.Network.progress w).trace ≡ []) }
-        ensures sound { IfOk result Self.Network.sound }
-        ensures few_nodes { IfOk result (λ w. (Self.Network.system w).meaning.nodes ≤ MAX_NODES) };
-
     /// The header of the image, where it has one.
     fn below(nodes: u8) -> Option<Header>
         ensures { below nodes ≡ image_of result Self.Line.text };
@@ -123,7 +139,7 @@ pub trait Layered {
     ghost fits: { (n : ℕ) → ready n → Self.Observer.fits (handlers n) (system_of net (Self.Handlers.meaning (handlers n))) };
 }
 
-/// Layers whose image is made of the steps and of what clients saw alone.
+/// Layers whose image is made of the steps and of what clients saw alone: their observer is one by this map.
 pub trait Stepwise: Layered {
     /// How a run is mapped to its image.
     type Map: TraceMap<Self::Input, Self::Output, Line = Self::Line>;
@@ -151,6 +167,8 @@ impl<S: Stepwise> Layered for Numbered<S> {
 
     type Observer = Mapped<WithoutRepeats<S::Map>>;
 
+    type Look = ();
+
     type Inputs = S::Inputs;
 
     ghost net = { network.Dup };
@@ -171,10 +189,6 @@ impl<S: Stepwise> Layered for Numbered<S> {
 
     fn handlers(nodes: u8) -> SeqNum<S::Handlers> {
         SeqNum::new(S::handlers(nodes))
-    }
-
-    fn network(alloc: Global, stack: StackId, nodes: u8) -> Result<Self::Network, AllocError> {
-        InBytes::new(alloc, Self::handlers(nodes), stack, Self::net())
     }
 
     fn below(nodes: u8) -> Option<Header> {
@@ -221,6 +235,8 @@ impl<S: Stepwise> Layered for Ordered<S> {
 
     type Observer = InOrder<S::Map>;
 
+    type Look = Option<u32>;
+
     type Inputs = S::Inputs;
 
     ghost net = { network.Dup };
@@ -243,8 +259,68 @@ impl<S: Stepwise> Layered for Ordered<S> {
         Fifo::new(S::handlers(nodes))
     }
 
-    fn network(alloc: Global, stack: StackId, nodes: u8) -> Result<Self::Network, AllocError> {
-        InBytes::new(alloc, Self::handlers(nodes), stack, Self::net())
+    fn below(nodes: u8) -> Option<Header> {
+        S::below(nodes)
+    }
+
+    fn verdict(
+        alloc: Global,
+        nodes: u8,
+        claim: &Claim<S::Input, S::Output, S::Line>,
+    ) -> Result<Verdict, AllocError> {
+        S::verdict(alloc, nodes, claim)
+    }
+
+    ghost says = { S.says };
+
+    ghost fits = { λ _ _. refl };
+}
+
+/// Layers that send again what is not acknowledged, on a network that loses packets: the image is that of the schedule within, on a
+/// network that loses none.
+pub struct Retried<S> {
+    layers: PhantomData<S>,
+}
+
+impl<S: Stepwise<Handlers: LeavesRoom>> Layered for Retried<S> {
+    type Input = S::Input;
+
+    type Output = S::Output;
+
+    type Handlers = Retry<S::Handlers>;
+
+    type Line = S::Line;
+
+    type Text = S::Text;
+
+    type Lines = S::Lines;
+
+    type Network = InBytes<Retry<S::Handlers>>;
+
+    type Observer = Resent<S::Map>;
+
+    type Look = Option<u32>;
+
+    type Inputs = S::Inputs;
+
+    ghost net = { network.Loss };
+
+    ghost handlers = { S.handlers };
+
+    ghost below = { S.below };
+
+    ghost Explains = { S.Explains };
+
+    ghost claimed = { S.claimed };
+
+    ghost ready = { S.ready };
+
+    fn net() -> Net {
+        Net::Loss
+    }
+
+    fn handlers(nodes: u8) -> Retry<S::Handlers> {
+        Retry::new(S::handlers(nodes))
     }
 
     fn below(nodes: u8) -> Option<Header> {

@@ -144,6 +144,8 @@ where
 
     type Observer = Mapped<RepliedTo<M::Cmd>>;
 
+    type Look = ();
+
     type Inputs = M::Inputs;
 
     ghost net = { net.Bag };
@@ -166,10 +168,6 @@ where
 
     fn handlers(_nodes: u8) -> PrimaryBackup<M> {
         PrimaryBackup::new(M::machine())
-    }
-
-    fn network(alloc: Global, stack: StackId, nodes: u8) -> Result<Self::Network, AllocError> {
-        InBytes::new(alloc, Self::handlers(nodes), stack, Self::net())
     }
 
     fn below(_nodes: u8) -> Option<Header> {

@@ -70,7 +70,7 @@ pub struct Own<H> {
 }
 
 // How many nodes the header of an image names: none where there is no header.
-fn nodes_of(header: Option<Header>) -> u8
+pub(crate) fn nodes_of(header: Option<Header>) -> u8
     ensures { result ≡ nodes_of header }
 {
     match header {
@@ -112,6 +112,8 @@ impl<H: OwnStack + OnWire> Layered for Own<H> {
 
     type Observer = Mapped<Itself<H::Input>>;
 
+    type Look = ();
+
     type Inputs = H::Inputs;
 
     ghost net = { (row_of H.own).net };
@@ -134,10 +136,6 @@ impl<H: OwnStack + OnWire> Layered for Own<H> {
 
     fn handlers(nodes: u8) -> H {
         H::of_nodes(nodes)
-    }
-
-    fn network(alloc: Global, stack: StackId, nodes: u8) -> Result<Self::Network, AllocError> {
-        InBytes::new(alloc, Self::handlers(nodes), stack, Self::net())
     }
 
     fn below(nodes: u8) -> Option<Header> {

@@ -2,11 +2,12 @@ ghost use Rattle.std.specs.Prelude.{◌≤◌};
 ghost use Rattle.net_semantics.specs.Runs.{no_recovery};
 ghost use Rattle.stacks.specs.Made.{made_on};
 ghost use Rattle.stacks.specs.Plays.{play_of, texts_of};
+ghost use Rattle.wire_codec.specs.Datagrams.{longest_message};
 ghost use Rattle.wire_codec.specs.Headings.{HasByte};
 ghost use Rattle.wired.specs.WiredRuns.{IsFormatOf};
 ghost use Rattle.xform_stack.specs.Systems.{played_on, system_of};
 
-use crate::{Judged, Layered, Plays, StackCode};
+use crate::{Judged, Layered, OfStack, Plays, StackCode};
 use check_text::Claim;
 use claim_verdicts::Verdict;
 use schedule_text::Header;
@@ -38,14 +39,14 @@ impl<S: Layered> Plays for Steady<S> {
 
     ghost Explains = { S.Explains };
 
-    ghost ready = { λ i n. S.ready n × HasByte i × IsFormatOf i S.Handlers.Msg.format × (S.Handlers.longest ≤ 59978) };
+    ghost ready = { λ i n. S.ready n × HasByte i × IsFormatOf i S.Handlers.Msg.format × (S.Handlers.longest ≤ longest_message) };
 
     fn below(nodes: u8) -> Option<Header> {
         S::below(nodes)
     }
 
     fn start(alloc: Global, stack: StackId, nodes: u8) -> Result<Self::Running, AllocError> {
-        let network = S::network(alloc, stack, nodes)?;
+        let network = S::Network::of_stack(alloc, S::handlers(nodes), stack, S::net())?;
         Ok(Running::new(alloc, network))
     }
 }
@@ -76,6 +77,6 @@ impl<S: Layered> StackCode for Steady<S> {
     ghost made = { λ n. made_on (system_of S.net (S.Handlers.meaning (S.handlers n))) S.Inputs.inputs };
 
     fn network(alloc: Global, stack: StackId, nodes: u8) -> Result<Self::Network, AllocError> {
-        S::network(alloc, stack, nodes)
+        S::Network::of_stack(alloc, S::handlers(nodes), stack, S::net())
     }
 }

@@ -8,6 +8,7 @@ use Rattle.vst_base.specs.declared.pb_out.PbOut.{PbOut}
 use Rattle.vst_base.specs.declared.step.Item.{Item}
 use Rattle.vst_base.specs.declared.step.Item.TheVariants as item
 use Rattle.vst_base.specs.declared.step.Step.{Step}
+use Rattle.vst_base.specs.declared.step.Step.TheVariants as step
 use Rattle.handler_trait.specs.Handling.{Meaning, Recovery}
 use Rattle.line_reader.specs.declared.why.Why.{Why}
 use Rattle.line_reader.specs.declared.why.Why.TheVariants as why
@@ -23,6 +24,7 @@ use Rattle.schedule_text.specs.Reading.{is_skipped, and_then, line_of, line_unle
 use Rattle.schedule_text.specs.Schedules.{Script, script, script_line}
 use Rattle.schedule_replay.specs.Replaying.{is_input}
 use Rattle.schedule_replay.specs.Explained.{steps_of}
+use Rattle.trace_check.specs.Spelled.{event_count, events_in}
 use Rattle.trace_check.proofs.Eaches.{either}
 
 -- a script has a million steps at most
@@ -72,7 +74,7 @@ module _ {I : Type 0} (f : List ℕ → Option I) where
   pub steps-few : (most number : ℕ) (ls : List (List ℕ)) → length (steps_of (script most f number 0 ls)) ≤ 1000000
   steps-few most number ls = let all = script-count most number 0 ls (omega arith) in omega (arith, all)
 
--- a step takes one input at most
+-- an event takes one input at most
 pub counted-first : {I O : Type 0} (x : Item I O) (xs : List (Item I O)) → count_by is_input (x ∷ xs) ≡ cond (is_input x) 1 0 + count_by is_input xs
 counted-first x xs = sum_by-cons (λ y. cond (is_input y) 1 0) x xs
 
@@ -95,10 +97,20 @@ module _ {I O : Type 0} where
       let second = no-inputs I e.node e.effect.outputs in
       omega (arith, first, second, counted-both (input_item e.node e.input) (map (λ o. item.Output e.node o) e.effect.outputs))
 
-  pub trace-inputs : {S K M : Type 0} (m : Meaning S I O M) (r : Recovery S K) (w : World S K M) (ss : List (Step I)) → count_by is_input (trace_from m r w ss) ≤ length ss
+  -- a step that is no event takes none
+  step-inputs : {S K M : Type 0} (m : Meaning S I O M) (w : World S K M) (s : Step I) → count_by is_input (items_of m w s) ≤ event_count s
+  step-inputs m w (step.In n i) = event-inputs (event_of m w (step.In n i))
+  step-inputs m w (step.Deliver k) = event-inputs (event_of m w (step.Deliver k))
+  step-inputs m w (step.Tick n) = event-inputs (event_of m w (step.Tick n))
+  step-inputs m w (step.Dup k) = omega arith
+  step-inputs m w (step.Lose k) = omega arith
+  step-inputs m w (step.Crash n) = omega arith
+  step-inputs m w (step.Reboot n) = omega arith
+
+  pub trace-inputs : {S K M : Type 0} (m : Meaning S I O M) (r : Recovery S K) (w : World S K M) (ss : List (Step I)) → count_by is_input (trace_from m r w ss) ≤ events_in ss
   trace-inputs m r w [] = omega arith
   trace-inputs m r w (s ∷ ss) =
-      let first = event-inputs (event_of m w s) in
+      let first = step-inputs m w s in
       let rest = trace-inputs m r (next m r w s) ss in
       omega (arith, first, rest, counted-both (items_of m w s) (trace_from m r (next m r w s) ss))
 

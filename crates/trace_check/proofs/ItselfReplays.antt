@@ -1,5 +1,5 @@
 -- What a replay of handlers wrote whose image is the schedule itself is read as a claim.
-use Rattle.std.specs.Prelude.{◌≡◌, ℕ, List, None, ◌≤◌, ◌<◌, refl}
+use Rattle.std.specs.Prelude.{◌≡◌, ℕ, List, None, ◌≤◌, ◌<◌, length, refl}
 use Rattle.std.proofs.Common.{arith}
 use Rattle.check_text.specs.Claims.{Claim}
 use Rattle.check_text.specs.Forms.{claim_of}
@@ -39,9 +39,9 @@ module _ (s : Service) (verdict : Claim s.Input s.Output (Step s.Input) → Verd
   abbrev claimed : Claimed s.Input s.Output (Step s.Input)
   claimed = record { says = step_says s.texts.input_of; verdict = verdict }
 
-  pub itself-read : (ss : List (Step s.Input)) → AreReadSteps (HasInputText s.texts) ss → plays.refused ss ≡ None
+  pub itself-read : (ss : List (Step s.Input)) → AreReadSteps (HasInputText s.texts) ss → length ss ≤ 1000000 → plays.refused ss ≡ None
       → claim_of (form_on nodes plays claimed) (lines_of (claim_text plays (claim_by plays ss))) ≡ Whole (claim_by plays ss)
-  itself-read ss read allowed =
+  itself-read ss read few_steps allowed =
       let t = s.texts in
       let HasIn = HasInputText s.texts in
       let HasOut = HasOutputText s.texts in
@@ -53,4 +53,4 @@ module _ (s : Service) (verdict : Claim s.Input s.Output (Step s.Input) → Verd
       stack-read nodes plays claimed HasIn HasOut few_nodes is.texts.inputs is.texts.outputs brief (within-more HasOut t.output_text is.texts.short_outputs)
       (headed-by (form_on nodes plays claimed) (header_on i k) (λ number ls. refl) (head-image each_row i k least most small)) (head-plain each_row i k least most small, tt) (head-short each_row i k least most small, tt)
       ss items (plain-steps t.input_of t.input_text HasIn is.texts.inputs ss read.texts) (steps-said t.input_of t.input_text HasIn is.texts.inputs ss read.texts)
-      (omega (arith, few, seen)) (short-steps t.input_text HasIn brief ss read.texts) (omega (arith, inputs, few)) few
+      (omega (arith, few, few_steps, seen)) (short-steps t.input_text HasIn brief ss read.texts) (omega (arith, inputs, few)) few_steps

@@ -1,4 +1,5 @@
 pub mod Eaches
+pub mod Events
 pub mod TextItems
 pub mod Runs
 pub mod TraceLengths
@@ -29,6 +30,7 @@ pub mod OrderImages
 pub mod Counts
 pub mod Scripts
 pub mod OrderStays
+pub mod RetryStays
 pub mod Stays
 pub mod StackReading
 pub mod Headers
@@ -39,3 +41,4 @@ pub mod ItselfReplays
 pub mod BackedReplays
 pub mod ClusterReplays
 pub mod LayerReplays
+pub mod Counted

@@ -5,12 +5,12 @@ use Rattle.std.proofs.lemmas.Bool.{and_from, and_parts}
 use Rattle.app_text.specs.MirrorTextLaws.{inputs_are_spelled, outputs_are_spelled}
 use Rattle.app_text.specs.MirrorTexts.{input_text, input_words, is_input, is_output, output_text, output_words}
 use Rattle.mirror.specs.Mirroring.{MirrorEffect, input_effect, mirror, nothing, said}
-use Rattle.mirror.specs.declared.messages.MirrorInput.{MirrorInput}
-use Rattle.mirror.specs.declared.messages.MirrorInput.TheVariants as ask
-use Rattle.mirror.specs.declared.messages.MirrorMsg.{MirrorMsg}
-use Rattle.mirror.specs.declared.messages.MirrorMsg.TheVariants as msg
-use Rattle.mirror.specs.declared.messages.MirrorOutput.{MirrorOutput}
-use Rattle.mirror.specs.declared.messages.MirrorOutput.TheVariants as told
+use Rattle.vst_base.specs.declared.mirror.MirrorInput.{MirrorInput}
+use Rattle.vst_base.specs.declared.mirror.MirrorInput.TheVariants as ask
+use Rattle.vst_base.specs.declared.mirror.MirrorMsg.{MirrorMsg}
+use Rattle.vst_base.specs.declared.mirror.MirrorMsg.TheVariants as msg
+use Rattle.vst_base.specs.declared.mirror.MirrorOutput.{MirrorOutput}
+use Rattle.vst_base.specs.declared.mirror.MirrorOutput.TheVariants as told
 use Rattle.net_semantics.specs.Runs.{no_recovery}
 use Rattle.stacks.specs.Table.{mirror_texts, mirrors}
 use Rattle.vst_base.specs.Tokens.{is_value}

@@ -22,7 +22,9 @@ use Rattle.fifo_xform.specs.PeersLaws.{ready-is}
 use Rattle.fifo_xform.specs.Fifo.{FifoState, counted, fifo, gives, gives_nothing, on_message, on_timeout}
 use Rattle.fifo_xform.specs.Image.{fifo_image, fifo_image_from, given_by_arrival, given_by_tick, gives_packet, goes_with, image_of_step, sent_with, stays_in}
 use Rattle.fifo_xform.proofs.PeerFacts.{held-counting, held-holding, held-passing}
+use Rattle.trace_check.specs.Spelled.{event_count, events_in}
 use Rattle.trace_check.proofs.Eaches.{either}
+use Rattle.trace_check.proofs.Events.{events-append, events-few}
 use Rattle.trace_check.proofs.Runs.{not-refused, put-each}
 use Rattle.lists.specs.Each.{Each, each_append}
 
@@ -196,3 +198,23 @@ module _ {S I O M : Type 0} (m : Meaning S I O M) where
 
   pub ordered-few : (ss : List (Step I)) → length (fifo_image m ss) ≤ length ss
   ordered-few ss = few-from no_recovery (first_world (fifo m)) ss
+
+  -- nor more events: what is no event has no step in the image
+  step-events : (w : World (FifoState S M) (FifoState S M) (SeqMsg M)) (s : Step I) → events_in (image_of_step s (gives_packet m.nodes w s)) ≤ event_count s
+  step-events w (step.In n i) = omega arith
+  step-events w (step.Tick n) = let o = gives_packet {I = I} m.nodes w (step.Tick n) in let one = one-at-most (step.Tick n) o in omega (arith, one, events-few {I = I} (image_of_step (step.Tick n) o))
+  step-events w (step.Deliver k) = let o = gives_packet {I = I} m.nodes w (step.Deliver k) in let one = one-at-most (step.Deliver k) o in omega (arith, one, events-few {I = I} (image_of_step (step.Deliver k) o))
+  step-events w (step.Dup k) = omega arith
+  step-events w (step.Lose k) = omega arith
+  step-events w (step.Crash n) = omega arith
+  step-events w (step.Reboot n) = omega arith
+
+  events-from : (r : Recovery (FifoState S M) (FifoState S M)) (w : World (FifoState S M) (FifoState S M) (SeqMsg M)) (ss : List (Step I)) → events_in (fifo_image_from m r w ss) ≤ events_in ss
+  events-from r w [] = omega arith
+  events-from r w (s ∷ ss) =
+      let first = step-events w s in
+      let rest = events-from r (next (fifo m) r w s) ss in
+      omega (arith, first, rest, events-append (image_of_step s (gives_packet m.nodes w s)) (fifo_image_from m r (next (fifo m) r w s) ss))
+
+  pub ordered-events : (ss : List (Step I)) → events_in (fifo_image m ss) ≤ events_in ss
+  ordered-events ss = events-from no_recovery (first_world (fifo m)) ss

@@ -1,6 +1,6 @@
 -- The steps of a script have lines: each was read from one.
 use Rattle.std.specs.Prelude.{◌≡◌, ℕ, Bool, ◌+◌, ◌≤◌, List, [], ◌∷◌, length, Option, Some, None, Result, Ok, Err, IfOk, cond}
-use Rattle.std.proofs.Common.{subst}
+use Rattle.std.proofs.Common.{arith, subst}
 use Rattle.vst_base.specs.Firsts.{first_of}
 use Rattle.vst_base.specs.declared.step.Step.{Step}
 use Rattle.line_reader.specs.declared.why.Why.{Why}
@@ -12,8 +12,10 @@ use Rattle.schedule_text.specs.Reading.{is_skipped, line_of, line_unless, read_l
 use Rattle.schedule_text.specs.Schedules.{Script, script, script_line}
 use Rattle.schedule_text.specs.Spellable.{IsSpellable}
 use Rattle.schedule_replay.specs.Explained.{most_lines, steps_of}
+use Rattle.trace_check.specs.Spelled.{events_in}
 use Rattle.trace_check.proofs.Counts.{steps-few}
 use Rattle.trace_check.proofs.Eaches.{either}
+use Rattle.trace_check.proofs.Events.{events-few}
 use Rattle.schedule_text.proofs.SpellableLaws.{step-spellable}
 use Rattle.lists.specs.Each.{Each}
 
@@ -47,17 +49,21 @@ module _ {I : Type 0} (f : List ℕ → Option I) (HasIn : I → Type 0) (has_te
   script-spellable most number events (l ∷ ls) =
       line-steps (read_line most f number events l) number events (λ e. script most f (number + 1) e ls) (line-spellable most number events l) (λ e. script-spellable most (number + 1) e ls)
 
--- steps that lines say have texts, and there are a million at most
+-- steps that have texts, a million events at most among them
 pub record AreReadSteps {I : Type 0} (HasIn : I → Type 0) (ss : List (Step I)) : Type 0 where
   pub texts : Each (IsSpellable HasIn) ss
-  pub few : length ss ≤ 1000000
+  pub few : events_in ss ≤ 1000000
 
-pub steps-read : {I : Type 0} (f : List ℕ → Option I) (HasIn : I → Type 0) → ((bs : List ℕ) (i : I) → f bs ≡ Some i → HasIn i) → (number : ℕ) (ls : List (List ℕ)) (ss : List (Step I)) → steps_of (script most_lines f number 0 ls) ≡ ss
-    → AreReadSteps HasIn ss
-steps-read f HasIn has_text number ls ss says = record {
-  texts = subst (Each (IsSpellable HasIn)) says (script-spellable f HasIn has_text most_lines number 0 ls);
-  few = subst (λ ts. length ts ≤ 1000000) says (steps-few f most_lines number ls);
-}
+-- so it is of steps that lines say, of which there are a million at most
+module _ {I : Type 0} (f : List ℕ → Option I) (number : ℕ) (ls : List (List ℕ)) (ss : List (Step I)) (says : steps_of (script most_lines f number 0 ls) ≡ ss) where
+  pub million-read : length ss ≤ 1000000
+  million-read = subst (λ ts. length ts ≤ 1000000) says (steps-few f most_lines number ls)
+
+  pub steps-read : (HasIn : I → Type 0) → ((bs : List ℕ) (i : I) → f bs ≡ Some i → HasIn i) → AreReadSteps HasIn ss
+  steps-read HasIn has_text = record {
+    texts = subst (Each (IsSpellable HasIn)) says (script-spellable f HasIn has_text most_lines number 0 ls);
+    few = let all = million-read in omega (arith, all, events-few ss);
+  }
 
 -- a schedule without its repeats has no other steps
 pub once-each : {I : Type 0} (P : Step I → Type 0) (delivered : ℕ → Bool) (ss : List (Step I)) → Each P ss → Each P (once_from delivered ss)

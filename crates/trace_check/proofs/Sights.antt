@@ -16,7 +16,7 @@ use Rattle.vst_base.specs.declared.net.Net.TheVariants as net
 use Rattle.vst_base.specs.declared.pb_out.PbOut.{PbOut}
 use Rattle.vst_base.specs.declared.stack.StackRow.{StackRow}
 use Rattle.vst_base.specs.declared.step.Step.{Step}
-use Rattle.trace_check.specs.Spelled.{AreSpelled, AreSpelledLayers, HasInputText, HasOutputText, IsSpelledMachine, IsTextItem, StaysSpelled}
+use Rattle.trace_check.specs.Spelled.{AreSpelled, AreSpelledLayers, HasInputText, HasOutputText, IsSpelledMachine, IsTextItem, StaysSpelled, events_in}
 use Rattle.trace_check.proofs.Handlers.{item-weaker}
 use Rattle.trace_check.proofs.Lengths.{brief-pb-outputs}
 use Rattle.trace_check.proofs.Machines.{IsTextState, by-reading, own-text, single-keeps, spelled-keeps}
@@ -27,12 +27,12 @@ use Rattle.trace_check.proofs.TextItems.{more-nodes}
 use Rattle.trace_check.proofs.TraceLengths.{trace-length}
 use Rattle.lists.specs.Each.{Each, each_weaker}
 
--- texts, and what clients see on so many nodes of inputs that have them: items that have, and two a step at most
+-- texts, and what clients see on so many nodes of inputs that have them: items that have, and two an event at most
 pub record IsSpelledService (s : Service) (n : ℕ) : Type 0 where
   pub texts : AreSpelled s.texts
   pub items : (ss : List (Step s.Input)) → IsAllowed s.net (s.handlers n) (no_recovery {S = s.State}) ss → Each (IsSpellable (HasInputText s.texts)) ss
       → Each (IsTextItem n (HasInputText s.texts) (HasOutputText s.texts)) (trace (s.handlers n) (no_recovery {S = s.State}) ss)
-  pub few : (ss : List (Step s.Input)) → IsAllowed s.net (s.handlers n) (no_recovery {S = s.State}) ss → length (trace (s.handlers n) (no_recovery {S = s.State}) ss) ≤ length ss + length ss
+  pub few : (ss : List (Step s.Input)) → IsAllowed s.net (s.handlers n) (no_recovery {S = s.State}) ss → length (trace (s.handlers n) (no_recovery {S = s.State}) ss) ≤ events_in ss + events_in ss
 
 -- a machine at its node, and under primary-backup
 module _ (p : Application) (is : IsSpelledMachine p) where

@@ -16,7 +16,7 @@ use vst_base::stacks_have_one_word;
 
 /// The inputs and outputs of each stack are spelled, and stay so: each value that is read has one text, which is read back and fits
 /// on a line; what the handlers or the machine of the stack answer to inputs that have texts has texts; and with a transformer the
-/// schedule within one whose inputs have texts is such a schedule again, and no longer.
+/// schedule within one whose inputs have texts is such a schedule again, of no more events, and no longer where no packet is lost.
 pub fn stacks_are_spelled()
     ensures { (i : StackId) → IfFound (kind_at (row_of i).net i) IsSpelledKind }
 {}
@@ -39,10 +39,10 @@ pub fn permitted_claims_are_explained()
 
 /// A check of what a replay wrote is permitted, on every stack: where no line of a schedule is refused, what is written is read as the
 /// claim of its trace and its image, and that the image explains the trace is what a check's yes means. On a network that stops nodes
-/// this is said of at most 8,000,000 lines, since a check reads no more.
+/// this is said of at most 8,000,000 lines, and on one that loses packets of an image of at most 1,000,000, since a check reads no more.
 pub fn replays_are_permitted()
     ensures { (bytes : List ℕ) (s : StackId) → stack_in bytes ≡ Some s → (replayed bytes).refused ≡ None
-        → IsWithinLimits s (replayed bytes).out → checked s (replayed bytes).out ≡ Ok Yes }
+        → IsWithinLimits s (replayed bytes) → checked s (replayed bytes).out ≡ Ok Yes }
 {
     headers_follow_the_rows();
     stacks_fit_their_rows();

@@ -15,6 +15,7 @@ pub fn worked_refusals()
     ensures no_header { checked StackId.Lock (codes "in 1 lock\nbelow\n") ≡ Err (3, Why.Header) }
     ensures no_order_at_all { checked StackId.KvRaft (codes "in 0 7 1 get a\n") ≡ Err (2, Why.Header) }
     ensures header_of_the_stack_itself { checked StackId.LockSeq (codes "below\nschedule 1 dup lock/seq 2\n") ≡ Err (2, Why.Header) }
+    ensures header_of_what_explains_the_image { checked StackId.KvPbSeqRetry (codes "below\nschedule 1 one kv 1\n") ≡ Err (2, Why.Header) }
     ensures header_of_another_stack { checked StackId.KvPb idle_claim ≡ Err (2, Why.Header) }
     ensures too_many_nodes { checked StackId.Lock (codes "below\nschedule 1 bag lock 10\n") ≡ Err (2, Why.Header) }
     ensures step_before_the_header { checked StackId.Lock (codes "below\nin 1 lock\n") ≡ Err (2, Why.Header) }

@@ -27,6 +27,9 @@ pub fn worked_schedules()
     ensures in_order { checked StackId.MirrorFifo (codes "in 1 put a\nin 1 put b\nout 0 from 1 a\nout 0 from 1 b\nbelow\nschedule 1 ord mirror 2\nin 1 put a\nin 1 put b\ndeliver 0\ndeliver 1\n") ≡ Ok Verdict.Yes }
     ensures outputs_swapped { checked StackId.Mirror (codes "in 1 put a\nin 1 put b\nout 0 from 1 b\nout 0 from 1 a\nbelow\nschedule 1 ord mirror 2\nin 1 put a\nin 1 put b\ndeliver 0\ndeliver 1\n") ≡ Ok (Verdict.No 5 3) }
     ensures second_packet_first { checked StackId.MirrorFifo (codes "in 1 put a\nin 1 put b\nout 0 from 1 b\nbelow\nschedule 1 ord mirror 2\nin 1 put a\nin 1 put b\ndeliver 1\n") ≡ Ok (Verdict.No 4 8) }
+    ensures a_copy_of_what_was_sent { checked StackId.LockSeqRetry (codes "in 1 lock\nbelow\nschedule 1 dup lock/seq 2\nin 1 lock\ntick 1\ndup 0\n") ≡ Ok Verdict.Yes }
+    ensures a_loss_in_the_image { checked StackId.LockSeqRetry (codes "in 1 lock\nbelow\nschedule 1 dup lock/seq 2\nin 1 lock\nlose 0\n") ≡ Ok (Verdict.No 4 5) }
+    ensures nothing_said_below { checked StackId.KvPbSeqRetry (codes "in 0 get a\nout 0 a - -\nbelow\nschedule 1 dup kv/pb/seq 2\nin 0 get a\n") ≡ Ok (Verdict.No 5 2) }
     ensures machine_alone { checked StackId.Kv put_claim ≡ Ok Verdict.Yes }
     ensures another_output { checked StackId.Kv mistaken_put_claim ≡ Ok (Verdict.No 5 2) }
     ensures no_packets { checked StackId.Kv (codes "below\nschedule 1 one kv 1\ndeliver 0\n") ≡ Ok (Verdict.No 4 3) }

@@ -2,7 +2,7 @@
 use Rattle.retry_xform.specs.Image.{retried_image}
 use Rattle.retry_xform.specs.Keeping.{Retrying}
 use Rattle.retry_xform.specs.Retransmission.{retrying}
-use Rattle.retry_xform.specs.declared.message.RetryMsg.{RetryMsg}
+use Rattle.vst_base.specs.declared.retry.RetryMsg.{RetryMsg}
 use Rattle.vst_base.specs.declared.net.Net.TheVariants as net
 use Rattle.transformers.specs.Transformers.{Transformer}
 

@@ -4,7 +4,7 @@ ghost use Rattle.lock_server.specs.Exclusion.{Excludes};
 ghost use Rattle.lock_server.specs.Locks.{lock_server};
 ghost use Rattle.mirror.specs.Mirroring.{mirror};
 ghost use Rattle.mirror.specs.Prefix.{Mirrors};
-ghost use Rattle.mirror.specs.declared.messages.MirrorInput.{MirrorInput};
+ghost use Rattle.vst_base.specs.declared.mirror.MirrorInput.{MirrorInput};
 ghost use Rattle.net_semantics.specs.BelowPb.{IsExplainedBy};
 ghost use Rattle.net_semantics.specs.Runs.{IsAllowed, no_recovery, trace};
 ghost use Rattle.primary_backup.specs.Backup.{primary_backup};

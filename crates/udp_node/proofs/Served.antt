@@ -265,3 +265,5 @@ runs_kv stack.Kv is not = cc
 runs_kv stack.Table is not = cc
 runs_kv stack.Mirror is not = cc
 runs_kv stack.MirrorFifo is not = cc
+runs_kv stack.LockSeqRetry is not = cc
+runs_kv stack.KvPbSeqRetry is not = cc

@@ -19,6 +19,8 @@ stack_word stack.Kv = codes "kv"
 stack_word stack.Table = codes "table"
 stack_word stack.Mirror = codes "mirror"
 stack_word stack.MirrorFifo = codes "mirror/fifo"
+stack_word stack.LockSeqRetry = codes "lock/seq/retry"
+stack_word stack.KvPbSeqRetry = codes "kv/pb/seq/retry"
 
 abbrev pub row_of : StackId → StackRow
 row_of stack.Lock = record { stack = stack.Lock; net = net.Bag; least = 2; most = 9 }
@@ -32,11 +34,13 @@ row_of stack.Kv = record { stack = stack.Kv; net = net.One; least = 1; most = 1 
 row_of stack.Table = record { stack = stack.Table; net = net.One; least = 1; most = 1 }
 row_of stack.Mirror = record { stack = stack.Mirror; net = net.Ord; least = 2; most = 9 }
 row_of stack.MirrorFifo = record { stack = stack.MirrorFifo; net = net.Dup; least = 2; most = 9 }
+row_of stack.LockSeqRetry = record { stack = stack.LockSeqRetry; net = net.Loss; least = 2; most = 9 }
+row_of stack.KvPbSeqRetry = record { stack = stack.KvPbSeqRetry; net = net.Loss; least = 2; most = 2 }
 
 abbrev pub stacks : List StackId
 stacks =
     stack.Lock ∷ stack.LockSeq ∷ stack.KvPb ∷ stack.KvPbSeq ∷ stack.KvRaft ∷ stack.TablePbSeq ∷ stack.TableRaft ∷ stack.Kv ∷ stack.Table
-    ∷ stack.Mirror ∷ stack.MirrorFifo ∷ []
+    ∷ stack.Mirror ∷ stack.MirrorFifo ∷ stack.LockSeqRetry ∷ stack.KvPbSeqRetry ∷ []
 
 abbrev pub rows : List StackRow
 rows = map row_of stacks

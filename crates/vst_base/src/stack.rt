@@ -28,6 +28,10 @@ pub enum StackId {
     Mirror,
     /// The mirror over FIFO channels.
     MirrorFifo,
+    /// The lock server under sequence numbering and retransmission.
+    LockSeqRetry,
+    /// The key-value store under primary-backup, sequence numbering and retransmission.
+    KvPbSeqRetry,
 }
 
 /// A stack on its network, with the least and the greatest number of nodes that it runs on.
@@ -119,6 +123,20 @@ const MIRROR_FIFO: StackRow = StackRow {
     most: 9,
 };
 
+const LOCK_SEQ_RETRY: StackRow = StackRow {
+    stack: StackId::LockSeqRetry,
+    net: Net::Loss,
+    least: 2,
+    most: 9,
+};
+
+const KV_PB_SEQ_RETRY: StackRow = StackRow {
+    stack: StackId::KvPbSeqRetry,
+    net: Net::Loss,
+    least: 2,
+    most: 2,
+};
+
 const ROWS: &[StackRow] = &[
     LOCK,
     LOCK_SEQ,
@@ -131,6 +149,8 @@ const ROWS: &[StackRow] = &[
     TABLE,
     MIRROR,
     MIRROR_FIFO,
+    LOCK_SEQ_RETRY,
+    KV_PB_SEQ_RETRY,
 ];
 
 impl StackRow {
@@ -178,6 +198,8 @@ impl StackId {
             StackId::Table => "table",
             StackId::Mirror => "mirror",
             StackId::MirrorFifo => "mirror/fifo",
+            StackId::LockSeqRetry => "lock/seq/retry",
+            StackId::KvPbSeqRetry => "kv/pb/seq/retry",
         }
     }
 
@@ -197,6 +219,8 @@ impl StackId {
             StackId::Table => TABLE,
             StackId::Mirror => MIRROR,
             StackId::MirrorFifo => MIRROR_FIFO,
+            StackId::LockSeqRetry => LOCK_SEQ_RETRY,
+            StackId::KvPbSeqRetry => KV_PB_SEQ_RETRY,
         }
     }
 }

@@ -2,7 +2,7 @@
 use Rattle.std.proofs.Common.{◌≡◌, ◌≤◌, ℕ, Bool, true, false, nat_le, List, [], ◌∷◌, ◌++◌, length, Option, None, Some, option_map, if◌then◌else◌, refl, sym, ap, subst, ◌∙◌, append-nil, arith, length-append}
 use Rattle.std.proofs.lemmas.Bool.{leb-true, le-leb}
 use Rattle.wire_codec.specs.Bodies.{AreMessagesOf}
-use Rattle.wire_codec.specs.Datagrams.{AreBytesOf, read_typed, spell_datagram, with_message}
+use Rattle.wire_codec.specs.Datagrams.{AreBytesOf, longest_message, read_typed, spell_datagram, with_message}
 use Rattle.wire_codec.specs.HeadingLaws.{heading_is_format, heading_length}
 use Rattle.wire_codec.specs.Headings.{heading}
 use Rattle.wire_codec.specs.declared.datagram.TheConstants.{MAX_DATAGRAM}
@@ -11,7 +11,7 @@ use Rattle.wire_fields.specs.Formats.{Format, IsFormat, IsSpelled}
 use Rattle.wire_messages.specs.Wires.{if_none_left, read_whole, whole}
 
 -- a message that fits, short enough beside the 22 bytes of a heading
-pub fitting : {M : Type 0} (f : Format M) (h : Heading) (m : M) → AreMessagesOf h.stack h.kind f → heading.Fits h → f.Fits m → length (f.spell m) ≤ 59978
+pub fitting : {M : Type 0} (f : Format M) (h : Heading) (m : M) → AreMessagesOf h.stack h.kind f → heading.Fits h → f.Fits m → length (f.spell m) ≤ longest_message
     → AreBytesOf f h m (spell_datagram f h m)
 fitting f h m of in_range fits short = record {
   of = of;

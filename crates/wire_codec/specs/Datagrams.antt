@@ -8,6 +8,10 @@ use Rattle.wire_codec.specs.declared.heading.Heading.{Heading}
 use Rattle.wire_fields.specs.Formats.{Format}
 use Rattle.wire_messages.specs.Wires.{read_whole}
 
+-- the most bytes of a message: those of a datagram without the 22 of its heading
+abbrev pub longest_message : ℕ
+longest_message = 59978
+
 abbrev pub spell_datagram : {M : Type 0} → Format M → Heading → M → List ℕ
 spell_datagram f h m = heading.spell h ++ f.spell m
 

@@ -53,6 +53,13 @@ puts_a = 1 ∷ 0 ∷ 1 ∷ 97 ∷ []
 abbrev pub puts_a_as_packet_1 : List ℕ
 puts_a_as_packet_1 = one ++ puts_a
 
+-- data 1 that holds packet 0, which asks for the lock, and an acknowledgement of data 1
+abbrev pub asks_as_data_1 : List ℕ
+asks_as_data_1 = 1 ∷ (one ++ asks_for_the_lock)
+
+abbrev pub acknowledges_data_1 : List ℕ
+acknowledges_data_1 = 2 ∷ one
+
 -- put a x, as a command and as request 1
 abbrev pub puts_x : List ℕ
 puts_x = 2 ∷ 1 ∷ 97 ∷ 0 ∷ 1 ∷ 120 ∷ []

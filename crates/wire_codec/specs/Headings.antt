@@ -33,6 +33,8 @@ stack_byte stack.TablePbSeq = 6
 stack_byte stack.TableRaft = 7
 stack_byte stack.Mirror = 8
 stack_byte stack.MirrorFifo = 9
+stack_byte stack.LockSeqRetry = 10
+stack_byte stack.KvPbSeqRetry = 11
 stack_byte stack.Kv = 0
 stack_byte stack.Table = 0
 
@@ -40,7 +42,7 @@ stack_byte stack.Table = 0
 abbrev pub named_stacks : List StackId
 named_stacks =
     stack.Lock ∷ stack.LockSeq ∷ stack.KvPb ∷ stack.KvPbSeq ∷ stack.KvRaft ∷ stack.TablePbSeq ∷ stack.TableRaft ∷ stack.Mirror
-    ∷ stack.MirrorFifo ∷ []
+    ∷ stack.MirrorFifo ∷ stack.LockSeqRetry ∷ stack.KvPbSeqRetry ∷ []
 
 -- the one among these that has the byte
 abbrev pub stack_among : List StackId → ℕ → List ℕ → Option (StackId × List ℕ)

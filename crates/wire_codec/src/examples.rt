@@ -1,21 +1,22 @@
 ghost use Rattle.std.specs.Prelude.{◌≡◌, ◌∷◌, ◌++◌, [], None, Some, codes, false, true};
 ghost use Rattle.kv_machine.specs.declared.cmd.KvCmd.TheVariants as command;
 ghost use Rattle.lock_table.specs.declared.cmd.TableCmd.TheVariants as table;
-ghost use Rattle.mirror.specs.declared.messages.MirrorMsg.TheVariants as mirror;
+ghost use Rattle.vst_base.specs.declared.mirror.MirrorMsg.TheVariants as mirror;
 ghost use Rattle.raft_types.specs.declared.msg.RaftMsg.TheVariants as message;
 ghost use Rattle.vst_base.specs.declared.lock.LockMsg.TheVariants as lock;
 ghost use Rattle.vst_base.specs.declared.pb_msg.PbMsg.TheVariants as backup;
+ghost use Rattle.vst_base.specs.declared.retry.RetryMsg.TheVariants as retry;
 ghost use Rattle.vst_base.specs.declared.stack.StackId.TheVariants as stack;
 ghost use Rattle.vst_base.specs.declared.what.What.TheVariants as what;
 ghost use Rattle.wire_codec.specs.Bodies.{AreMessagesOf, is_message};
 ghost use Rattle.wire_codec.specs.Datagrams.{read_datagram, read_typed};
-ghost use Rattle.wire_codec.specs.Examples.{asks_for_a_vote, asks_for_the_lock, before_greatest_index, bob_holds_l, cluster_name, entry_of_put, framed, grants_a_vote, greatest_index, l_and_bob, no_ops, of_kv, one, put_taken_by, puts_a, puts_a_as_packet_1, puts_x, read_raft, replies_x, requests_put, sends_after, sends_an_entry, zero_of_eight, zero_of_four};
+ghost use Rattle.wire_codec.specs.Examples.{acknowledges_data_1, asks_as_data_1, asks_for_a_vote, asks_for_the_lock, before_greatest_index, bob_holds_l, cluster_name, entry_of_put, framed, grants_a_vote, greatest_index, l_and_bob, no_ops, of_kv, one, put_taken_by, puts_a, puts_a_as_packet_1, puts_x, read_raft, replies_x, requests_put, sends_after, sends_an_entry, zero_of_eight, zero_of_four};
 ghost use Rattle.wire_codec.specs.Headings.{any_kind, heading_of, kind_field, stack_field};
 ghost use Rattle.wire_codec.specs.declared.kind.Kind.TheVariants as kind;
 ghost use Rattle.wire_messages.specs.ClientBytes.{client_reply, client_request};
 ghost use Rattle.wire_messages.specs.EntryBytes.{entry, entry_of, old_entry};
 ghost use Rattle.wire_messages.specs.KvBytes.{kv_command, kv_output};
-ghost use Rattle.wire_messages.specs.PeerBytes.{backup_message, lock_message, mirror_message, numbered};
+ghost use Rattle.wire_messages.specs.PeerBytes.{backup_message, lock_message, mirror_message, numbered, retried};
 ghost use Rattle.wire_messages.specs.RaftBytes.{append_of, raft_message};
 ghost use Rattle.wire_messages.specs.TableBytes.{table_command, table_output};
 ghost use Rattle.wire_messages.specs.declared.client.Answer.TheVariants as answer;
@@ -33,6 +34,10 @@ pub fn worked_datagrams()
         ≡ Some (heading_of stack.Mirror kind.Peer 1 0 cluster_name, mirror.Item (codes "a")) }
     ensures mirror_fifo { read_typed (numbered mirror_message) (framed 9 0 1 0 puts_a_as_packet_1)
         ≡ Some (heading_of stack.MirrorFifo kind.Peer 1 0 cluster_name, record { number = 1; inner = mirror.Item (codes "a") }) }
+    ensures lock_seq_retry { read_typed (retried (numbered lock_message)) (framed 10 0 1 0 asks_as_data_1)
+        ≡ Some (heading_of stack.LockSeqRetry kind.Peer 1 0 cluster_name, retry.Data 1 (record { number = 0; inner = lock.Lock })) }
+    ensures kv_pb_seq_retry { read_typed (retried (numbered (backup_message kv_command))) (framed 11 0 1 0 acknowledges_data_1)
+        ≡ Some (heading_of stack.KvPbSeqRetry kind.Peer 1 0 cluster_name, retry.Ack 1) }
     ensures request { read_typed (client_request kv_command) (framed 5 1 0 0 requests_put)
         ≡ Some (of_kv kind.Request 0 0, record { request = 1; cmd = command.Put (codes "a") (codes "x") }) }
     ensures reply { read_typed (client_reply kv_output) (framed 5 2 0 0 replies_x) ≡ Some (
@@ -59,6 +64,8 @@ pub fn worked_stacks()
     ensures table_pb_seq { AreMessagesOf stack.TablePbSeq kind.Peer (numbered (backup_message table_command)) }
     ensures mirror { AreMessagesOf stack.Mirror kind.Peer mirror_message }
     ensures mirror_fifo { AreMessagesOf stack.MirrorFifo kind.Peer (numbered mirror_message) }
+    ensures lock_seq_retry { AreMessagesOf stack.LockSeqRetry kind.Peer (retried (numbered lock_message)) }
+    ensures kv_pb_seq_retry { AreMessagesOf stack.KvPbSeqRetry kind.Peer (retried (numbered (backup_message kv_command))) }
     ensures kv_raft { AreMessagesOf stack.KvRaft kind.Peer (raft_message kv_command) }
     ensures kv_requests { AreMessagesOf stack.KvRaft kind.Request (client_request kv_command) }
     ensures kv_replies { AreMessagesOf stack.KvRaft kind.Reply (client_reply kv_output) }
@@ -201,9 +208,11 @@ pub fn worked_headings()
     ensures table_raft { stack_field.spell stack.TableRaft ≡ 7 ∷ [] }
     ensures mirror { stack_field.spell stack.Mirror ≡ 8 ∷ [] }
     ensures mirror_fifo { stack_field.spell stack.MirrorFifo ≡ 9 ∷ [] }
+    ensures lock_seq_retry { stack_field.spell stack.LockSeqRetry ≡ 10 ∷ [] }
+    ensures kv_pb_seq_retry { stack_field.spell stack.KvPbSeqRetry ≡ 11 ∷ [] }
     ensures a_machine_alone_has_none { (stack_field.Fits stack.Kv → ⊥) × (stack_field.Fits stack.Table → ⊥) }
     ensures no_stack_0 { stack_field.read (0 ∷ []) ≡ None }
-    ensures no_stack_10 { stack_field.read (10 ∷ []) ≡ None }
+    ensures no_stack_12 { stack_field.read (12 ∷ []) ≡ None }
     ensures peer { any_kind.spell kind.Peer ≡ 0 ∷ [] }
     ensures request { any_kind.spell kind.Request ≡ 1 ∷ [] }
     ensures reply { any_kind.spell kind.Reply ≡ 2 ∷ [] }
@@ -232,6 +241,7 @@ pub fn refused_datagrams()
     ensures a_tenth_node { read_datagram (framed 5 0 9 0 asks_for_a_vote) ≡ None }
     ensures a_client_past_the_last { read_datagram (framed 5 1 255 0 requests_put) ≡ None }
     ensures a_request_for_a_mirror { read_datagram (framed 9 1 1 0 puts_a_as_packet_1) ≡ None }
-    ensures a_tenth_stack { read_datagram (framed 10 0 1 0 asks_for_a_vote) ≡ None }
+    ensures a_request_where_packets_are_lost { read_datagram (framed 10 1 1 0 asks_as_data_1) ≡ None }
+    ensures a_twelfth_stack { read_datagram (framed 12 0 1 0 asks_for_a_vote) ≡ None }
     ensures a_machine_alone { read_datagram (framed 0 0 1 0 asks_for_a_vote) ≡ None }
 {}

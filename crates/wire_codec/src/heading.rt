@@ -46,6 +46,8 @@ fn read_stack(input: &mut Input<'_>) -> Option<StackId>
         7 => Some(StackId::TableRaft),
         8 => Some(StackId::Mirror),
         9 => Some(StackId::MirrorFifo),
+        10 => Some(StackId::LockSeqRetry),
+        11 => Some(StackId::KvPbSeqRetry),
         _ => None,
     }
 }
@@ -105,6 +107,8 @@ fn byte_of(stack: StackId) -> u8
         StackId::TableRaft => 7,
         StackId::Mirror => 8,
         StackId::MirrorFifo => 9,
+        StackId::LockSeqRetry => 10,
+        StackId::KvPbSeqRetry => 11,
         StackId::Kv | StackId::Table => 0,
     }
 }

@@ -1,6 +1,6 @@
 ghost use Rattle.std.specs.Prelude.{◌≡◌, ◌≤◌, ℕ, List, Some, length};
 ghost use Rattle.wire_codec.specs.Bodies.{AreMessagesOf};
-ghost use Rattle.wire_codec.specs.Datagrams.{AreBytesOf, read_typed, spell_datagram};
+ghost use Rattle.wire_codec.specs.Datagrams.{AreBytesOf, longest_message, read_typed, spell_datagram};
 ghost use Rattle.wire_codec.specs.Headings.{heading};
 ghost use Rattle.wire_codec.specs.declared.heading.Heading.{Heading};
 
@@ -10,7 +10,7 @@ use wire_messages::Wire;
 /// bytes are short enough beside the 22 of the heading.
 pub fn fitting_messages_have_datagrams<M: Wire>()
     ensures { (h : Heading) (message : M) → AreMessagesOf h.stack h.kind M.format → heading.Fits h → M.format.Fits message
-        → length (M.format.spell message) ≤ 59978 → AreBytesOf M.format h message (spell_datagram M.format h message) }
+        → length (M.format.spell message) ≤ longest_message → AreBytesOf M.format h message (spell_datagram M.format h message) }
 {}
 
 /// What is encoded reads back, and what is read has no other bytes: so no two byte strings are one datagram, and none is two. It holds

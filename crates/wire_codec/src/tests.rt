@@ -1,12 +1,11 @@
 use crate::{Datagram, Heading, Kind, decode, encode_into};
 use kv_machine::{KvCmd, KvOut};
 use lock_table::{TableCmd, TableOut};
-use mirror::MirrorMsg;
 use raft_types::RaftMsg;
 use std::alloc::{AllocError, Global};
 use std::process::Abort;
 use std::test::Fail;
-use vst_base::{LockMsg, PbMsg, SeqMsg, StackId};
+use vst_base::{LockMsg, MirrorMsg, PbMsg, RetryMsg, SeqMsg, StackId};
 use wire_messages::{Answer, ClientReply, ClientRequest, Wire, from_bytes};
 
 // Datagrams whose bytes an independent reference worked out, of the cluster whose name is the bytes 0 to 15.
@@ -34,6 +33,16 @@ const PUTS_A: [u8; 26] = [
 const PUTS_A_AS_PACKET_1: [u8; 34] = [
     86, 2, 9, 0, 1, 0, 0, 1, 2, 3, 4, 5, 6, 7, 8, 9, 10, 11, 12, 13, 14, 15, 0, 0, 0, 0, 0, 0, 0,
     1, 1, 0, 1, 97,
+];
+
+const ASKS_AS_DATA_1: [u8; 40] = [
+    86, 2, 10, 0, 1, 0, 0, 1, 2, 3, 4, 5, 6, 7, 8, 9, 10, 11, 12, 13, 14, 15, 1, 0, 0, 0, 0, 0, 0,
+    0, 1, 0, 0, 0, 0, 0, 0, 0, 0, 1,
+];
+
+const ACKNOWLEDGES_DATA_1: [u8; 31] = [
+    86, 2, 11, 0, 1, 0, 0, 1, 2, 3, 4, 5, 6, 7, 8, 9, 10, 11, 12, 13, 14, 15, 2, 0, 0, 0, 0, 0, 0,
+    0, 1,
 ];
 
 const REQUESTS_PUT: [u8; 36] = [
@@ -74,6 +83,8 @@ fn put_peer_again(alloc: Global, datagram: &Datagram<'_>) -> Result<Option<Vec<u
         StackId::KvPbSeq => put_again::<SeqMsg<PbMsg<KvCmd>>>(alloc, datagram),
         StackId::Mirror => put_again::<MirrorMsg>(alloc, datagram),
         StackId::MirrorFifo => put_again::<SeqMsg<MirrorMsg>>(alloc, datagram),
+        StackId::LockSeqRetry => put_again::<RetryMsg<SeqMsg<LockMsg>>>(alloc, datagram),
+        StackId::KvPbSeqRetry => put_again::<RetryMsg<SeqMsg<PbMsg<KvCmd>>>>(alloc, datagram),
         StackId::KvRaft => put_again::<RaftMsg<KvCmd>>(alloc, datagram),
         StackId::TablePbSeq => put_again::<SeqMsg<PbMsg<TableCmd>>>(alloc, datagram),
         StackId::TableRaft => put_again::<RaftMsg<TableCmd>>(alloc, datagram),
@@ -202,6 +213,29 @@ fn datagrams_of_mirrors_are_read_and_written(rt: HostRuntime) -> Result<(), Fail
     )
 }
 
+#[test]
+fn datagrams_that_are_sent_again_are_read_and_written(rt: HostRuntime) -> Result<(), Fail> {
+    let alloc = rt.alloc();
+    is_read(
+        &rt,
+        alloc,
+        &ASKS_AS_DATA_1,
+        StackId::LockSeqRetry,
+        Kind::Peer,
+        1,
+        0,
+    )?;
+    is_read(
+        &rt,
+        alloc,
+        &ACKNOWLEDGES_DATA_1,
+        StackId::KvPbSeqRetry,
+        Kind::Peer,
+        1,
+        0,
+    )
+}
+
 // Whether the bytes are this datagram's but for one.
 fn with_byte(
     rt: &impl Abort,
@@ -238,7 +272,7 @@ fn hostile_datagrams_are_none(rt: HostRuntime) -> Result<(), Fail> {
         !with_byte(&rt, alloc, asks, 32, 0x10)?,
         "an index past the last"
     );
-    assert!(rt; !with_byte(&rt, alloc, asks, 2, 10)?, "no stack");
+    assert!(rt; !with_byte(&rt, alloc, asks, 2, 12)?, "no stack");
     Ok(())
 }
 
@@ -279,6 +313,14 @@ fn one_byte_changed(rt: HostRuntime) -> Result<(), Fail> {
         how_many_are_read(&rt, alloc, &mut { PUTS_A_AS_PACKET_1 })?,
         6263
     );
+    assert_eq!(rt;
+        how_many_are_read(&rt, alloc, &mut { ASKS_AS_DATA_1 })?,
+        8218
+    );
+    assert_eq!(rt;
+        how_many_are_read(&rt, alloc, &mut { ACKNOWLEDGES_DATA_1 })?,
+        6169
+    );
     assert_eq!(rt; how_many_are_read(&rt, alloc, &mut { REQUESTS_PUT })?, 6605);
     assert_eq!(rt; how_many_are_read(&rt, alloc, &mut { REPLIES_X })?, 6606);
     assert_eq!(rt;
@@ -305,6 +347,8 @@ fn messages_are_taken_and_put(rt: HostRuntime) -> Result<(), Fail> {
     is_taken::<SeqMsg<LockMsg>>(&rt, alloc, &ASKS_FOR_THE_LOCK[22..])?;
     is_taken::<MirrorMsg>(&rt, alloc, &PUTS_A[22..])?;
     is_taken::<SeqMsg<MirrorMsg>>(&rt, alloc, &PUTS_A_AS_PACKET_1[22..])?;
+    is_taken::<RetryMsg<SeqMsg<LockMsg>>>(&rt, alloc, &ASKS_AS_DATA_1[22..])?;
+    is_taken::<RetryMsg<SeqMsg<PbMsg<KvCmd>>>>(&rt, alloc, &ACKNOWLEDGES_DATA_1[22..])?;
     is_taken::<ClientRequest<KvCmd>>(&rt, alloc, &REQUESTS_PUT[22..])?;
     is_taken::<ClientReply<KvOut>>(&rt, alloc, &REPLIES_X[22..])?;
     is_taken::<RaftMsg<KvCmd>>(&rt, alloc, &SENDS_AN_ENTRY[22..])?;

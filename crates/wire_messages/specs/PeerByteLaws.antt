@@ -1,17 +1,19 @@
--- Each message of the lock server, of the mirror, of those that number them and of primary-backup has one spelling.
+-- Each message of the lock server, of the mirror, of those that number them or send them again, and of primary-backup has one spelling.
 use Rattle.std.proofs.Common.{◌≡◌, refl, lit<}
-use Rattle.mirror.specs.declared.messages.MirrorMsg.{MirrorMsg}
-use Rattle.mirror.specs.declared.messages.MirrorMsg.TheVariants.{Item}
+use Rattle.vst_base.specs.declared.mirror.MirrorMsg.{MirrorMsg}
+use Rattle.vst_base.specs.declared.mirror.MirrorMsg.TheVariants.{Item}
 use Rattle.vst_base.specs.declared.lock.LockMsg.{LockMsg}
 use Rattle.vst_base.specs.declared.lock.LockMsg.TheVariants.{Lock, Unlock, Locked}
 use Rattle.vst_base.specs.declared.pb_msg.PbMsg.{PbMsg}
 use Rattle.vst_base.specs.declared.pb_msg.PbMsg.TheVariants.{Apply, Ack}
+use Rattle.vst_base.specs.declared.retry.RetryMsg.{RetryMsg}
+use Rattle.vst_base.specs.declared.retry.RetryMsg.TheVariants as retry
 use Rattle.wire_fields.specs.FieldLaws.{number_is_format, value_is_format}
-use Rattle.wire_fields.specs.FormatLaws.{nothing_is_format}
+use Rattle.wire_fields.specs.FormatLaws.{nothing_is_format, pair_is_format}
 use Rattle.wire_fields.specs.Formats.{Format, IsFormat}
 use Rattle.wire_fields.specs.KindLaws.{make_of, one_of_is_format}
 use Rattle.wire_fields.specs.RecordLaws.{record_of_is_format}
-use Rattle.wire_messages.specs.PeerBytes.{any_number, backup_kinds, backup_message, backup_part, lock_kinds, lock_message, lock_part, mirror_kinds, mirror_message, mirror_part, numbered, numbered_fields}
+use Rattle.wire_messages.specs.PeerBytes.{any_number, backup_kinds, backup_message, backup_part, lock_kinds, lock_message, lock_part, mirror_kinds, mirror_message, mirror_part, numbered, numbered_fields, retried, retried_kinds, retried_part}
 
 pub lock_message_is_format : IsFormat lock_message
 lock_message_is_format =
@@ -35,6 +37,15 @@ module _ {C : Type 0} (f : Format C) (is_f : IsFormat f) where
   pub numbered_is_format : IsFormat (numbered f)
   numbered_is_format =
       record_of_is_format (numbered_fields f) (λ number inner. record { number = number; inner = inner }) (λ m. refl) (λ t. refl) (any_number_is_format, is_f)
+
+  pub retried_is_format : IsFormat (retried f)
+  retried_is_format =
+      one_of_is_format (retried_kinds f) (retried_part f) made ((λ p. refl), ((λ n. refl), tt)) refl
+      (pair_is_format any_number f any_number_is_format is_f, (any_number_is_format, tt))
+    where
+      made : (m : RetryMsg C) → make_of (retried_kinds f) (retried_part f m) ≡ m
+      made (retry.Data number inner) = refl
+      made (retry.Ack number) = refl
 
   pub backup_message_is_format : IsFormat (backup_message f)
   backup_message_is_format = one_of_is_format (backup_kinds f) (backup_part f) made ((λ c. refl), ((λ _. refl), tt)) refl (is_f, (nothing_is_format, tt))

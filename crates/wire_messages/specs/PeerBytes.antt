@@ -1,14 +1,16 @@
--- The bytes of the messages of the lock server, of the mirror, of those that number them and of primary-backup.
+-- The bytes of the messages of the lock server, of the mirror, of those that number them or send them again, and of primary-backup.
 use Rattle.std.specs.Prelude.{ℕ}
-use Rattle.mirror.specs.declared.messages.MirrorMsg.{MirrorMsg}
-use Rattle.mirror.specs.declared.messages.MirrorMsg.TheVariants.{Item}
+use Rattle.vst_base.specs.declared.mirror.MirrorMsg.{MirrorMsg}
+use Rattle.vst_base.specs.declared.mirror.MirrorMsg.TheVariants.{Item}
 use Rattle.vst_base.specs.declared.lock.LockMsg.{LockMsg}
 use Rattle.vst_base.specs.declared.lock.LockMsg.TheVariants.{Lock, Unlock, Locked}
 use Rattle.vst_base.specs.declared.pb_msg.PbMsg.{PbMsg}
 use Rattle.vst_base.specs.declared.pb_msg.PbMsg.TheVariants.{Apply, Ack}
+use Rattle.vst_base.specs.declared.retry.RetryMsg.{RetryMsg}
+use Rattle.vst_base.specs.declared.retry.RetryMsg.TheVariants as retry
 use Rattle.vst_base.specs.declared.seq.SeqMsg.{SeqMsg}
 use Rattle.wire_fields.specs.Fields.{number, value}
-use Rattle.wire_fields.specs.Formats.{Format, nothing}
+use Rattle.wire_fields.specs.Formats.{Format, nothing, pair}
 use Rattle.wire_fields.specs.Kinds.{Kinds, Part, first, kind, no_more, one_of, second, third}
 use Rattle.wire_fields.specs.Records.{FieldsOf, field, last, record_of}
 
@@ -48,6 +50,20 @@ numbered_fields f =
 
 abbrev pub numbered : {M : Type 0} → Format M → Format (SeqMsg M)
 numbered f = record_of (numbered_fields f) (λ number inner. record { number = number; inner = inner })
+
+-- data, with its number and the message within, and the number that is acknowledged
+abbrev pub retried_kinds : {M : Type 0} → Format M → Kinds (RetryMsg M)
+retried_kinds f =
+    kind 1 (pair any_number f) (λ (number, inner). retry.Data number inner)
+    (kind 2 any_number (λ number. retry.Ack number)
+    no_more)
+
+abbrev pub retried_part : {M : Type 0} (f : Format M) → RetryMsg M → Part (retried_kinds f)
+retried_part f (retry.Data number inner) = first (number, inner)
+retried_part f (retry.Ack number) = second number
+
+abbrev pub retried : {M : Type 0} → Format M → Format (RetryMsg M)
+retried f = one_of (retried_kinds f) (retried_part f)
 
 abbrev pub backup_kinds : {C : Type 0} → Format C → Kinds (PbMsg C)
 backup_kinds f =

@@ -1,15 +1,16 @@
 ghost use Rattle.std.specs.Prelude.{◌≡◌, ◌∷◌, ◌++◌, [], None, Some, codes};
 ghost use Rattle.kv_machine.specs.declared.cmd.KvCmd.TheVariants as command;
 ghost use Rattle.lock_table.specs.declared.cmd.TableCmd.TheVariants as table;
-ghost use Rattle.mirror.specs.declared.messages.MirrorMsg.TheVariants as mirror;
+ghost use Rattle.vst_base.specs.declared.mirror.MirrorMsg.TheVariants as mirror;
 ghost use Rattle.raft_types.specs.declared.msg.RaftMsg.TheVariants as message;
+ghost use Rattle.vst_base.specs.declared.retry.RetryMsg.TheVariants as retry;
 ghost use Rattle.vst_base.specs.declared.what.What.TheVariants as what;
 ghost use Rattle.wire_fields.specs.Fields.{key};
 ghost use Rattle.wire_fields.specs.Formats.{listed};
 ghost use Rattle.wire_messages.specs.EntryBytes.{entry, entry_of, old_entry};
 ghost use Rattle.wire_messages.specs.Examples.{one, put_asked, zero_of_four, zero_of_eight};
 ghost use Rattle.wire_messages.specs.KvBytes.{kv_command};
-ghost use Rattle.wire_messages.specs.PeerBytes.{mirror_message, numbered};
+ghost use Rattle.wire_messages.specs.PeerBytes.{mirror_message, numbered, retried};
 ghost use Rattle.wire_messages.specs.RaftBytes.{append_of, raft_message};
 ghost use Rattle.wire_messages.specs.TableBytes.{table_command};
 ghost use Rattle.wire_messages.specs.Wires.{read_whole};
@@ -48,4 +49,21 @@ pub fn worked_items()
     ensures a_byte_after { read_whole mirror_message (1 ∷ 0 ∷ 1 ∷ 97 ∷ 0 ∷ []) ≡ None }
     ensures numbered { (numbered mirror_message).spell (record { number = 1; inner = mirror.Item (codes "a") })
         ≡ one ++ (1 ∷ 0 ∷ 1 ∷ 97 ∷ []) }
+{}
+
+/// A message that is sent until it is acknowledged: the byte 1, its number and the message within, or the byte 2 and the number that is
+/// acknowledged.
+#[tactic(auto, unfolding(wire_fields::specs::Bytes::number_bytes, wire_fields::specs::Bytes::number_in, wire_fields::specs::Bytes::has_bytes, wire_fields::specs::Bytes::read_number))]
+pub fn worked_retries()
+    ensures data { (retried mirror_message).spell (retry.Data 1 (mirror.Item (codes "a"))) ≡ 1 ∷ (one ++ (1 ∷ 0 ∷ 1 ∷ 97 ∷ [])) }
+    ensures reads_data { (retried mirror_message).read (1 ∷ (one ++ (1 ∷ 0 ∷ 1 ∷ 97 ∷ []))) ≡ Some (retry.Data 1 (mirror.Item (codes "a")), []) }
+    ensures ack { (retried mirror_message).spell (retry.Ack 1) ≡ 2 ∷ one }
+    ensures reads_ack { (retried mirror_message).read (2 ∷ one) ≡ Some (retry.Ack 1, []) }
+    ensures no_message_0 { (retried mirror_message).read (0 ∷ one) ≡ None }
+    ensures no_message_3 { (retried mirror_message).read (3 ∷ one) ≡ None }
+    ensures no_message_within { (retried mirror_message).read (1 ∷ one) ≡ None }
+    ensures no_number { (retried mirror_message).read (2 ∷ zero_of_four) ≡ None }
+    ensures a_message_after_an_acknowledgement { read_whole (retried mirror_message) (2 ∷ (one ++ (1 ∷ 0 ∷ 1 ∷ 97 ∷ []))) ≡ None }
+    ensures of_numbered { (retried (numbered mirror_message)).spell (retry.Data 1 (record { number = 1; inner = mirror.Item (codes "a") }))
+        ≡ 1 ∷ (one ++ (one ++ (1 ∷ 0 ∷ 1 ∷ 97 ∷ []))) }
 {}

@@ -2,9 +2,8 @@ ghost use Rattle.wire_messages.specs.PeerBytes.{mirror_message};
 ghost use Rattle.wire_messages.specs.PeerByteLaws.{mirror_message_is_format};
 
 use crate::Wire;
-use mirror::MirrorMsg;
 use std::alloc::{AllocError, Global};
-use vst_base::Value;
+use vst_base::{MirrorMsg, Value};
 use wire_fields::{Input, put_value};
 
 impl Wire for MirrorMsg {

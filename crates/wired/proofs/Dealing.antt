@@ -34,7 +34,7 @@ put-below P nodes f n a all here k below = elim (cases_eq k n) [
 ]
 
 module _ {S K I O M : Type 0} (Has : ℕ → ℕ → M → Type 0) (saving : Saving K) (IsInput : I → Type 0) (m : Meaning S I O M) (r : Recovery S K) (Good : ℕ → ℕ → S → Type 0)
-    (deals : DealsInBytes Has saving IsInput m r Good) where
+    {most : ℕ} (deals : DealsInBytes Has most saving IsInput m r Good) where
   abbrev IsGood : Packet M → Type 0
   IsGood p = IsGoodPacket Has m.nodes p
 
@@ -51,7 +51,7 @@ module _ {S K I O M : Type 0} (Has : ℕ → ℕ → M → Type 0) (saving : Sav
   -- an event at a node that exists
   abbrev IsGoodEvent : ℕ → Option (Event S I O M) → Type 0
   IsGoodEvent t None = Unit {0}
-  IsGoodEvent t (Some e) = (e.node < m.nodes) × GoesOn Has m.nodes (Good t e.node) e.node e.effect
+  IsGoodEvent t (Some e) = (e.node < m.nodes) × GoesOn Has most m.nodes (Good t e.node) e.node e.effect
 
   kept_later : (t n : ℕ) (o : Option K) → IsKept t n o → IsKept (suc t) n o
   kept_later t n None kept = tt

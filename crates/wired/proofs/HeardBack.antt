@@ -5,6 +5,7 @@ use Rattle.std.proofs.lemmas.Bool.{eq-eqb}
 use Rattle.std.proofs.lemmas.Slice.Eq.{bytes_eq-Decides}
 use Rattle.vst_base.specs.declared.stack.StackId.{StackId}
 use Rattle.wire_codec.specs.DatagramLaws.{fitting, typed_back}
+use Rattle.wire_codec.specs.Datagrams.{longest_message}
 use Rattle.wire_codec.specs.Headings.{HasByte, stack_byte}
 use Rattle.wire_fields.specs.Fields.{name}
 use Rattle.wire_fields.specs.Formats.{Format, IsFormat}
@@ -28,6 +29,6 @@ module _ {M : Type 0} (f : Format M) (is_f : IsFormat f) where
 
   -- a message that fits, of at most 60,000 bytes with those of the heading, has bytes
   pub fitting_has_bytes : (stack : StackId) (n : List ℕ) (from to : ℕ) (message : M) → IsFormatOf stack f → HasByte stack → name.Fits n → from ≤ 8 → to ≤ 8
-      → f.Fits message → length (f.spell message) ≤ 59978 → HasBytes f stack n from to message
+      → f.Fits message → length (f.spell message) ≤ longest_message → HasBytes f stack n from to message
   fitting_has_bytes stack n from to message is_of stack_has named from_few to_few fits short =
       fitting f (peer_heading stack n from to) message is_of (tt, (stack_has, ((tt, refl), ((omega arith, from_few), ((omega arith, to_few), named))))) fits short

@@ -34,14 +34,14 @@ module _ {S C O : Type 0} (stack : StackId) (f : Format C) (label : List ℕ) (n
   all_sent n [] below fit = tt
   all_sent n (p ∷ ps) below fit = ((below.0, fit.0), all_sent n ps below.1 fit.1)
 
-  goes_on : (t n : ℕ) (s : RaftView S C O) (e : RaftEffect S C O) → IsSoundNode nodes n e.state → Fine f e → IsModest nodes 8 (IsSoundNode nodes n) (λ _. 0) s e → GoesOn (HasRaft f) nodes (GoodRaft f nodes t n) n e
+  goes_on : (t n : ℕ) (s : RaftView S C O) (e : RaftEffect S C O) → IsSoundNode nodes n e.state → Fine f e → IsModest nodes 8 (IsSoundNode nodes n) (λ _. 0) s e → GoesOn (HasRaft f) 8 nodes (GoodRaft f nodes t n) n e
   goes_on t n s e sound fine modest = record { state = (sound, fine.log); few = modest.few; sends = all_sent n e.sends modest.to_nodes fine.sends }
 
   kept_fits : (n : ℕ) (s : RaftView S C O) → n < nodes → IsSoundNode nodes n s → LogFits f s.log → (raft_saving stack f nodes label).Fits n ((raft_recovery m).keep s)
   kept_fits n s below sound log =
       body_fits stack f (who_at stack nodes label n) ((raft_recovery m).keep s) refl cluster below named sound.term (among_if nodes s.ballot.voted sound.vote) ((omega arith, sound.short), (refl, log))
 
-  pub raft_deals : DealsInBytes (HasRaft f) (raft_saving stack f nodes label) (IsAsked f) (raft nodes m) (raft_recovery m) (GoodRaft f nodes)
+  pub raft_deals : DealsInBytes (HasRaft f) 8 (raft_saving stack f nodes label) (IsAsked f) (raft nodes m) (raft_recovery m) (GoodRaft f nodes)
   raft_deals = record {
     init = λ n below. (sound_started m 0 None [] cluster below (omega arith) tt (omega arith), All-nil _);
     later = λ t n s good. good;

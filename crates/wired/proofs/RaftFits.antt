@@ -30,6 +30,7 @@ use Rattle.vst_base.specs.Logs.{accepted, merged, term_at}
 use Rattle.vst_base.specs.Machines.{MachineMeaning}
 use Rattle.vst_base.specs.declared.entry.TheConstants.{MAX_TERM}
 use Rattle.vst_base.specs.declared.what.What.TheVariants.{Noop, Request}
+use Rattle.wire_codec.specs.Datagrams.{longest_message}
 use Rattle.wire_fields.specs.ByteLaws.{length-number_bytes}
 use Rattle.wire_fields.specs.Formats.{Format}
 use Rattle.wire_messages.specs.EntryBytes.{entry}
@@ -76,7 +77,7 @@ module _ {C : Type 0} (f : Format C) where
   some_term (msg.Appended a) fits = fits.0.0
 
   -- the bytes of a message: those of eight entries at most
-  pub raft_fits : ((c : C) → f.Fits c → length (f.spell c) ≤ 2119) → (from to : ℕ) (x : RaftMsg C) → (raft_message f).Fits x → (raft_message f).Fits x × (length ((raft_message f).spell x) ≤ 59978)
+  pub raft_fits : ((c : C) → f.Fits c → length (f.spell c) ≤ 2119) → (from to : ℕ) (x : RaftMsg C) → (raft_message f).Fits x → (raft_message f).Fits x × (length ((raft_message f).spell x) ≤ longest_message)
   raft_fits short from to (msg.RequestVote r) fits = (fits, simp (length-append, length-number_bytes) (omega arith))
   raft_fits short from to (msg.Vote v) fits = (fits, simp (length-append, length-number_bytes) (omega arith))
   raft_fits short from to (msg.Append a) fits =

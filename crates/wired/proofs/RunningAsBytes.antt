@@ -9,6 +9,7 @@ use Rattle.net_semantics.specs.Worlds.{Packet}
 use Rattle.vst_base.specs.declared.net.Net.{Net}
 use Rattle.vst_base.specs.declared.stack.StackId.{StackId}
 use Rattle.vst_base.specs.declared.step.Step.{Step}
+use Rattle.wire_codec.specs.Datagrams.{longest_message}
 use Rattle.wire_codec.specs.Headings.{HasByte}
 use Rattle.wire_fields.specs.Fields.{name}
 use Rattle.wire_fields.specs.Formats.{Format, IsFormat}
@@ -32,7 +33,7 @@ may_come_front : {I : Type 0} (IsInput : I → Type 0) (front rest : List (Step 
 may_come_front IsInput front rest may = record { few = omega (arith, length-append front rest, may.few); inputs = inputs_front IsInput front rest may.inputs }
 
 module _ {I M : Type 0} (f : Format M) (is_f : IsFormat f) (stack : StackId) (is_of : IsFormatOf stack f) (has : HasByte stack) (Has : ℕ → ℕ → M → Type 0)
-    (fits : (from to : ℕ) (x : M) → Has from to x → f.Fits x × (length (f.spell x) ≤ 59978)) (IsInput : I → Type 0) where
+    (fits : (from to : ℕ) (x : M) → Has from to x → f.Fits x × (length (f.spell x) ≤ longest_message)) (IsInput : I → Type 0) where
   good_has_bytes : (nodes : ℕ) (label : List ℕ) → nodes ≤ 9 → name.Fits label → (p : Packet M) → IsGoodPacket Has nodes p → IsSpelledPacket f stack label p
   good_has_bytes nodes label few named p good =
       let fitting = fits p.source p.destination p.content good.1 in
@@ -43,7 +44,7 @@ module _ {I M : Type 0} (f : Format M) (is_f : IsFormat f) (stack : StackId) (is
   all_have_bytes : (nodes : ℕ) (label : List ℕ) → nodes ≤ 9 → name.Fits label → (ps : List (Packet M)) → All (IsGoodPacket Has nodes) ps → All (IsSpelledPacket f stack label) ps
   all_have_bytes nodes label few named ps sent = All-weaker (IsGoodPacket Has nodes) (IsSpelledPacket f stack label) (good_has_bytes nodes label few named) ps sent
 
-  module _ {S O : Type 0} (m : Meaning S I O M) (few : m.nodes ≤ 9) (Good : ℕ → ℕ → S → Type 0) (deals : DealsInBytes Has nothing_saved IsInput m (no_recovery {S = S}) Good) where
+  module _ {S O : Type 0} (m : Meaning S I O M) (few : m.nodes ≤ 9) (Good : ℕ → ℕ → S → Type 0) {most : ℕ} (deals : DealsInBytes Has most nothing_saved IsInput m (no_recovery {S = S}) Good) where
     runs_so : (label : List ℕ) (net : Net) (ss : List (Step I)) → name.Fits label → MayCome IsInput ss → IsAllowed net m (no_recovery {S = S}) ss
         → RunsTheSame net (wired f stack label m) (no_recovery {S = S}) m (no_recovery {S = S}) (world_in_bytes f stack label) ss
     runs_so label net ss named may allowed =
@@ -58,7 +59,7 @@ module _ {I M : Type 0} (f : Format M) (is_f : IsFormat f) (stack : StackId) (is
     }
 
   module _ {S K O : Type 0} (m : Meaning S I O M) (r : Recovery S K) (few : m.nodes ≤ 9) (saving : List ℕ → Saving K) (back : (label : List ℕ) → ReadsBack (saving label))
-      (Good : ℕ → ℕ → S → Type 0) (deals : (label : List ℕ) → name.Fits label → DealsInBytes Has (saving label) IsInput m r Good) where
+      (Good : ℕ → ℕ → S → Type 0) {most : ℕ} (deals : (label : List ℕ) → name.Fits label → DealsInBytes Has most (saving label) IsInput m r Good) where
     runs_alone_so : (label : List ℕ) (net : Net) (ss : List (Step I)) → name.Fits label → MayCome IsInput ss → IsAllowed net m r ss
         → RunsTheSame net (wired f stack label (saved m)) (saved_recovery (saving label) m r) m r (λ w. world_in_bytes f stack label (world_saved (saving label) w)) ss
     runs_alone_so label net ss named may allowed =

@@ -1,4 +1,4 @@
--- Primary-backup sends only commands that clients gave.
+-- Primary-backup sends and keeps only commands that have bytes, and sends one message in an event at most, to nodes that exist.
 use Rattle.std.specs.Prelude.{ℕ, ◌+◌, ◌≤◌, ◌==◌, Bool, true, false, List, [], ◌∷◌, length, Option, None, Some, IfSome, cond, slice_get}
 use Rattle.std.specs.List.{All}
 use Rattle.std.proofs.Common.{arith}
@@ -28,13 +28,13 @@ module _ {C : Type 0} (f : Format C) where
   next_sent n None fits = tt
   next_sent n (Some c) fits = ((omega arith, fits), tt)
 
-  next_few : (o : Option C) → length (apply_of o) ≤ 8
+  next_few : (o : Option C) → length (apply_of o) ≤ 1
   next_few None = omega arith
   next_few (Some c) = omega arith
 
   module _ {S O : Type 0} (m : MachineMeaning S C O) where
     abbrev Goes : ℕ → BackupEffect S C O → Type 0
-    Goes n e = GoesOn (HasBackup f) 2 (λ s. IfSome s.out f.Fits × All f.Fits s.waiting) n e
+    Goes n e = GoesOn (HasBackup f) 1 2 (λ s. IfSome s.out f.Fits × All f.Fits s.waiting) n e
 
     goes_unless : (n : ℕ) (b : Bool) (e d : BackupEffect S C O) → Goes n e → Goes n d → Goes n (cond b e d)
     goes_unless n true e d first second = first
@@ -64,7 +64,7 @@ module _ {C : Type 0} (f : Format C) where
     goes_message t n s from msg.Ack good = goes_unless n (n == 0) (acked m s s.out) (stays s) (goes_acked t n s s.out good)
         (goes_nowhere t n s good)
 
-    pub backup_deals : DealsInBytes (HasBackup f) nothing_saved f.Fits (primary_backup m) (no_recovery {S = Backed S C}) (GoodBackup f)
+    pub backup_deals : DealsInBytes (HasBackup f) 1 nothing_saved f.Fits (primary_backup m) (no_recovery {S = Backed S C}) (GoodBackup f)
     backup_deals = record {
       init = λ n below. (tt, All-nil f.Fits);
       later = λ t n s good. good;

@@ -4,7 +4,6 @@ use Rattle.std.specs.List.{All}
 use Rattle.handler_trait.specs.Handling.{Effect, Meaning, Recovery}
 use Rattle.net_semantics.specs.Runs.{IsAllowed, run}
 use Rattle.net_semantics.specs.Worlds.{Packet, first_world}
-use Rattle.handler_trait.specs.declared.handlers.TheConstants.{MAX_SENDS}
 use Rattle.vst_base.specs.declared.net.Net.{Net}
 use Rattle.vst_base.specs.declared.step.Step.{Step}
 use Rattle.vst_base.specs.declared.step.TheConstants.{MAX_STEPS}
@@ -18,23 +17,23 @@ module _ {M : Type 0} (Has : ℕ → ℕ → M → Type 0) where
   AreSent nodes n [] = Unit {0}
   AreSent nodes n (p ∷ ps) = ((p.0 < nodes) × Has n p.0 p.1) × AreSent nodes n ps
 
-  -- what an event at a node makes: a state that keeps to what it has to, and at most eight such sends
-  pub record GoesOn {S O : Type 0} (nodes : ℕ) (good : S → Type 0) (n : ℕ) (e : Effect S O M) : Type 0 where
+  -- what an event at a node makes: a state that keeps to what it has to, and at most so many such sends
+  pub record GoesOn {S O : Type 0} (most nodes : ℕ) (good : S → Type 0) (n : ℕ) (e : Effect S O M) : Type 0 where
     pub state : good e.state
-    pub few : length e.sends ≤ MAX_SENDS
+    pub few : length e.sends ≤ most
     pub sends : AreSent nodes n e.sends
 
   -- Good says what a node's state keeps to after so many steps. It holds at first, goes on to hold, and holds after a start and after each
-  -- event with fewer than 1,000,000 steps before it. What such an event sends keeps to Has, where what comes does, and what is kept of
-  -- such a state has bytes.
-  pub record DealsInBytes {S K I O : Type 0} (saving : Saving K) (IsInput : I → Type 0) (m : Meaning S I O M) (r : Recovery S K) (Good : ℕ → ℕ → S → Type 0) : Type 0 where
+  -- event with fewer than 1,000,000 steps before it. What such an event sends is so many packets at most, which keep to Has where what comes
+  -- does, and what is kept of such a state has bytes.
+  pub record DealsInBytes {S K I O : Type 0} (most : ℕ) (saving : Saving K) (IsInput : I → Type 0) (m : Meaning S I O M) (r : Recovery S K) (Good : ℕ → ℕ → S → Type 0) : Type 0 where
     pub init : (n : ℕ) → n < m.nodes → Good 0 n (m.init n)
     pub later : (t n : ℕ) (s : S) → Good t n s → Good (suc t) n s
     pub input : (t n : ℕ) (s : S) (i : I) → t < MAX_STEPS → n < m.nodes → IsTrue (m.takes_input n) → IsInput i → Good t n s
-        → GoesOn m.nodes (Good (suc t) n) n (m.input n s i)
+        → GoesOn most m.nodes (Good (suc t) n) n (m.input n s i)
     pub message : (t n : ℕ) (s : S) (from : ℕ) (x : M) → t < MAX_STEPS → n < m.nodes → from < m.nodes → Has from n x → Good t n s
-        → GoesOn m.nodes (Good (suc t) n) n (m.message n s from x)
-    pub timeout : (t n : ℕ) (s : S) → t < MAX_STEPS → n < m.nodes → Good t n s → GoesOn m.nodes (Good (suc t) n) n (m.timeout n s)
+        → GoesOn most m.nodes (Good (suc t) n) n (m.message n s from x)
+    pub timeout : (t n : ℕ) (s : S) → t < MAX_STEPS → n < m.nodes → Good t n s → GoesOn most m.nodes (Good (suc t) n) n (m.timeout n s)
     pub keep : (t n : ℕ) (s : S) → n < m.nodes → Good t n s → saving.Fits n (r.keep s)
     pub reboot : (t n : ℕ) (s : S) → n < m.nodes → Good t n s → Good t n (r.reboot n (r.keep s))
 

@@ -1,5 +1,5 @@
 -- Handlers whose messages come in order deal in bytes where the handlers within do: what is held back and given later was sent to them,
--- and on at most 1,000,000 steps no number reaches 8,000,000.
+-- and on at most 1,000,000 steps no number is over 8,000,000.
 use Rattle.std.specs.Prelude.{◌≡◌, ℕ, suc, ◌+◌, ◌*◌, ◌<◌, ◌≤◌, ◌==◌, Bool, true, false, List, [], ◌∷◌, length, Option, None, Some, cond, refl}
 use Rattle.std.specs.FinMap as map
 use Rattle.std.specs.FinMap.{get-empty}
@@ -12,14 +12,15 @@ use Rattle.fifo_xform.specs.FifoLaws.{length-numbered_by, numbered-counted}
 use Rattle.fifo_xform.specs.Peers.{Peers, counting, holding, is_early, numbered_packets, passing, peer_of, ready}
 use Rattle.fifo_xform.specs.PeersLaws.{next-most, numbered-counting, numbered-holding, numbered-passing, ready-is}
 use Rattle.handler_trait.specs.Handling.{Effect, Meaning}
+use Rattle.handler_trait.specs.declared.handlers.TheConstants.{MAX_SENDS}
 use Rattle.net_semantics.specs.Runs.{no_recovery}
 use Rattle.vst_base.specs.declared.seq.SeqMsg.{SeqMsg}
 use Rattle.vst_base.specs.declared.step.TheConstants.{MAX_STEPS}
 use Rattle.wired.specs.Dealing.{AreSent, DealsInBytes, GoesOn, nothing_saved}
-use Rattle.wired.specs.Sending.{GoodFifo, HasNumbered, HeldKeepTo}
+use Rattle.wired.specs.Sending.{GoodFifo, HasNumbered, HeldKeepTo, most_number}
 
 module _ {M : Type 0} (Has : ℕ → ℕ → M → Type 0) where
-  sent_in_order : (nodes n : ℕ) (ps : Peers M) (ss : List (ℕ × M)) → numbered_packets ps + length ss ≤ 8000000 → AreSent Has nodes n ss
+  sent_in_order : (nodes n : ℕ) (ps : Peers M) (ss : List (ℕ × M)) → numbered_packets ps + length ss ≤ most_number → AreSent Has nodes n ss
       → AreSent (HasNumbered Has) nodes n (numbered_by ps ss)
   sent_in_order nodes n ps [] few sent = tt
   sent_in_order nodes n ps (s ∷ ss) few sent =
@@ -43,24 +44,24 @@ module _ {M : Type 0} (Has : ℕ → ℕ → M → Type 0) where
       | inr new ↦ subst (λ j. Has j n c) (sym new.0) (subst (λ d. Has sender n d) new.2 has)
     ]
 
-  module _ {S I O : Type 0} (IsInput : I → Type 0) (m : Meaning S I O M) (Good : ℕ → ℕ → S → Type 0)
-      (deals : DealsInBytes Has nothing_saved IsInput m (no_recovery {S = S}) Good) where
+  module _ {S I O : Type 0} (IsInput : I → Type 0) (m : Meaning S I O M) (Good : ℕ → ℕ → S → Type 0) {most : ℕ}
+      (deals : DealsInBytes Has most nothing_saved IsInput m (no_recovery {S = S}) Good) (few_sends : most ≤ MAX_SENDS) where
     abbrev IsGood : ℕ → ℕ → FifoState S M → Type 0
     IsGood t n s = GoodFifo Has Good t n s
 
     abbrev Goes : ℕ → ℕ → Effect (FifoState S M) O (SeqMsg M) → Type 0
-    Goes t n e = GoesOn (HasNumbered Has) m.nodes (IsGood (suc t) n) n e
+    Goes t n e = GoesOn (HasNumbered Has) most m.nodes (IsGood (suc t) n) n e
 
     goes_numbering : (t n : ℕ) (ps : Peers M) (e : Effect S O M) → t < MAX_STEPS → numbered_packets ps ≤ 8 * t → HeldKeepTo Has n ps
-        → GoesOn Has m.nodes (Good (suc t) n) n e → Goes t n (numbering ps e)
+        → GoesOn Has most m.nodes (Good (suc t) n) n e → Goes t n (numbering ps e)
     goes_numbering t n ps e few numbers held goes = record {
       state = record {
         within = goes.state;
-        numbers = omega (arith, numbers, goes.few, numbered-counted ps e.sends);
+        numbers = omega (arith, numbers, goes.few, few_sends, numbered-counted ps e.sends);
         held = held_counted n ps e.sends held;
       };
       few = omega (arith, length-numbered_by ps e.sends, goes.few);
-      sends = sent_in_order m.nodes n ps e.sends (omega (arith, few, numbers, goes.few)) goes.sends;
+      sends = sent_in_order m.nodes n ps e.sends (omega (arith, few, numbers, goes.few, few_sends)) goes.sends;
     }
 
     goes_given : (t n : ℕ) (s : FifoState S M) (from : ℕ) (content : M) → t < MAX_STEPS → n < m.nodes → from < m.nodes → Has from n content
@@ -96,7 +97,7 @@ module _ {M : Type 0} (Has : ℕ → ℕ → M → Type 0) where
         let there = ready-is m.nodes s.peers from content is in
         goes_given t n s from content few below there.exists (good.held from (peer_of s.peers from).expected content there.held) good
 
-    pub fifo_deals : DealsInBytes (HasNumbered Has) nothing_saved IsInput (fifo m) (no_recovery {S = FifoState S M}) (GoodFifo Has Good)
+    pub fifo_deals : DealsInBytes (HasNumbered Has) most nothing_saved IsInput (fifo m) (no_recovery {S = FifoState S M}) (GoodFifo Has Good)
     fifo_deals = record {
       init = λ n below. record {
         within = deals.init n below;

@@ -15,4 +15,5 @@ pub mod BackupDealLaws
 pub mod NumberedDealLaws
 pub mod MirrorDealLaws
 pub mod FifoDealLaws
+pub mod RetryDealLaws
 pub mod Examples

@@ -1,4 +1,4 @@
--- The lock server sends only its three messages, to nodes that exist.
+-- The lock server sends only its three messages, one in an event at most, to nodes that exist.
 use Rattle.std.specs.Prelude.{◌≡◌, ℕ, nat_lt, zero, suc, ◌<◌, ◌≤◌, true, false, List, [], ◌∷◌, length, refl}
 use Rattle.std.proofs.Common.{arith}
 use Rattle.std.proofs.lemmas.Bool.{lt-ltb}
@@ -28,8 +28,8 @@ module _ (nodes : ℕ) where
   any_sent n (p ∷ ps) below = ((below.0, tt), any_sent n ps below.1)
 
   goes_on : (n : ℕ) (s : LockState) (e : LockEffect) → IsSound nodes n e.state → IsModest nodes 1 (IsSound nodes n) (λ _. 0) s e
-      → GoesOn Any nodes (IsSound nodes n) n e
-  goes_on n s e sound modest = record { state = sound; few = omega (arith, modest.few); sends = any_sent n e.sends modest.to_nodes }
+      → GoesOn Any 1 nodes (IsSound nodes n) n e
+  goes_on n s e sound modest = record { state = sound; few = modest.few; sends = any_sent n e.sends modest.to_nodes }
 
   sound_first : (n : ℕ) → IsSound nodes n (first_state n)
   sound_first zero = (refl, All-nil (λ client. client < nodes))
@@ -50,7 +50,7 @@ module _ (nodes : ℕ) where
   sound_message n (Client held) from msg.Unlock below sound = sound
   sound_message n (Client held) from msg.Locked below sound = sound
 
-  pub lock_deals : DealsInBytes Any nothing_saved (λ _. Unit {0}) (lock_server nodes) (no_recovery {S = LockState})
+  pub lock_deals : DealsInBytes Any 1 nothing_saved (λ _. Unit {0}) (lock_server nodes) (no_recovery {S = LockState})
       (λ t n s. IsSound nodes n s)
   lock_deals = record {
     init = λ n below. sound_first n;

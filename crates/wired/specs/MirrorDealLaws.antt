@@ -1,11 +1,11 @@
--- The mirror sends only values that were put, to node 0.
+-- The mirror sends only values that have bytes, one in an event at most, to nodes that exist.
 use Rattle.std.specs.Prelude.{ℕ, ◌+◌, ◌<◌, ◌≤◌, ◌==◌, Bool, true, false, cond, length}
 use Rattle.std.proofs.Common.{arith, length-append}
 use Rattle.mirror.specs.Mirroring.{MirrorEffect, input_effect, mirror, nothing, said}
-use Rattle.mirror.specs.declared.messages.MirrorInput.{MirrorInput}
-use Rattle.mirror.specs.declared.messages.MirrorInput.TheVariants as ask
-use Rattle.mirror.specs.declared.messages.MirrorMsg.{MirrorMsg}
-use Rattle.mirror.specs.declared.messages.MirrorMsg.TheVariants as msg
+use Rattle.vst_base.specs.declared.mirror.MirrorInput.{MirrorInput}
+use Rattle.vst_base.specs.declared.mirror.MirrorInput.TheVariants as ask
+use Rattle.vst_base.specs.declared.mirror.MirrorMsg.{MirrorMsg}
+use Rattle.vst_base.specs.declared.mirror.MirrorMsg.TheVariants as msg
 use Rattle.net_semantics.specs.Runs.{no_recovery}
 use Rattle.vst_base.specs.declared.token.TheConstants.{MAX_VALUE}
 use Rattle.wire_fields.specs.ByteLaws.{length-number_bytes}
@@ -21,7 +21,7 @@ mirror_fits from to (msg.Item v) fits =
 
 module _ (nodes : ℕ) where
   abbrev Goes : ℕ → MirrorEffect → Type 0
-  Goes n e = GoesOn HasMirror nodes (λ s. Unit {0}) n e
+  Goes n e = GoesOn HasMirror 1 nodes (λ s. Unit {0}) n e
 
   goes_nowhere : (n : ℕ) → Goes n nothing
   goes_nowhere n = record { state = tt; few = omega arith; sends = tt }
@@ -33,7 +33,7 @@ module _ (nodes : ℕ) where
   goes_put : (n : ℕ) (i : MirrorInput) → n < nodes → HasPut i → Goes n (input_effect i)
   goes_put n (ask.Put v) below fits = record { state = tt; few = omega arith; sends = ((omega (arith, below), fits), tt) }
 
-  pub mirror_deals : DealsInBytes HasMirror nothing_saved HasPut (mirror nodes) (no_recovery {S = Unit {0}}) (λ t n s. Unit {0})
+  pub mirror_deals : DealsInBytes HasMirror 1 nothing_saved HasPut (mirror nodes) (no_recovery {S = Unit {0}}) (λ t n s. Unit {0})
   mirror_deals = record {
     init = λ n below. tt;
     later = λ t n s good. tt;

@@ -1,16 +1,20 @@
 -- What the messages and the states of handlers whose nodes never stop keep to, so that all that they send has bytes.
-use Rattle.std.specs.Prelude.{◌≡◌, ℕ, ◌*◌, ◌≤◌, Some, IfSome}
+use Rattle.std.specs.Prelude.{◌≡◌, ℕ, ◌*◌, ◌<◌, ◌≤◌, Some, IfSome}
 use Rattle.std.specs.FinMap as map
 use Rattle.std.specs.List.{All}
 use Rattle.fifo_xform.specs.Fifo.{FifoState}
 use Rattle.fifo_xform.specs.Peers.{Peers, numbered_packets, peer_of}
-use Rattle.mirror.specs.declared.messages.MirrorInput.{MirrorInput}
-use Rattle.mirror.specs.declared.messages.MirrorInput.TheVariants as ask
-use Rattle.mirror.specs.declared.messages.MirrorMsg.{MirrorMsg}
+use Rattle.lists.specs.Each.{Each}
+use Rattle.vst_base.specs.declared.mirror.MirrorInput.{MirrorInput}
+use Rattle.vst_base.specs.declared.mirror.MirrorInput.TheVariants as ask
+use Rattle.vst_base.specs.declared.mirror.MirrorMsg.{MirrorMsg}
 use Rattle.primary_backup.specs.Backup.{Backed}
+use Rattle.retry_xform.specs.Keeping.{Kept, Retrying}
 use Rattle.seqnum_xform.specs.Numbering.{Numbered}
 use Rattle.vst_base.specs.declared.lock.LockMsg.{LockMsg}
 use Rattle.vst_base.specs.declared.pb_msg.PbMsg.{PbMsg}
+use Rattle.vst_base.specs.declared.retry.RetryMsg.{RetryMsg}
+use Rattle.vst_base.specs.declared.retry.RetryMsg.TheVariants as retry
 use Rattle.vst_base.specs.declared.seq.SeqMsg.{SeqMsg}
 use Rattle.wire_fields.specs.Fields.{value}
 use Rattle.wire_fields.specs.Formats.{Format}
@@ -28,9 +32,13 @@ HasBackup f from to x = (backup_message f).Fits x
 abbrev pub GoodBackup : {S C : Type 0} → Format C → ℕ → ℕ → Backed S C → Type 0
 GoodBackup f t n s = IfSome s.out f.Fits × All f.Fits s.waiting
 
--- a message that keeps to this, with a number of at most 8,000,000
+-- the greatest number of a packet: eight are numbered in each of 1,000,000 steps
+abbrev pub most_number : ℕ
+most_number = 8000000
+
+-- a message that keeps to this, with such a number
 abbrev pub HasNumbered : {M : Type 0} → (ℕ → ℕ → M → Type 0) → ℕ → ℕ → SeqMsg M → Type 0
-HasNumbered Has from to x = Has from to x.inner × (x.number ≤ 8000000)
+HasNumbered Has from to x = Has from to x.inner × (x.number ≤ most_number)
 
 -- a node has used up at most eight numbers a step
 abbrev pub GoodNumbered : {S : Type 0} → (ℕ → ℕ → S → Type 0) → ℕ → ℕ → Numbered S → Type 0
@@ -53,3 +61,20 @@ pub record GoodFifo {S M : Type 0} (Has : ℕ → ℕ → M → Type 0) (Good : 
   pub within : Good t n s.inner
   pub numbers : numbered_packets s.peers ≤ 8 * t
   pub held : HeldKeepTo Has n s.peers
+
+-- data that holds a message which keeps to this, or an acknowledgement, of a number up to the greatest
+abbrev pub HasRetried : {M : Type 0} → (ℕ → ℕ → M → Type 0) → ℕ → ℕ → RetryMsg M → Type 0
+HasRetried Has from to (retry.Data number inner) = Has from to inner × (number ≤ most_number)
+HasRetried Has from to (retry.Ack number) = number ≤ most_number
+
+-- what a node keeps may be sent again: to a node that exists, as a message from here to there that keeps to this
+pub record MayBeSent {M : Type 0} (Has : ℕ → ℕ → M → Type 0) (nodes n : ℕ) (k : Kept M) : Type 0 where
+  pub exists : k.destination < nodes
+  pub content : Has n k.destination k.content
+  pub number : k.number ≤ most_number
+
+-- a node has used up at most eight numbers a step, and all that it keeps may be sent again
+pub record GoodRetry {S M : Type 0} (Has : ℕ → ℕ → M → Type 0) (nodes : ℕ) (Good : ℕ → ℕ → S → Type 0) (t n : ℕ) (s : Retrying S M) : Type 0 where
+  pub within : Good t n s.inner
+  pub numbers : s.next ≤ 8 * t
+  pub kept : Each (MayBeSent Has nodes n) s.kept

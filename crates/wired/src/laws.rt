@@ -1,6 +1,7 @@
 ghost use Rattle.std.specs.Prelude.{ℕ, ◌≤◌, List, length};
 ghost use Rattle.handler_trait.specs.Handling.{Meaning, Recovery};
 ghost use Rattle.vst_base.specs.declared.stack.StackId.{StackId};
+ghost use Rattle.wire_codec.specs.Datagrams.{longest_message};
 ghost use Rattle.wire_codec.specs.Headings.{HasByte};
 ghost use Rattle.wire_fields.specs.Fields.{name};
 ghost use Rattle.wired.specs.BytesAlone.{BytesRunTheSame};
@@ -35,5 +36,5 @@ pub fn bytes_run_the_same<S, I, O, M: Wire, H: Saves>()
 pub fn fitting_messages_have_bytes<M: Wire>()
     ensures { (stack : StackId) (label : List ℕ) (from to : ℕ) (message : M)
         → IsFormatOf stack M.format → HasByte stack → name.Fits label → from ≤ 8 → to ≤ 8
-        → M.format.Fits message → length (M.format.spell message) ≤ 59978 → HasBytes M.format stack label from to message }
+        → M.format.Fits message → length (M.format.spell message) ≤ longest_message → HasBytes M.format stack label from to message }
 {}

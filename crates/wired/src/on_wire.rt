@@ -9,17 +9,19 @@ ghost use Rattle.wired.specs.FifoDealLaws.{fifo_deals};
 ghost use Rattle.wired.specs.LockDealLaws.{lock_deals, lock_fits};
 ghost use Rattle.wired.specs.MirrorDealLaws.{mirror_deals, mirror_fits};
 ghost use Rattle.wired.specs.NumberedDealLaws.{numbered_deals, numbered_fits};
-ghost use Rattle.wired.specs.Sending.{Any, GoodBackup, GoodFifo, GoodNumbered, HasBackup, HasMirror, HasNumbered, HasPut};
+ghost use Rattle.wired.specs.RetryDealLaws.{retried_fits, retry_deals};
+ghost use Rattle.wired.specs.Sending.{Any, GoodBackup, GoodFifo, GoodNumbered, GoodRetry, HasBackup, HasMirror, HasNumbered, HasPut, HasRetried};
 
 use crate::AlwaysFits;
 use crate::always_fits::value_fits;
 use fifo_xform::Fifo;
-use handler_trait::Handlers;
+use handler_trait::{Handlers, LeavesRoom};
 use lock_server::LockServer;
-use mirror::{Mirror, MirrorInput};
+use mirror::Mirror;
 use primary_backup::PrimaryBackup;
+use retry_xform::Retry;
 use seqnum_xform::SeqNum;
-use vst_base::{LockInput, Machine};
+use vst_base::{LockInput, Machine, MirrorInput};
 use wire_messages::Wire;
 
 /// Handlers whose messages have bytes, on every schedule that may come: of at most `MAX_STEPS` steps, whatever a network does.
@@ -44,8 +46,8 @@ pub trait OnWire: Handlers<Msg: Wire> {
     ghost fits: { (from to : ℕ) (x : Self.Msg) → sends from to x
         → Self.Msg.format.Fits x × (length (Self.Msg.format.spell x) ≤ longest) };
 
-    /// Each event sends such messages and makes such a state, where what comes is such.
-    ghost deals: { (h : Self) → DealsInBytes sends nothing_saved has_bytes (Self.meaning h) (no_recovery {S = Self.State}) (good h) };
+    /// Each event sends such messages, at most `SENDS`, and makes such a state, where what comes is such.
+    ghost deals: { (h : Self) → DealsInBytes sends Self.SENDS nothing_saved has_bytes (Self.meaning h) (no_recovery {S = Self.State}) (good h) };
 }
 
 impl OnWire for LockServer {
@@ -120,7 +122,7 @@ impl<H: OnWire> OnWire for SeqNum<H> {
 
     ghost fits = { numbered_fits H.sends H.Msg.format H.longest H.fits };
 
-    ghost deals = { λ h. numbered_deals H.sends H.has_bytes (H.meaning h) (H.good h) (H.deals h) };
+    ghost deals = { λ h. numbered_deals H.sends H.has_bytes (H.meaning h) (H.good h) (H.deals h) H.few_sends };
 }
 
 impl<H: OnWire> OnWire for Fifo<H> {
@@ -138,5 +140,23 @@ impl<H: OnWire> OnWire for Fifo<H> {
 
     ghost fits = { numbered_fits H.sends H.Msg.format H.longest H.fits };
 
-    ghost deals = { λ h. fifo_deals H.sends H.has_bytes (H.meaning h) (H.good h) (H.deals h) };
+    ghost deals = { λ h. fifo_deals H.sends H.has_bytes (H.meaning h) (H.good h) (H.deals h) H.few_sends };
+}
+
+impl<H: OnWire + LeavesRoom> OnWire for Retry<H> {
+    ghost has_bytes = { H.has_bytes };
+
+    ghost sends = { HasRetried H.sends };
+
+    ghost good = { λ h. GoodRetry H.sends (H.meaning h).nodes (H.good h) };
+
+    ghost longest = { H.longest + 9 };
+
+    fn has_bytes(input: &H::Input) {
+        H::has_bytes(input);
+    }
+
+    ghost fits = { retried_fits H.sends H.Msg.format H.longest H.fits };
+
+    ghost deals = { λ h. retry_deals H.sends H.has_bytes (H.meaning h) (H.good h) (H.deals h) H.leaves_room };
 }

@@ -7,11 +7,12 @@ ghost use Rattle.mirror.specs.Mirroring.{mirror};
 ghost use Rattle.primary_backup.specs.Backup.{primary_backup};
 ghost use Rattle.raft_types.specs.Messages.{IsClusterSize};
 ghost use Rattle.raft_xform.specs.Raft.{raft, raft_recovery};
+ghost use Rattle.retry_xform.specs.Retransmission.{retrying};
 ghost use Rattle.seqnum_xform.specs.Numbering.{sequence_numbered};
 ghost use Rattle.vst_base.specs.Machines.{MachineMeaning};
 ghost use Rattle.vst_base.specs.declared.stack.StackId.TheVariants as stack;
 ghost use Rattle.wire_messages.specs.KvBytes.{kv_command};
-ghost use Rattle.wire_messages.specs.PeerBytes.{backup_message, lock_message, mirror_message, numbered};
+ghost use Rattle.wire_messages.specs.PeerBytes.{backup_message, lock_message, mirror_message, numbered, retried};
 ghost use Rattle.wire_messages.specs.RaftBytes.{raft_message};
 ghost use Rattle.wire_messages.specs.TableBytes.{table_command};
 ghost use Rattle.wired.specs.RaftSaving.{IsAsked, raft_saving};
@@ -24,6 +25,7 @@ use kv_machine::KvCmd;
 use lock_server::LockServer;
 use lock_table::TableCmd;
 use mirror::Mirror;
+use retry_xform::Retry;
 use seqnum_xform::SeqNum;
 
 /// The stacks whose nodes never stop: with packets that are bytes each refuses what it refuses with messages, and clients see the
@@ -41,11 +43,17 @@ pub fn worked_stacks<S, O>()
         (sequence_numbered (primary_backup m)) }
     ensures mirror { (nodes : ℕ) → nodes ≤ 9 → RunsAsBytes mirror_message stack.Mirror HasPut (mirror nodes) }
     ensures mirror_fifo { (nodes : ℕ) → nodes ≤ 9 → RunsAsBytes (numbered mirror_message) stack.MirrorFifo HasPut (fifo (mirror nodes)) }
+    ensures lock_seq_retry { (nodes : ℕ) → nodes ≤ 9
+        → RunsAsBytes (retried (numbered lock_message)) stack.LockSeqRetry (λ _. Unit {0}) (retrying (sequence_numbered (lock_server nodes))) }
+    ensures kv_pb_seq_retry { (m : MachineMeaning S SpecKvCmd O)
+        → RunsAsBytes (retried (numbered (backup_message kv_command))) stack.KvPbSeqRetry kv_command.Fits
+        (retrying (sequence_numbered (primary_backup m))) }
 {
     runs_as_bytes::<LockServer>();
     runs_as_bytes::<SeqNum<LockServer>>();
     runs_as_bytes::<Mirror>();
     runs_as_bytes::<Fifo<Mirror>>();
+    runs_as_bytes::<Retry<SeqNum<LockServer>>>();
 }
 
 /// The stacks whose nodes stop and start again: on bytes alone, in packets and in what is kept, each refuses what it refuses with

@@ -4,6 +4,7 @@ ghost use Rattle.raft_xform.specs.Raft.{raft, raft_recovery};
 ghost use Rattle.vst_base.specs.Machines.{MachineMeaning};
 ghost use Rattle.vst_base.specs.declared.node.TheConstants.{MAX_NODES};
 ghost use Rattle.vst_base.specs.declared.stack.StackId.{StackId};
+ghost use Rattle.wire_codec.specs.Datagrams.{longest_message};
 ghost use Rattle.wire_codec.specs.Headings.{HasByte};
 ghost use Rattle.wire_messages.specs.RaftBytes.{raft_message};
 ghost use Rattle.wired.specs.RaftSaving.{IsAsked, raft_saving};
@@ -18,7 +19,7 @@ use node_body::Commands;
 /// have bytes, as all tokens of a schedule have.
 pub fn runs_as_bytes<H: OnWire>()
     ensures { (h : H) (stack : StackId) → HasByte stack → IsFormatOf stack H.Msg.format → (H.meaning h).nodes ≤ MAX_NODES
-        → H.longest ≤ 59978 → RunsAsBytes H.Msg.format stack H.has_bytes (H.meaning h) }
+        → H.longest ≤ longest_message → RunsAsBytes H.Msg.format stack H.has_bytes (H.meaning h) }
 {}
 
 /// Clusters, whose nodes stop and start again: on bytes alone, in packets and in what is kept, each refuses what it refuses with

@@ -22,3 +22,7 @@ returns-clause-none_out_of_turn c = refl
 pub returns-clause-in_any_order : goal.returns-clause-in_any_order
 unfolding digits
 returns-clause-in_any_order c = refl
+
+pub returns-clause-lost_and_sent_again : goal.returns-clause-lost_and_sent_again
+unfolding digits
+returns-clause-lost_and_sent_again c = refl

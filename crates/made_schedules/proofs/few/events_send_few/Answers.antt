@@ -1,5 +1,5 @@
 use Rattle.made_schedules.proofs.RaftSends.{raft-few}
-use Rattle.made_schedules.proofs.Sends.{backup-few, fifo-few, lock-few, mirror-few, numbered-few}
+use Rattle.made_schedules.proofs.Sends.{backup-few, fifo-few, lock-few, mirror-few, numbered-few, retried-few}
 use Rattle.made_schedules.proofs.few.events_send_few.Goals as goal
 
 pub returns-clause-lock : goal.returns-clause-lock
@@ -15,7 +15,10 @@ pub returns-clause-raft : goal.returns-clause-raft
 returns-clause-raft g c = λ nodes m most. raft-few nodes m most
 
 pub returns-clause-numbered : goal.returns-clause-numbered
-returns-clause-numbered g c = λ m few. numbered-few m few
+returns-clause-numbered g c = λ most m few. numbered-few most m few
 
 pub returns-clause-ordered : goal.returns-clause-ordered
-returns-clause-ordered g c = λ m few. fifo-few m few
+returns-clause-ordered g c = λ most m few. fifo-few most m few
+
+pub returns-clause-retried : goal.returns-clause-retried
+returns-clause-retried g c = λ most m few. retried-few most m few

@@ -1,6 +1,6 @@
 use Rattle.std.proofs.Common.{◌≡◌, refl, rules, append-nil, ap, sym, ◌∙◌, ◌++◌, ◌∷◌, [], ◌+◌, append_assoc}
 use Rattle.retry_xform.specs.Keeping.{numbered_from}
-use Rattle.retry_xform.specs.declared.message.RetryMsg.TheVariants as msg
+use Rattle.vst_base.specs.declared.retry.RetryMsg.TheVariants as msg
 use Rattle.retry_xform.specs.Retransmission.{all_as_data, as_data}
 use Rattle.retry_xform.proofs.Numbers.{below-push, none-there}
 use Rattle.retry_xform.proofs.hand_on.sends.Goals as goal

@@ -7,10 +7,10 @@ use Rattle.std.specs.Fmt.{digits}
 use Rattle.kv_machine.specs.declared.cmd.KvCmd.{KvCmd}
 use Rattle.kv_machine.specs.declared.cmd.KvCmd.TheVariants as cmd
 use Rattle.kv_machine.specs.declared.out.KvOut.{KvOut}
-use Rattle.mirror.specs.declared.messages.MirrorInput.{MirrorInput}
-use Rattle.mirror.specs.declared.messages.MirrorInput.TheVariants as mirrored
-use Rattle.mirror.specs.declared.messages.MirrorOutput.{MirrorOutput}
-use Rattle.mirror.specs.declared.messages.MirrorOutput.TheVariants as from
+use Rattle.vst_base.specs.declared.mirror.MirrorInput.{MirrorInput}
+use Rattle.vst_base.specs.declared.mirror.MirrorInput.TheVariants as mirrored
+use Rattle.vst_base.specs.declared.mirror.MirrorOutput.{MirrorOutput}
+use Rattle.vst_base.specs.declared.mirror.MirrorOutput.TheVariants as from
 use Rattle.net_semantics.specs.BelowPb.{below_pb}
 use Rattle.trace_maps.specs.SingleNode.{alone}
 use Rattle.vst_base.specs.declared.pb_out.PbOut.{PbOut}
@@ -20,6 +20,7 @@ use Rattle.vst_base.specs.declared.lock.LockInput.{LockInput}
 use Rattle.vst_base.specs.declared.lock.LockInput.TheVariants as ask
 use Rattle.vst_base.specs.declared.lock.LockOutput.{LockOutput}
 use Rattle.vst_base.specs.declared.lock.LockOutput.TheVariants as told
+use Rattle.vst_base.specs.declared.stack.StackId.TheVariants as stack
 use Rattle.vst_base.specs.declared.step.Item.TheVariants as item
 use Rattle.vst_base.specs.declared.step.Step.TheVariants as step
 use Rattle.schedule_text.specs.Headers.{header_of}
@@ -27,7 +28,8 @@ use Rattle.schedule_text.specs.Schedules.{Script}
 use Rattle.schedule_replay.specs.Explained.{steps_of}
 use Rattle.transformers.specs.Numbering.{numbering}
 use Rattle.transformers.specs.Ordering.{ordering}
-use Rattle.stacks.specs.Kinds.{Alone, Backed, Own, Through, service, service_play}
+use Rattle.transformers.specs.Retransmission.{retransmission}
+use Rattle.stacks.specs.Kinds.{Alone, Backed, Itself, Own, Through, service, service_play}
 use Rattle.stacks.specs.Plays.{Play}
 use Rattle.stacks.specs.Table.{locks, mirrors, store}
 use Rattle.vst_base.specs.declared.step.Step.{Step}
@@ -150,6 +152,71 @@ acked-trace = simp lookups_and_sets
 pub returns-clause-acknowledged_twice : goal.returns-clause-acknowledged_twice
 unfolding digits header_of
 returns-clause-acknowledged_twice c = whole-out-by acked_stack acked_script refl acked-allowed (λ items. alone (below_pb items)) refl acked_items acked-trace
+
+-- a packet that is lost and sent again, an answer, and an acknowledgement
+abbrev resent_script : Script LockInput
+resent_script = record {
+  steps =
+      (2, step.In 1 ask.Lock) ∷ (3, step.Lose 0) ∷ (4, step.Tick 1) ∷ (5, step.Deliver 1) ∷ (6, step.Deliver 2) ∷ (7, step.Deliver 3) ∷ [];
+  fault = None;
+}
+
+abbrev resent_stack : Play LockInput LockOutput (Step LockInput)
+resent_stack = service_play (service (Through retransmission (Itself stack.LockSeq (Through numbering (Own locks))))) 2
+
+resent-allowed : resent_stack.refused (steps_of resent_script) ≡ None
+resent-allowed = refl
+
+abbrev resent_items : List (Item LockInput LockOutput)
+resent_items = item.Input 1 ask.Lock ∷ item.Output 1 told.Locked ∷ []
+
+resent-trace : resent_stack.trace (steps_of resent_script) ≡ resent_items
+resent-trace = refl
+
+abbrev resent_image : List (Step LockInput)
+resent_image = step.In 1 ask.Lock ∷ step.Tick 1 ∷ step.Dup 0 ∷ step.Deliver 0 ∷ step.Dup 1 ∷ step.Deliver 1 ∷ []
+
+resent-image : resent_stack.image (steps_of resent_script) ≡ resent_image
+resent-image = refl
+
+pub returns-clause-sent_again : goal.returns-clause-sent_again
+unfolding digits header_of
+returns-clause-sent_again c = whole-out-by resent_stack resent_script refl resent-allowed (λ _. resent_image) resent-image resent_items resent-trace
+
+-- a command that comes twice, and an answer that is lost and sent again
+abbrev reapplied_script : Script KvCmd
+reapplied_script = record {
+  steps =
+      (2, step.In 0 (cmd.Put (codes "a") (codes "x"))) ∷ (3, step.Tick 0) ∷ (4, step.Deliver 0) ∷ (5, step.Deliver 1) ∷ (6, step.Lose 2)
+      ∷ (7, step.Tick 1) ∷ (8, step.Deliver 5) ∷ [];
+  fault = None;
+}
+
+abbrev reapplied_stack : Play KvCmd (PbOut KvOut) (Step KvCmd)
+reapplied_stack = service_play (service (Through retransmission (Itself stack.KvPbSeq (Through numbering (Backed store))))) 2
+
+reapplied-allowed : reapplied_stack.refused (steps_of reapplied_script) ≡ None
+reapplied-allowed = simp lookups_and_sets
+
+abbrev reapplied_items : List (Item KvCmd (PbOut KvOut))
+reapplied_items =
+    item.Input 0 (cmd.Put (codes "a") (codes "x")) ∷ item.Output 0 (pb.Reply (record { key = codes "a"; after = Some (codes "x"); before = None })) ∷ []
+
+reapplied-trace : reapplied_stack.trace (steps_of reapplied_script) ≡ reapplied_items
+reapplied-trace = simp lookups_and_sets
+
+abbrev reapplied_image : List (Step KvCmd)
+reapplied_image =
+    step.In 0 (cmd.Put (codes "a") (codes "x")) ∷ step.Tick 0 ∷ step.Dup 0 ∷ step.Deliver 0 ∷ step.Dup 0 ∷ step.Deliver 0 ∷ step.Tick 1 ∷ step.Dup 1
+    ∷ step.Deliver 1 ∷ []
+
+reapplied-image : reapplied_stack.image (steps_of reapplied_script) ≡ reapplied_image
+reapplied-image = simp lookups_and_sets
+
+pub returns-clause-applied_again : goal.returns-clause-applied_again
+unfolding digits header_of
+returns-clause-applied_again c =
+    whole-out-by reapplied_stack reapplied_script refl reapplied-allowed (λ _. reapplied_image) reapplied-image reapplied_items reapplied-trace
 
 -- each command of a machine alone is answered at once
 abbrev alone_script : Script KvCmd

@@ -22,3 +22,7 @@ returns-clause-mirror_text c = refl
 pub returns-clause-fifo_text : goal.returns-clause-fifo_text
 unfolding digits
 returns-clause-fifo_text c = refl
+
+pub returns-clause-retried_text : goal.returns-clause-retried_text
+unfolding digits
+returns-clause-retried_text c = refl

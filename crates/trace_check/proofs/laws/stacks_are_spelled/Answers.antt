@@ -9,13 +9,13 @@ use Rattle.trace_check.specs.Spelled.{IsSpelledKind}
 use Rattle.trace_check.proofs.Locks.{locks-spelled}
 use Rattle.trace_check.proofs.LockTable.{table-spelled}
 use Rattle.trace_check.proofs.Mirrors.{mirrors-spelled}
-use Rattle.trace_check.proofs.Stays.{numbering-stays, ordering-stays}
+use Rattle.trace_check.proofs.Stays.{numbering-stays, ordering-stays, retransmission-stays}
 use Rattle.trace_check.proofs.Store.{store-spelled}
 use Rattle.trace_check.proofs.laws.stacks_are_spelled.Goals as goal
 
 spelled : (i : StackId) → IfFound (kind_at (row_of i).net i) IsSpelledKind
 spelled stack.Lock = locks-spelled
-spelled _ = search (locks-spelled, mirrors-spelled, store-spelled, table-spelled, numbering-stays, ordering-stays)
+spelled _ = search (locks-spelled, mirrors-spelled, store-spelled, table-spelled, numbering-stays, ordering-stays, retransmission-stays)
 
 pub returns : goal.returns
 returns c = spelled

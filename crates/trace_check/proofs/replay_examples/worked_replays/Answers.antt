@@ -6,16 +6,25 @@ use Rattle.claim_verdicts.proofs.Lookups.{lookups}
 use Rattle.trace_check.proofs.replay_examples.worked_replays.Goals as goal
 
 pub returns-clause-few_lines : goal.returns-clause-few_lines
-returns-clause-few_lines c = λ same. omega arith
+returns-clause-few_lines c = record { lines = λ same. omega arith; image = λ same. cc }
 
 pub returns-clause-any_lines : goal.returns-clause-any_lines
-returns-clause-any_lines c = λ out same. cc
+returns-clause-any_lines c = λ out lines. record { lines = λ same. cc; image = λ same. cc }
 
 pub returns-clause-most_lines : goal.returns-clause-most_lines
-returns-clause-most_lines c = λ out many same. omega (arith, many)
+returns-clause-most_lines c = λ out many. record { lines = λ same. omega (arith, many); image = λ same. cc }
 
 pub returns-clause-too_many_lines : goal.returns-clause-too_many_lines
-returns-clause-too_many_lines c = λ out many within. let few = within refl in omega (arith, many, few)
+returns-clause-too_many_lines c = λ out many within. let few = within.lines refl in omega (arith, many, few)
+
+pub returns-clause-any_order : goal.returns-clause-any_order
+returns-clause-any_order c = λ out few. record { lines = λ same. omega (arith, few); image = λ same. cc }
+
+pub returns-clause-longest_image : goal.returns-clause-longest_image
+returns-clause-longest_image c = λ out. record { lines = λ same. cc; image = λ same. omega arith }
+
+pub returns-clause-too_long_an_image : goal.returns-clause-too_long_an_image
+returns-clause-too_long_an_image c = λ out within. let few = within.image refl in omega (arith, few)
 
 pub returns-clause-lock : goal.returns-clause-lock
 unfolding digits header_of
@@ -48,3 +57,7 @@ returns-clause-mirrored c = refl
 pub returns-clause-copied_in_order : goal.returns-clause-copied_in_order
 unfolding digits header_of
 returns-clause-copied_in_order c = refl
+
+pub returns-clause-sent_again : goal.returns-clause-sent_again
+unfolding digits header_of
+returns-clause-sent_again c = refl

@@ -29,6 +29,12 @@ returns-clause-mirror c = λ bytes. refl
 pub returns-clause-mirror_fifo : goal.returns-clause-mirror_fifo
 returns-clause-mirror_fifo c = λ bytes. refl
 
+pub returns-clause-lock_seq_retry : goal.returns-clause-lock_seq_retry
+returns-clause-lock_seq_retry c = λ bytes. refl
+
+pub returns-clause-kv_pb_seq_retry : goal.returns-clause-kv_pb_seq_retry
+returns-clause-kv_pb_seq_retry c = λ bytes. refl
+
 pub returns-clause-kv_raft : goal.returns-clause-kv_raft
 returns-clause-kv_raft c = λ bytes. refl
 

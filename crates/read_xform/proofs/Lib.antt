@@ -1,0 +1,4 @@
+pub mod Commits
+pub mod Ending
+pub mod Fronts
+pub mod Keeping

@@ -1,0 +1,29 @@
+-- Which rounds messages have, and the reads that may be answered once so much of the log is applied.
+use Rattle.std.specs.Prelude.{ℕ, Bool, not, ◌&&◌, List, [], ◌∷◌, nat_le, length, IsFalse}
+use Rattle.std.specs.List.{filter}
+use Rattle.handler_trait.specs.declared.handlers.TheConstants.{SPENT_MAX}
+use Rattle.vst_base.specs.Elections.{is_majority}
+use Rattle.raft_types.specs.declared.msg.RaftMsg.{RaftMsg}
+use Rattle.raft_types.specs.declared.msg.RaftMsg.TheVariants as msg
+use Rattle.raft_reads.specs.Reads.{Reads, Waiting, in_round}
+
+-- the greatest round of a message: a vote has none, nor has who asks for one
+abbrev pub greatest_round : {C : Type 0} → RaftMsg C → ℕ
+greatest_round (msg.RequestVote r) = 0
+greatest_round (msg.Vote v) = 0
+greatest_round (msg.Append a) = SPENT_MAX
+greatest_round (msg.Appended a) = SPENT_MAX
+
+module _ {C : Type 0} where
+  -- a read may be answered at this leader, which has applied so much of its log
+  abbrev pub may_answer : ℕ → ℕ → Reads C → Waiting C → Bool
+  may_answer me applied r x = is_majority (length r.acked) (in_round me r x.round) && nat_le x.read_index applied
+
+  -- the first of these, if there is one, may not be answered
+  abbrev pub IsBlocked : (Waiting C → Bool) → List (Waiting C) → Type 0
+  IsBlocked ready [] = Unit {0}
+  IsBlocked ready (x ∷ xs) = IsFalse (ready x)
+
+  -- without those of its waiting reads that may be answered
+  abbrev pub without : (Waiting C → Bool) → Reads C → Reads C
+  without ready r = record { round = r.round; acked = r.acked; waiting = filter (λ x. not (ready x)) r.waiting }

@@ -1,0 +1,4 @@
+pub mod Exchanging
+pub mod Reaching
+pub mod Tearing
+pub mod Trails

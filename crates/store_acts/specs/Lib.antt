@@ -1,0 +1,3 @@
+pub mod StoreActs
+pub mod PendingAreas
+pub mod Examples
