@@ -11,7 +11,7 @@ abbrev pub number : ℕ → Session (Unit {0})
 number request = record { request = request; output = tt }
 
 abbrev pub nothing : OrderView ℕ
-nothing = record { entries = 0; sessions = empty; requests = [] }
+nothing = record { entries = 0; sessions = empty; requests = []; indexes = [] }
 
 -- two clients and a no-op; 7 begins with number 0, asks it again with another command, and goes on past a number
 abbrev pub five_entries : List (Entry ℕ)
@@ -22,6 +22,7 @@ kept_of_five = record {
   entries = 5;
   sessions = insert (insert (insert empty 7 (number 0)) 9 (number 5)) 7 (number 2);
   requests = asked 7 0 3 ∷ asked 9 5 1 ∷ asked 7 2 5 ∷ [];
+  indexes = 1 ∷ 4 ∷ 5 ∷ [];
 }
 
 -- 9 asks late
@@ -37,4 +38,5 @@ kept_of_another = record {
   entries = 6;
   sessions = insert kept_of_five.sessions 9 (number 6);
   requests = kept_of_five.requests ++ asked 9 6 2 ∷ [];
+  indexes = kept_of_five.indexes ++ 6 ∷ [];
 }

@@ -25,6 +25,8 @@ pub fn worked_orders()
         five_entries }
     ensures not_in_another_order { ¬ HasFollowed (record kept_of_five { requests = asked 9 5 1 ∷ asked 7 0 3 ∷ asked 7 2 5 ∷ [] })
         five_entries }
+    ensures not_from_zero { ¬ HasFollowed (record kept_of_five { indexes = 0 ∷ 3 ∷ 4 ∷ [] }) five_entries }
+    ensures not_by_places_among_the_executed { ¬ HasFollowed (record kept_of_five { indexes = 1 ∷ 2 ∷ 3 ∷ [] }) five_entries }
     ensures one_more_is_late { with_entry kept_of_five (Some (asked 9 4 8)) ≡ kept_of_six }
     ensures one_more_is_a_noop { with_entry kept_of_five None ≡ kept_of_six }
     ensures one_more_is_new { with_entry kept_of_five (Some (asked 9 6 2)) ≡ kept_of_another }

@@ -7,9 +7,26 @@ ghost use Rattle.lists.specs.Prefixes.{IsPrefix};
 use crate::AppliedOrder;
 use raft_xform::{Raft, RaftState};
 use std::alloc::{AllocError, Global};
-use vst_base::Machine;
+use vst_base::{Entry, Machine};
 
 impl<C: Drop> AppliedOrder<C> {
+    /// Adds of these entries, which are applied, those that stand after the ones that there are. After an `Err` the order is given up.
+    pub fn grow<M: Machine<Cmd = C>>(
+        &mut self,
+        alloc: Global,
+        machine: &M,
+        applied: &[Entry<C>],
+    ) -> Result<(), AllocError>
+        requires { length applied.now ≤ u32.MAX }
+        ensures { OnOk result ((all es : List (EntryView C)) → IsPrefix es all → IsPrefix applied.now all
+            → HasFollowed self.old es → HasFollowed self.new (longer es applied.now)) }
+    {
+        for i in self.entries() as usize..applied.len() {
+            self.add(alloc, machine, &applied[i])?;
+        }
+        Ok(())
+    }
+
     /// Adds what a node has applied after the entries that there are. After an `Err` the order is given up.
     pub fn catch_up<M: Machine<Cmd = C>>(
         &mut self,
@@ -21,9 +38,7 @@ impl<C: Drop> AppliedOrder<C> {
         ensures { OnOk result ((all es : List (EntryView C)) → IsPrefix es all → IsPrefix (applied_list state.now) all
             → HasFollowed self.old es → HasFollowed self.new (longer es (applied_list state.now))) }
     {
-        for i in self.entries()..cluster.applied(state) {
-            self.add(alloc, cluster.machine(), cluster.entry(state, i + 1))?;
-        }
-        Ok(())
+        let applied = cluster.applied(state) as usize;
+        self.grow(alloc, cluster.machine(), &state.log()[..applied])
     }
 }

@@ -11,12 +11,13 @@ use vst_base::{Entry, Machine, What};
 
 /// What a cluster has applied so far, the longest list of entries that one of its nodes had applied at any
 /// moment: how many entries, each client's last request in them that was executed, and the executed requests
-/// in order. Contracts see the record of these.
+/// in order, each with the index of its entry. Contracts see the record of these.
 #[derive(Drop)]
 pub struct AppliedOrder<C> {
     entries: u32,
     sessions: Sessions<()>,
     requests: Vec<RaftInput<C>>,
+    indexes: Vec<u32>,
 }
 
 impl<C> Model for AppliedOrder<C> {
@@ -30,6 +31,7 @@ impl<C> Model for AppliedOrder<C> {
       entries = o.entries;
       sessions = o.sessions;
       requests = o.requests.items;
+      indexes = o.indexes.items;
     } };
 }
 
@@ -42,6 +44,7 @@ impl<C: Drop> AppliedOrder<C> {
             entries: 0,
             sessions: Sessions::new(alloc),
             requests: Vec::new(alloc),
+            indexes: Vec::new(alloc),
         }
     }
 
@@ -70,6 +73,7 @@ impl<C: Drop> AppliedOrder<C> {
                         request: *request,
                         cmd: machine.copy_cmd(alloc, cmd)?,
                     })?;
+                    self.indexes.push(self.entries + 1)?;
                 }
             }
         }
@@ -114,5 +118,13 @@ impl<C: Drop> AppliedOrder<C> {
         ensures { result.items ≡ self.requests }
     {
         self.requests
+    }
+
+    /// Gives up the order for the executed requests and the indexes of their entries, from 1, in order.
+    pub fn into_indexed(self) -> (Vec<u32>, Vec<RaftInput<C>>)
+        ensures indexes { result.0.items ≡ self.indexes }
+        ensures requests { result.1.items ≡ self.requests }
+    {
+        (self.indexes, self.requests)
     }
 }

@@ -45,10 +45,15 @@ IsGivenUpTo left left' line = IfSome left (λ bytes. (given : List ℕ) × Gave 
 abbrev RefusesClaim : StackId → ℕ → Why → List ℕ → Type 0
 RefusesClaim stack line why bytes = checked stack bytes ≡ Err (line, why)
 
+-- what follows of a part of what a text comes to, where it is told what that is
+as-told : {A B : Type 0} (f : List ℕ → B) (b : B) (left : Option (List ℕ)) (part : B → A) → IfSome left (λ bytes. f bytes ≡ b) → IfSome left (λ bytes. part (f bytes) ≡ part b)
+as-told f b None part told = tt
+as-told f b (Some bytes) part told = ap part told
+
 -- what is told of its answer
 claim-as : {A : Type 0} (stack : StackId) (line : ℕ) (why : Why) (left : Option (List ℕ)) (part : Result Verdict (ℕ × Why) → A) → IfSome left (RefusesClaim stack line why)
     → IfSome left (λ bytes. part (checked stack bytes) ≡ part (Err (line, why)))
-claim-as stack line why left part told = if_some_weaker left (λ bytes e. ap part e) told
+claim-as stack line why left part told = as-told (checked stack) (Err (line, why)) left part told
 
 claim-ahead : (left left' : Option (List ℕ)) (line : ℕ) (why : Why) → IfSome left (λ bytes. LooksAhead left' bytes (claim.Refused line why)) → IsGivenUpTo left left' line
 claim-ahead None left' line why ahead = tt
@@ -102,6 +107,11 @@ line-ahead (Some bytes) left' out out' line why told = (
   subst (λ n. length told.given ≤ decided n bytes + 4096) (minus-none line) told.ahead,
 )
 
+-- which line it was
+line-told : (r : Run) (line : ℕ) (why : Why) (left : Option (List ℕ)) → IfSome left (RefusesLine r line why) → IfSome left (λ bytes. (replayed bytes).refused ≡ Some (line, why))
+line-told r line why None told = tt
+line-told r line why (Some bytes) told = told.refused
+
 -- and its line was said
 pub line-refused : (r : Run) (line : ℕ) (why : Why) → IfSome r.before.input.left (RefusesLine r line why)
     → Gained r.before.err.written r.after.err.written (refusal_line line why) → IsQuiet r → IsLineRefused (Some command.Replay) r
@@ -109,8 +119,8 @@ line-refused r line why told said quiet = record {
   line = line;
   why = why;
   reading = refl;
-  status = if_some_weaker r.before.input.left (λ bytes t. ap refusal_status t.refused) told;
-  named = if_some_weaker r.before.input.left (λ bytes t. ap refusal_text t.refused) told;
+  status = as-told (λ bytes. (replayed bytes).refused) (Some (line, why)) r.before.input.left refusal_status (line-told r line why r.before.input.left told);
+  named = as-told (λ bytes. (replayed bytes).refused) (Some (line, why)) r.before.input.left refusal_text (line-told r line why r.before.input.left told);
   ahead = line-ahead r.before.input.left r.after.input.left r.before.out.written r.after.out.written line why told;
   out = if_some_weaker r.before.input.left (λ bytes t. t.written) told;
   verdict = tt;

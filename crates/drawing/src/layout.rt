@@ -3,6 +3,9 @@ ghost use Rattle.std.specs.Prelude.{◌≤◌};
 /// The width of the page, in pixels.
 pub const WIDTH: u32 = 900;
 
+/// How many rows stand between one line of the nodes' names and the next.
+pub const NAMES: u16 = 40;
+
 /// Where the lines of the nodes begin, below their names.
 pub const TOP: u32 = 64;
 

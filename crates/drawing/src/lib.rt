@@ -5,12 +5,14 @@
 mod escaping;
 mod examples;
 mod layout;
+mod legend;
 mod parts;
 mod picture;
 mod svg;
+mod ways;
 mod words;
 
 pub use escaping::push_escaped;
 pub use examples::worked;
-pub use parts::{Arrow, Bar, BarKind, Mark, Picture, Row, Spot};
+pub use parts::{Arrow, Bar, BarKind, Mark, Picture, Row, Spot, Stub};
 pub use picture::{MOST_ROWS, svg_of};

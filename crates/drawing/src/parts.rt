@@ -36,12 +36,21 @@ pub struct Row {
     pub told: Vec<u8>,
 }
 
-/// The way of a packet from one place to another, where the mark of its row says what becomes of it.
+/// The way of a packet from one place to another, where the mark of its row says what becomes of it, and the packet's number.
 #[derive(Clone, Copy)]
 pub struct Arrow {
     pub from: Spot,
     pub to: Spot,
     pub mark: Mark,
+    pub packet: u32,
+}
+
+/// A packet that is still in flight when the steps end: where it was sent, the column of its destination, and its number.
+#[derive(Clone, Copy)]
+pub struct Stub {
+    pub from: Spot,
+    pub to: u16,
+    pub packet: u32,
 }
 
 /// What a bar along the line of a node says of it.
@@ -62,14 +71,15 @@ pub struct Bar {
     pub kind: BarKind,
 }
 
-/// A picture of a run: its title, how many nodes there are, its steps, the ways of packets, the bars, and how many steps more are not
-/// drawn.
+/// A picture of a run: its title, how many nodes there are, its steps, the ways of packets, those that are still in flight, the bars, and
+/// how many steps more are not drawn.
 #[derive(Drop)]
 pub struct Picture {
     pub title: Vec<u8>,
     pub nodes: u8,
     pub rows: Vec<Row>,
     pub arrows: Vec<Arrow>,
+    pub stubs: Vec<Stub>,
     pub bars: Vec<Bar>,
     pub undrawn: u64,
 }

@@ -1,7 +1,9 @@
-use crate::layout::{TOP, WIDTH, x_of, y_of};
+use crate::layout::{NAMES, TOP, WIDTH, x_of, y_of};
+use crate::legend::push_legend;
 use crate::svg::{push, push_head, push_number, push_shape, push_text};
+use crate::ways::{push_arrows, push_line, push_stubs};
 use crate::words::push_words;
-use crate::{Arrow, Bar, BarKind, Mark, Picture, Row};
+use crate::{Bar, BarKind, Mark, Picture, Row};
 use std::alloc::{AllocError, Global};
 
 /// How many rows are drawn at most, so that their places fit.
@@ -13,27 +15,29 @@ const LABEL: u32 = 14;
 // How long a title is at most.
 const TITLE: u32 = 100;
 
-// The line of a node, with its name.
-fn push_life(out: &mut Vec<u8>, nodes: u8, node: u8, bottom: u32) -> Result<(), AllocError> {
+// How far above the middle of a row the names of the nodes stand.
+const NAME_ABOVE: u32 = 24;
+
+// The name of a node above its line.
+fn push_name(out: &mut Vec<u8>, nodes: u8, node: u8, y: u32) -> Result<(), AllocError> {
     let x = x_of(nodes, u16::from(node) * 2);
     let mut name = b"node ".to_vec(*out.allocator())?;
     push_number(&mut name, u64::from(node))?;
-    push_text(out, "text class=\"node\"", (x, TOP - 12), &name, LABEL)?;
-    push_line(out, "line class=\"life\"", (x, TOP), (x, bottom))
+    push_text(out, "text class=\"node\"", (x, y), &name, LABEL)
 }
 
-// A line between two places.
-fn push_line(
-    out: &mut Vec<u8>,
-    look: &str,
-    from: (u32, u32),
-    to: (u32, u32),
-) -> Result<(), AllocError> {
-    push_shape(
-        out,
-        look,
-        &[("x1", from.0), ("y1", from.1), ("x2", to.0), ("y2", to.1)],
-    )
+// The names of all nodes in a line.
+fn push_names(out: &mut Vec<u8>, nodes: u8, y: u32) -> Result<(), AllocError> {
+    for node in 0..nodes {
+        push_name(out, nodes, node, y)?;
+    }
+    Ok(())
+}
+
+// The line of a node.
+fn push_life(out: &mut Vec<u8>, nodes: u8, node: u8, bottom: u32) -> Result<(), AllocError> {
+    let x = x_of(nodes, u16::from(node) * 2);
+    push_line(out, "line class=\"life\"", (x, TOP), (x, bottom))
 }
 
 // A bar along the line of a node.
@@ -52,19 +56,8 @@ fn push_bar(out: &mut Vec<u8>, nodes: u8, bar: &Bar) -> Result<(), AllocError> {
     )
 }
 
-// The way of a packet.
-fn push_arrow(out: &mut Vec<u8>, nodes: u8, arrow: &Arrow) -> Result<(), AllocError> {
-    let look = match arrow.mark {
-        Mark::Delivery => "line class=\"sent\"",
-        _ => "line class=\"gone\"",
-    };
-    let from = (x_of(nodes, arrow.from.column), y_of(arrow.from.row));
-    let to = (x_of(nodes, arrow.to.column), y_of(arrow.to.row));
-    push_line(out, look, from, to)
-}
-
-// The mark of a step.
-fn push_mark(out: &mut Vec<u8>, mark: Mark, x: u32, y: u32) -> Result<(), AllocError> {
+/// The mark of a step.
+pub(crate) fn push_mark(out: &mut Vec<u8>, mark: Mark, x: u32, y: u32) -> Result<(), AllocError> {
     let look = match mark {
         Mark::Input => "use href=\"#input\"",
         Mark::Delivery => "use href=\"#delivery\"",
@@ -115,26 +108,22 @@ fn push_bars(out: &mut Vec<u8>, nodes: u8, bars: &[Bar]) -> Result<(), AllocErro
     Ok(())
 }
 
-// The ways of the packets.
-fn push_arrows(out: &mut Vec<u8>, nodes: u8, arrows: &[Arrow]) -> Result<(), AllocError> {
-    for arrow in arrows {
-        push_arrow(out, nodes, arrow)?;
-    }
-    Ok(())
-}
-
 // What lies below the steps.
 fn push_ground(out: &mut Vec<u8>, picture: &Picture, rows: u16) -> Result<(), AllocError> {
     push_rules(out, rows)?;
     push_lives(out, picture.nodes, rows)?;
     push_bars(out, picture.nodes, &picture.bars)?;
+    push_stubs(out, picture.nodes, &picture.stubs)?;
     push_arrows(out, picture.nodes, &picture.arrows)
 }
 
-// The steps, one below the other.
+// The steps, one below the other, with the names of the nodes above each page of them.
 fn push_rows(out: &mut Vec<u8>, nodes: u8, rows: &[Row]) -> Result<(), AllocError> {
     let mut place = 0;
     for row in rows {
+        if place % NAMES == 0 {
+            push_names(out, nodes, y_of(place).saturating_sub(NAME_ABOVE))?;
+        }
         push_row(out, nodes, row, place)?;
         place = place.saturating_add(1);
     }
@@ -159,7 +148,7 @@ pub fn svg_of(alloc: Global, picture: &Picture) -> Result<Vec<u8>, AllocError> {
     let (drawn, past) = picture.rows.split_at(picture.rows.len().min(MOST_ROWS));
     let rows = drawn.len() as u16;
     let bottom = y_of(rows);
-    push_head(&mut out, WIDTH, bottom + 30)?;
+    push_head(&mut out, &picture.title, WIDTH, bottom + 56)?;
     push_text(
         &mut out,
         "text class=\"title\"",
@@ -171,6 +160,7 @@ pub fn svg_of(alloc: Global, picture: &Picture) -> Result<Vec<u8>, AllocError> {
     push_rows(&mut out, picture.nodes, drawn)?;
     let undrawn = picture.undrawn.saturating_add(past.len() as u64);
     push_undrawn(&mut out, undrawn, bottom + 16)?;
+    push_legend(&mut out, bottom + 40)?;
     push(&mut out, "</svg>\n")?;
     Ok(out)
 }

@@ -26,8 +26,11 @@ text{paint-order:stroke;stroke:#fff;stroke-width:4px;stroke-linejoin:round;fill:
 .row{stroke:#f0f0f0}
 .down{fill:#ddd;stroke:#999}
 .leads{fill:#f6c344}
-.sent{stroke:#2166ac;marker-end:url(#tip)}
-.gone{stroke:#2166ac;stroke-dasharray:4 3}
+.sent{stroke:#2166ac;fill:none;marker-end:url(#tip)}
+.gone{stroke:#2166ac;fill:none;stroke-dasharray:4 3}
+.flies{stroke:#92c5de;stroke-dasharray:1 3}
+.packet{fill:#4393c3;font-size:9px;text-anchor:middle}
+.key{fill:#666}
 </style>
 <rect width=\"100%\" height=\"100%\" fill=\"#fff\"/>
 ";
@@ -57,15 +60,56 @@ fn open(out: &mut Vec<u8>, name: &str, attributes: &[(&str, u32)]) -> Result<(),
     Ok(())
 }
 
-/// Adds the head of a picture of this width and height.
-pub(crate) fn push_head(out: &mut Vec<u8>, width: u32, height: u32) -> Result<(), AllocError> {
+// Adds an element that shows this text where a reader points at what it stands in.
+fn push_title(out: &mut Vec<u8>, text: &[u8]) -> Result<(), AllocError> {
+    push(out, "<title>")?;
+    push_escaped(out, text)?;
+    push(out, "</title>")
+}
+
+/// Adds the head of a picture of this title, width and height.
+pub(crate) fn push_head(
+    out: &mut Vec<u8>,
+    title: &[u8],
+    width: u32,
+    height: u32,
+) -> Result<(), AllocError> {
     open(
         out,
         "svg xmlns=\"http://www.w3.org/2000/svg\" font-family=\"DejaVu Sans Mono, Menlo, Consolas, monospace\" font-size=\"11\"",
         &[("width", width), ("height", height)],
     )?;
-    push(out, ">\n")?;
+    push(out, " viewBox=\"0 0 ")?;
+    push_place(out, (width, height))?;
+    push(out, "\">\n")?;
+    push_title(out, title)?;
+    push(out, "\n")?;
     push(out, STYLE)
+}
+
+// Adds a place, or a width and a height.
+fn push_place(out: &mut Vec<u8>, place: (u32, u32)) -> Result<(), AllocError> {
+    push_number(out, u64::from(place.0))?;
+    push(out, " ")?;
+    push_number(out, u64::from(place.1))
+}
+
+/// Adds a curve of this look from a place to another, which is drawn towards a third.
+pub(crate) fn push_curve(
+    out: &mut Vec<u8>,
+    look: &str,
+    from: (u32, u32),
+    towards: (u32, u32),
+    to: (u32, u32),
+) -> Result<(), AllocError> {
+    open(out, look, &[])?;
+    push(out, " d=\"M")?;
+    push_place(out, from)?;
+    push(out, "Q")?;
+    push_place(out, towards)?;
+    push(out, " ")?;
+    push_place(out, to)?;
+    push(out, "\"/>\n")
 }
 
 /// Adds an element of this name, with these attributes and nothing within.
@@ -78,7 +122,7 @@ pub(crate) fn push_shape(
     push(out, "/>\n")
 }
 
-/// Adds a text of this look at a place, and dots in place of what comes after so many characters.
+/// Adds a text of this look at a place, and dots in place of what comes after so many characters, which a reader sees who points at it.
 pub(crate) fn push_text(
     out: &mut Vec<u8>,
     look: &str,
@@ -92,6 +136,7 @@ pub(crate) fn push_text(
     if text.len() > most {
         push_escaped(out, &text[..most.saturating_sub(2)])?;
         push(out, "..")?;
+        push_title(out, text)?;
     } else {
         push_escaped(out, text)?;
     }

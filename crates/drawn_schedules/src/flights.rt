@@ -1,6 +1,6 @@
 use crate::Sent;
 use crate::columns::column_of;
-use drawing::{Mark, Spot};
+use drawing::{Mark, Spot, Stub};
 use std::alloc::{AllocError, Global};
 
 /// A packet that was sent: its two ends, the row in which it was, what it says, and where its copies were made that are not drawn yet.
@@ -67,8 +67,32 @@ impl Flight {
         }
     }
 
+    // The beginning of its way, if no step brought a copy of it to an end.
+    fn stub(&self, packet: u32) -> Option<Stub> {
+        if self.is_drawn {
+            return None;
+        }
+        Some(Stub {
+            from: self.from,
+            to: self.to,
+            packet,
+        })
+    }
+
     /// What it says.
     pub(crate) fn words(&self, alloc: Global) -> Result<Vec<u8>, AllocError> {
         self.words.to_vec(alloc)
     }
+}
+
+/// Adds the packets of which no copy was delivered or lost, with their numbers.
+pub(crate) fn add_stubs(stubs: &mut Vec<Stub>, flights: &[Flight]) -> Result<(), AllocError> {
+    let mut packet = 0u32;
+    for flight in flights {
+        if let Some(stub) = flight.stub(packet) {
+            stubs.push(stub)?;
+        }
+        packet = packet.saturating_add(1);
+    }
+    Ok(())
 }

@@ -45,6 +45,7 @@ impl Gathered {
                 nodes,
                 rows: Vec::new(alloc),
                 arrows: Vec::new(alloc),
+                stubs: Vec::new(alloc),
                 bars: Vec::new(alloc),
                 undrawn: 0,
             },
@@ -84,7 +85,12 @@ impl Gathered {
         drawn.column = to.column;
         drawn.from = from.column;
         drawn.heard = flight.words(self.alloc)?;
-        self.picture.arrows.push(Arrow { from, to, mark })?;
+        self.picture.arrows.push(Arrow {
+            from,
+            to,
+            mark,
+            packet: k,
+        })?;
         Ok(drawn)
     }
 

@@ -1,3 +1,4 @@
+use crate::flights::add_stubs;
 use crate::gathered::Gathered;
 use crate::words::{push_comma, push_numbered};
 use crate::{Leads, Told};
@@ -100,7 +101,7 @@ impl Gathered {
         Ok(())
     }
 
-    /// The picture, where the bars that are left end in the last row.
+    /// The picture, where the bars that are left end in the last row, with the packets that are still in flight.
     pub(crate) fn finish(mut self) -> Result<Picture, AllocError> {
         let last = self.row();
         let mut node = 0u8;
@@ -108,6 +109,7 @@ impl Gathered {
             life.end(&mut self.picture.bars, node, last)?;
             node = node.saturating_add(1);
         }
+        add_stubs(&mut self.picture.stubs, &self.flights)?;
         Ok(self.picture)
     }
 }

@@ -1,15 +1,15 @@
 -- Channels, after one packet more.
 use Rattle.std.specs.Prelude.{◌≡◌, ◌≢◌, ℕ, suc, ◌+◌, ◌-◌, ◌<◌, ◌⊎◌, Bool, true, false, cond, List, [], ◌∷◌, ◌++◌, length, map, take, count_by, Some, option_map, slice_get, if◌then◌else◌}
-use Rattle.std.proofs.Common.{ap, arith, eqb, inl, inr, refl, set, sym, ◌∙◌}
+use Rattle.std.proofs.Common.{ap, arith, eqb, inl, inr, refl, sym, ◌∙◌}
 use Rattle.std.proofs.lemmas.Bool.{cases_eq, eq-eqb, ne_eqb}
 use Rattle.std.proofs.lemmas.Bool.Decides.{nat_tests}
-use Rattle.std.proofs.lemmas.List.{get_or-set_other, length-append, length-map, map-append, take-append-le, take_at}
-use Rattle.std.proofs.lemmas.Grind.{get_or-set_at}
+use Rattle.std.proofs.lemmas.List.{length-append, length-map, map-append, take-append-le, take_at}
 use Rattle.std.proofs.lemmas.List.Sums.{sum_by-cons}
 use Rattle.std.proofs.lemmas.Option.{slice_get_past}
 use Rattle.lanes.specs.Lanes.{is_same, lane}
 use Rattle.lists.specs.Places.{slice_get-front, slice_get_last}
-use Rattle.fifo_observer.specs.Channels.{Follows, channel, kept_of, number_of}
+use Rattle.fifo_observer.specs.Channels.{Follows, channel, number_of}
+use Rattle.observer_parts.specs.PacketLists.{list_at}
 
 -- a channel has as many packets as go on it
 pub length-channel : (e : ℕ × ℕ) (xs : List (ℕ × ℕ)) → length (channel e xs) ≡ count_by (is_same e) xs
@@ -57,23 +57,22 @@ numbers-push ns es e n count is each k = elim (cases_eq k (length es)) [
 same-lane : (s d t u : ℕ) → d < 256 → u < 256 → is_same (t, u) (s, d) ≡ eqb (lane t u) (lane s d)
 same-lane s d t u fits fits2 = grind (arith, nat_tests)
 
--- what is kept, after one packet more, whose channel has a list
-pub follows-more : (lists ks : List (List ℕ)) (ns : List ℕ) (es : List (ℕ × ℕ)) (s d place n k : ℕ) → s < 256 → d < 256 → place ≡ lane s d → place < length ks
-    → ((j : ℕ) → kept_of ks j ≡ kept_of lists j) → n ≡ length (kept_of ks place) → k ≡ length ns
-    → Follows (record { lists = lists; numbers = ns }) es
-    → Follows (record { lists = set ks place (kept_of ks place ++ k ∷ []); numbers = ns ++ n ∷ [] }) (es ++ (s, d) ∷ [])
-follows-more lists ks ns es s d place n k source destination is there same number next f =
-    let here : kept_of ks place ≡ channel (s, d) es = same place ∙ (ap (kept_of lists) is ∙ f.lists s d source destination) in
+-- what is kept, after one packet more
+pub follows-more : (lists longer : List (List ℕ)) (ns : List ℕ) (es : List (ℕ × ℕ)) (s d place n k : ℕ) → s < 256 → d < 256 → place ≡ lane s d
+    → list_at longer place ≡ list_at lists place ++ k ∷ [] → ((j : ℕ) → j ≢ place → list_at longer j ≡ list_at lists j)
+    → n ≡ length (list_at lists place) → k ≡ length ns → Follows (record { lists = lists; numbers = ns }) es
+    → Follows (record { lists = longer; numbers = ns ++ n ∷ [] }) (es ++ (s, d) ∷ [])
+follows-more lists longer ns es s d place n k source destination is more others number next f =
+    let here : list_at lists place ≡ channel (s, d) es = ap (list_at lists) is ∙ f.lists s d source destination in
     record {
       count = omega (arith, f.count, length-append ns (n ∷ []), length-append es ((s, d) ∷ []));
       numbers = numbers-push ns es (s, d) n f.count (number ∙ (ap length here ∙ length-channel (s, d) es)) f.numbers;
       lists = λ t u fits fits2. rw (channel-push (t, u) es (s, d), same-lane s d t u destination fits2) (by-lane t u fits fits2 (cases_eq (lane t u) (lane s d)));
     }
   where
-    by-lane : (t u : ℕ) → t < 256 → u < 256 → (lane t u ≡ lane s d) ⊎ (lane t u ≢ lane s d) → kept_of (set ks place (kept_of ks place ++ k ∷ [])) (lane t u) ≡ (if eqb (lane t u) (lane s d) then channel (t, u) es ++ length es ∷ [] else channel (t, u) es)
+    by-lane : (t u : ℕ) → t < 256 → u < 256 → (lane t u ≡ lane s d) ⊎ (lane t u ≢ lane s d) → list_at longer (lane t u) ≡ (if eqb (lane t u) (lane s d) then channel (t, u) es ++ length es ∷ [] else channel (t, u) es)
     by-lane t u fits fits2 (inl same_lane) =
         let at : lane t u ≡ place = same_lane ∙ sym is in
-        rw (eq-eqb (lane t u) (lane s d) same_lane) (get_or-set_at ks place (lane t u) _ [] at there ∙ (ap (λ xs. xs ++ k ∷ []) (ap (kept_of ks) (sym at) ∙ (same (lane t u) ∙ f.lists t u fits fits2)) ∙ ap (λ n. channel (t, u) es ++ n ∷ []) (next ∙ f.count)))
+        rw (eq-eqb (lane t u) (lane s d) same_lane) (ap (list_at longer) at ∙ (more ∙ (ap (λ xs. xs ++ k ∷ []) (ap (list_at lists) (sym at) ∙ f.lists t u fits fits2) ∙ ap (λ n. channel (t, u) es ++ n ∷ []) (next ∙ f.count))))
     by-lane t u fits fits2 (inr other) =
-        let elsewhere : lane t u ≢ place = λ at. other (at ∙ is) in
-        rw (ne_eqb (lane t u) (lane s d) other) (get_or-set_other ks place (lane t u) _ [] elsewhere ∙ (same (lane t u) ∙ f.lists t u fits fits2))
+        rw (ne_eqb (lane t u) (lane s d) other) (others (lane t u) (λ at. other (at ∙ is)) ∙ f.lists t u fits fits2)

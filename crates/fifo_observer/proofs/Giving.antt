@@ -4,9 +4,9 @@ use Rattle.std.specs.Bool.{then_some}
 use Rattle.std.proofs.Common.{ap, arith, refl, subst, sym, ◌∙◌}
 use Rattle.std.proofs.lemmas.Option.{cond_some, none-some, same_Some}
 use Rattle.handler_trait.specs.Handling.{Meaning, Recovery}
-use Rattle.net_semantics.specs.Runs.{IsAllowed, first_refused_from, no_recovery, run, run_from}
-use Rattle.net_semantics.specs.RunLaws.{place_and_why-none}
-use Rattle.net_semantics.specs.Steps.{fails, next, refusal_of, refusals}
+use Rattle.net_semantics.specs.Runs.{IsAllowed, no_recovery, run}
+use Rattle.observer_parts.specs.PartLaws.{allowed-before}
+use Rattle.net_semantics.specs.Steps.{fails, refusals}
 use Rattle.net_semantics.specs.Worlds.{Packet, World, ends, ends_of, first_world}
 use Rattle.vst_base.specs.declared.net.Net.{Net}
 use Rattle.vst_base.specs.declared.seq.SeqMsg.{SeqMsg}
@@ -19,15 +19,6 @@ use Rattle.fifo_xform.specs.Peers.{peer_of, ready, ready_number}
 use Rattle.fifo_observer.specs.Channels.{ends_in, number_of, packet_with}
 use Rattle.fifo_observer.proofs.Numbers.{number-is, turn-with}
 use Rattle.fifo_observer.proofs.Worlds.{AreNumbered, are-numbered, holds-at, none-applies}
-
--- where no step is refused, neither those before the last one are, nor that
-allowed-parts : {S K I O M : Type 0} (net : Net) (m : Meaning S I O M) (r : Recovery S K) (ss : List (Step I)) (s : Step I) (w : World S K M) → first_refused_from net m r w (ss ++ s ∷ []) ≡ None
-    → (first_refused_from net m r w ss ≡ None) × (refusal_of net m (run_from m r w ss) s ≡ None)
-allowed-parts net m r [] s w allowed = (refl, (place_and_why-none (refusal_of net m w s) None allowed).0)
-allowed-parts net m r (t ∷ ss) s w allowed =
-    let both = place_and_why-none (refusal_of net m w t) (first_refused_from net m r (next m r w t) (ss ++ s ∷ [])) allowed in
-    let rest = allowed-parts net m r ss s (next m r w t) both.1 in
-    (rw (both.0, rest.0) refl, rest.1)
 
 -- the node that was found
 pub node-is : (b : Bool) (n node : ℕ) → Some node ≡ (if b then Some n else None) → node ≡ n
@@ -51,7 +42,7 @@ module _ {S I O M : Type 0} (m : Meaning S I O M) (does : Meaning (FifoState S M
   numbered : (s : Step I) → r ≡ no_recovery → IsAllowed net (fifo m) r (ss ++ s ∷ []) → AreNumbered m world
   numbered s same allowed =
       subst (λ x. IsAllowed net (fifo m) x (ss ++ s ∷ []) → AreNumbered m (run (fifo m) x ss)) (sym same)
-      (λ so. are-numbered m net ss (allowed-parts net (fifo m) no_recovery ss s (first_world (fifo m)) so).0) allowed
+      (λ so. are-numbered m net ss (allowed-before net (fifo m) no_recovery ss s (first_world (fifo m)) so).0) allowed
 
   -- packet k comes, whose ends and number are these, and the state of its destination expects it or not
   pub arrival-gives : (k source destination there number : ℕ) (state : FifoState S M) (b : Bool) → r ≡ no_recovery → IsAllowed net (fifo m) r (ss ++ step.Deliver k ∷ [])
@@ -72,7 +63,7 @@ module _ {S I O M : Type 0} (m : Meaning S I O M) (does : Meaning (FifoState S M
   -- a timer fires at a node that exists
   pub ticks-at_node : (n nodes : ℕ) → nodes ≡ m.nodes → IsAllowed net (fifo m) r (ss ++ step.Tick n ∷ []) → None ≢ (if nat_lt n nodes then Some n else None)
   ticks-at_node n nodes nodes_are allowed none =
-      let refused = (allowed-parts net (fifo m) r ss (step.Tick n) (first_world (fifo m)) allowed).1 in
+      let refused = (allowed-before net (fifo m) r ss (step.Tick n) (first_world (fifo m)) allowed).1 in
       let below : nat_lt n m.nodes ≡ true = holds-at (λ x. nat_lt x m.nodes) n (none-applies (refusals net (fifo m) world (step.Tick n)) 1 (refusal.NoSuchNode, fails (Some n) (λ x. nat_lt x m.nodes)) refused refl) in
       none-some n (none ∙ ap (λ b. if b then Some n else None) (ap (nat_lt n) nodes_are ∙ below))
 

@@ -1,9 +1,9 @@
 -- The packets of each channel, the way from one node to another, in the order of sending. Here a packet is its ends, source and
 -- destination.
 use Rattle.std.specs.Prelude.{◌≡◌, ℕ, suc, ◌<◌, List, [], ◌∷◌, length, map, take, count_by, Option, option_map, slice_get, if◌then◌else◌}
-use Rattle.std.proofs.Common.{get_or}
 use Rattle.lanes.specs.Lanes.{is_same, lane}
 use Rattle.net_semantics.specs.Worlds.{Packet}
+use Rattle.observer_parts.specs.PacketLists.{list_at}
 
 -- packets by their ends
 abbrev pub ends_in : {M : Type 0} → List (Packet M) → List (ℕ × ℕ)
@@ -27,12 +27,8 @@ pub record ChannelsView : Type 0 where
   pub lists : List (List ℕ)
   pub numbers : List ℕ
 
--- the packets of one channel, as they are kept
-abbrev pub kept_of : List (List ℕ) → ℕ → List ℕ
-kept_of lists place = get_or lists place []
-
 -- what is kept follows these packets
 pub record Follows (c : ChannelsView) (es : List (ℕ × ℕ)) : Type 0 where
   pub count : length c.numbers ≡ length es
   pub numbers : (k : ℕ) → slice_get c.numbers k ≡ number_of es k
-  pub lists : (s d : ℕ) → s < 256 → d < 256 → kept_of c.lists (lane s d) ≡ channel (s, d) es
+  pub lists : (s d : ℕ) → s < 256 → d < 256 → list_at c.lists (lane s d) ≡ channel (s, d) es

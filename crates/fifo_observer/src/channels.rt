@@ -1,7 +1,8 @@
-ghost use Rattle.std.specs.Prelude.{◌≡◌, ℕ, ◌+◌, ◌<◌, ◌^◌, List, [], ◌∷◌, ◌++◌, length, map, OnOk};
+ghost use Rattle.std.specs.Prelude.{◌≡◌, ℕ, ◌+◌, ◌<◌, ◌^◌, List, [], ◌∷◌, ◌++◌, length, OnOk};
 ghost use Rattle.lanes.specs.Lanes.{lane};
-ghost use Rattle.fifo_observer.specs.Channels.{Follows, kept_of, number_of, packet_with};
+ghost use Rattle.fifo_observer.specs.Channels.{Follows, number_of, packet_with};
 
+use observer_parts::PacketLists;
 use std::alloc::{AllocError, Global};
 use std::marker::Model;
 use vst_base::Node;
@@ -11,18 +12,18 @@ use vst_base::Node;
 #[derive(Drop)]
 pub struct Channels {
     // The packets of each channel, by the number of its lane.
-    lists: Vec<Vec<u32>>,
+    lists: PacketLists,
     // The number of each packet.
     numbers: Vec<u64>,
 }
 
 impl Model for Channels {
-    ghost use Rattle.std.specs.Prelude.{◌<◌, ◌^◌, length, map};
+    ghost use Rattle.std.specs.Prelude.{◌<◌, ◌^◌, length};
     ghost use Rattle.fifo_observer.specs.Channels.{ChannelsView};
 
     ghost Value = { ChannelsView };
 
-    ghost view = { λ c. record { lists = map (λ l. l.items) c.lists.items; numbers = c.numbers.items } };
+    ghost view = { λ c. record { lists = c.lists; numbers = c.numbers.items } };
 
     ghost invariant = { λ c. length c.numbers.items < 2 ^ 32 };
 }
@@ -34,25 +35,13 @@ fn lane(source: u8, destination: u8) -> usize
     256 * usize::from(source) + usize::from(destination)
 }
 
-// Makes a list for a lane, and for each below, empty where there was none.
-fn reach(alloc: Global, lists: &mut Vec<Vec<u32>>, place: usize) -> Result<(), AllocError>
-    ensures there { OnOk result (place < length lists.new.items) }
-    ensures same { OnOk result ((j : ℕ)
-        → kept_of (map (λ l. l.items) lists.new.items) j ≡ kept_of (map (λ l. l.items) lists.old.items) j) }
-{
-    while lists.len() <= place {
-        lists.push(Vec::new(alloc))?;
-    }
-    Ok(())
-}
-
 impl Channels {
     /// No packets yet. It takes no memory.
     pub fn new(alloc: Global) -> Self
         ensures { Follows result [] }
     {
         Channels {
-            lists: Vec::new(alloc),
+            lists: PacketLists::new(alloc),
             numbers: Vec::new(alloc),
         }
     }
@@ -71,11 +60,9 @@ impl Channels {
         ensures len { OnOk result (length self.new.numbers ≡ length self.old.numbers + 1) }
     {
         let packet = self.numbers.len() as u32;
-        let place = lane(source.index(), destination.index());
-        reach(alloc, &mut self.lists, place)?;
-        let list = &mut self.lists[place];
-        let number = list.len() as u64;
-        list.push(packet)?;
+        let lane = lane(source.index(), destination.index());
+        let number = self.lists.len_of(lane) as u64;
+        self.lists.push(alloc, lane, packet)?;
         self.numbers.push(number)?;
         Ok(())
     }
@@ -91,8 +78,7 @@ impl Channels {
     pub fn packet_with(&self, source: Node, destination: Node, number: u64) -> Option<u32>
         ensures { (es : List (ℕ × ℕ)) → Follows self.now es → result ≡ packet_with (source, destination) number es }
     {
-        let place = lane(source.index(), destination.index());
-        let list = self.lists.get(place)?;
-        list.get(number as usize).copied()
+        let lane = lane(source.index(), destination.index());
+        self.lists.get(lane, number as usize)
     }
 }

@@ -24,6 +24,7 @@ pub fn worked()
     ensures too_many { first_of (line_refusals 2000000 2000001 []) ≡ Some Why.TooManyEvents }
     ensures length_first { first_of (line_refusals 2000000 2000001 (replicate 4097 35)) ≡ Some Why.LineTooLong }
     ensures words { (why_text Why.NotFirst ≡ codes "not first") × (why_text Why.NodeBusy ≡ codes "node busy") × (why_text Why.NodeIdle ≡ codes "node idle") }
+    ensures last_word { why_text Why.PairUsed ≡ codes "pair used" }
 {}
 
 /// Where the last newline of some bytes ends, on examples.

@@ -31,4 +31,6 @@ pub enum Why {
     NodeBusy,
     /// The node has no event to go on with.
     NodeIdle,
+    /// The client has asked under this number before, and one of the two requests is a read, where reads take no entry of a log.
+    PairUsed,
 }

@@ -24,6 +24,7 @@ impl Why {
             Why::NotFirst => b"not first",
             Why::NodeBusy => b"node busy",
             Why::NodeIdle => b"node idle",
+            Why::PairUsed => b"pair used",
         }
     }
 }

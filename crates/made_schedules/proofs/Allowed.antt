@@ -4,7 +4,6 @@ use Rattle.std.proofs.Common.{◌∙◌, arith}
 use Rattle.handler_trait.specs.Handling.{Meaning, Recovery}
 use Rattle.net_semantics.specs.Runs.{IsAllowed, no_recovery}
 use Rattle.net_semantics.specs.Worlds.{first_world}
-use Rattle.raft_xform.specs.Raft.{raft, raft_recovery}
 use Rattle.schedule_make.specs.Inputs.{asked_by_client}
 use Rattle.schedule_make.specs.Made.{Inputs, generator, made}
 use Rattle.schedule_make.proofs.Allowed.{all-allowed, as-many, first-has-steps}
@@ -32,15 +31,16 @@ module _ {S K I O M : Type 0} (on : Net) (m : Meaning S I O M) (r : Recovery S K
 
 pub kind-asked : (k : Kind) (n seed steps : ℕ) → length ((makes k n).made seed steps) ≡ steps
 kind-asked (Steady l) n = let s = service l in asked s.net (s.handlers n) (no_recovery {S = s.State}) (layers_make l)
-kind-asked (Clustered p) n = asked net.Fail (raft n p.machine) (raft_recovery p.machine) (asked_by_client p.makes)
+kind-asked (Clustered k) n = asked net.Fail (k.cluster.handlers n) (k.cluster.recovery n) (asked_by_client k.application.makes)
 
 pub kind-allowed : (k : Kind) (n seed steps : ℕ) → KindMakes k → 0 < n → net_of k ≢ net.One
     → (makes k n).plays.play.refused ((makes k n).made seed steps) ≡ None
 kind-allowed (Steady l) n seed steps can some sends =
     let s = service l in
     taken s.net (s.handlers n) (no_recovery {S = s.State}) (layers_make l) seed steps sends (some-nodes l n can.layers some)
-kind-allowed (Clustered p) n seed steps can some sends =
-    taken net.Fail (raft n p.machine) (raft_recovery p.machine) (asked_by_client p.makes) seed steps sends some
+kind-allowed (Clustered k) n seed steps can some sends =
+    let m = k.cluster.handlers n in
+    can.allowed n seed steps (taken net.Fail m (k.cluster.recovery n) (asked_by_client k.application.makes) seed steps sends (omega (arith, can.nodes n, some)))
 
 -- what is so of each kind that is found is so of what is made for it
 pub found-asked : (found : Found Kind) (n seed steps : ℕ) → IfFound found KindMakes

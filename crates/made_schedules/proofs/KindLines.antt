@@ -4,7 +4,6 @@ use Rattle.std.proofs.Common.{arith}
 use Rattle.app_text.specs.Spelling.{IsSpelling}
 use Rattle.net_semantics.specs.Runs.{no_recovery}
 use Rattle.raft_text.specs.RaftTextLaws.{raft_inputs_are_spelled}
-use Rattle.raft_xform.specs.Raft.{raft, raft_recovery}
 use Rattle.schedule_make.specs.Inputs.{asked_by_client}
 use Rattle.schedule_make.specs.Made.{Inputs}
 use Rattle.stacks.specs.Plays.{Found, Here, IfFound, Nowhere, Texts}
@@ -15,7 +14,6 @@ use Rattle.vst_base.specs.declared.node.TheConstants.{MAX_NODES}
 use Rattle.made_schedules.specs.Makes.{AllHaveLines, IsReadBack, KindMakes, LayersMake, MachineMakes, MakesTexts, most_sends}
 use Rattle.made_schedules.specs.Sends.{SendsAtMost}
 use Rattle.made_schedules.specs.Texts.{HaveTexts}
-use Rattle.made_schedules.proofs.RaftSends.{raft-few}
 use Rattle.made_schedules.proofs.Sends.{at-most-more, backup-few, single-few}
 use Rattle.made_schedules.proofs.StepLines.{have-lines}
 use Rattle.made_schedules.proofs.Texts.{of-clients, of-commands}
@@ -76,7 +74,7 @@ cluster-texts p can = by-spelling (raft_texts p.texts) (raft_inputs_are_spelled 
 pub kind-spelled : (k : Kind) (n : ℕ) → KindMakes k
     → IsSpelling (IsReadBack (makes k n).plays.play.texts.input_of (makes k n).plays.play.texts.input_text) (makes k n).plays.play.texts.input_of (makes k n).plays.play.texts.input_text
 kind-spelled (Steady l) n can = (layers-texts l can.layers).spelled
-kind-spelled (Clustered p) n can = (cluster-texts p can).spelled
+kind-spelled (Clustered k) n can = (cluster-texts k.application can.inputs).spelled
 
 -- and its made schedules have lines
 pub kind-lines : (k : Kind) (n : ℕ) → n ≤ MAX_NODES → KindMakes k → AllHaveLines (makes k n)
@@ -84,10 +82,11 @@ kind-lines (Steady l) n few can =
     let s = service l in
     have-lines (IsReadBack s.texts.input_of s.texts.input_text) s.texts.input_text s.net (s.handlers n) (no_recovery {S = s.State}) (layers_make l)
     (few-nodes l n can.layers few) (at-most-more (most_sends l) MAX_NODES (s.handlers n) can.sends (send-few l n can.layers)) (layers-texts l can.layers).texts
-kind-lines (Clustered p) n few can =
+kind-lines (Clustered k) n few can =
+    let p = k.application in
     let t = raft_texts p.texts in
-    have-lines (IsReadBack t.input_of t.input_text) t.input_text net.Fail (raft n p.machine) (raft_recovery p.machine) (asked_by_client p.makes)
-    few (raft-few n p.machine few) (cluster-texts p can).texts
+    have-lines (IsReadBack t.input_of t.input_text) t.input_text net.Fail (k.cluster.handlers n) (k.cluster.recovery n) (asked_by_client p.makes)
+    (omega (arith, can.nodes n, few)) (can.sends n few) (cluster-texts p can.inputs).texts
 
 pub found-lines : (found : Found Kind) (n : ℕ) → n ≤ MAX_NODES → IfFound found KindMakes → IfFound found (λ k. AllHaveLines (makes k n))
 found-lines Nowhere n few can = absurd can

@@ -74,5 +74,5 @@ module _ (n seed steps : ℕ) where
   found-replays Nowhere allowed can few within = absurd can
   found-replays (Here (Steady l)) allowed can few within =
       let a = makes (Steady l) n in replays a.plays.play (a.made seed steps) allowed (kind-read (Steady l) n seed steps can few within)
-  found-replays (Here (Clustered p)) allowed can few within =
-      let a = makes (Clustered p) n in replays a.plays.play (a.made seed steps) allowed (kind-read (Clustered p) n seed steps can few within)
+  found-replays (Here (Clustered k)) allowed can few within =
+      let a = makes (Clustered k) n in replays a.plays.play (a.made seed steps) allowed (kind-read (Clustered k) n seed steps can few within)

@@ -7,7 +7,7 @@ use Rattle.schedule_make.specs.Inputs.{kv_input, lock_input, mirror_input, table
 use Rattle.std.specs.Prelude.{◌+◌, ◌≤◌}
 use Rattle.std.proofs.Common.{arith, refl}
 use Rattle.stacks.specs.Plays.{IfFound}
-use Rattle.stacks.specs.Kinds.{Layers, Service}
+use Rattle.stacks.specs.Kinds.{Application, Layers, Service, raft_of}
 use Rattle.stacks.specs.Table.{kind_at, kv_texts, lock_table, lock_texts, locks, mirror_texts, mirrors, store, table_texts}
 use Rattle.transformers.specs.Ordering.{ordering}
 use Rattle.transformers.specs.Numbering.{numbering}
@@ -16,8 +16,9 @@ use Rattle.vst_base.specs.Stacks.{row_of}
 use Rattle.vst_base.specs.declared.node.TheConstants.{MAX_NODES}
 use Rattle.vst_base.specs.declared.stack.StackId.{StackId}
 use Rattle.vst_base.specs.declared.stack.StackId.TheVariants as stack
-use Rattle.made_schedules.specs.Makes.{KeepsFew, KindMakes, LayersMake, MachineMakes, OwnMakes, SteadyMakes, most_sends}
+use Rattle.made_schedules.specs.Makes.{ClusterMakes, KeepsFew, KindMakes, LayersMake, MachineMakes, OwnMakes, SteadyMakes, most_sends}
 use Rattle.made_schedules.proofs.KindLines.{by-spelling}
+use Rattle.made_schedules.proofs.RaftSends.{raft-few}
 use Rattle.made_schedules.proofs.Sends.{at-most-more, fifo-few, lock-few, mirror-few, numbered-few, retried-few}
 use Rattle.made_schedules.proofs.Texts as texts
 
@@ -41,6 +42,9 @@ store-makes = by-spelling kv_texts kv_text.inputs_are_spelled 3900 kv_input text
 table-makes : MachineMakes lock_table
 table-makes = by-spelling table_texts table_text.inputs_are_spelled 3900 table_input texts.table-texts
 
+raft-makes : (p : Application) → MachineMakes p → ClusterMakes (raft_of p)
+raft-makes p inputs = record { nodes = λ n. refl; sends = λ n few. raft-few n p.machine few; inputs = inputs; allowed = λ n seed steps allowed. allowed }
+
 numbering-keeps : (s : Service) → KeepsFew numbering s
 numbering-keeps s = record { nodes = λ m. refl; sends = λ most m few. at-most-more most (most + 1) (numbering.transforms m) (omega arith) (numbered-few most m few) }
 
@@ -58,9 +62,9 @@ stacks-make stack.Lock = steady-makes _ locks-make (omega arith)
 stacks-make stack.LockSeq = steady-makes _ (numbering-keeps _, locks-make) (omega arith)
 stacks-make stack.KvPb = steady-makes _ store-makes (omega arith)
 stacks-make stack.KvPbSeq = steady-makes _ (numbering-keeps _, store-makes) (omega arith)
-stacks-make stack.KvRaft = store-makes
+stacks-make stack.KvRaft = raft-makes _ store-makes
 stacks-make stack.TablePbSeq = steady-makes _ (numbering-keeps _, table-makes) (omega arith)
-stacks-make stack.TableRaft = table-makes
+stacks-make stack.TableRaft = raft-makes _ table-makes
 stacks-make stack.Kv = steady-makes _ store-makes (omega arith)
 stacks-make stack.Table = steady-makes _ table-makes (omega arith)
 stacks-make stack.Mirror = steady-makes _ mirrors-make (omega arith)

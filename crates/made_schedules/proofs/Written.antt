@@ -178,7 +178,7 @@ pub ready-stack : (found : Found Kind) (n seed steps : ℕ) {P : AnyStack → Ty
     → IfFound (found_map (λ k. makes k n) found) (λ a. a.plays.play.refused (a.made seed steps) ≡ None) → IfFound (found_map (λ k. stack k n) found) P
 ready-stack Nowhere n seed steps by none = absurd none
 ready-stack (Here (Steady l)) n seed steps by none = by (stack (Steady l) n) none
-ready-stack (Here (Clustered p)) n seed steps by none = by (stack (Clustered p) n) none
+ready-stack (Here (Clustered k)) n seed steps by none = by (stack (Clustered k) n) none
 
 -- what is said of the stack that was found is said of its text
 pub found-writes : {A : Type 0} (found : Found Kind) (n seed steps : ℕ) (out out' : Option (List ℕ)) (f f' w w' : ℕ) (r : Result A WriteFault)
@@ -186,7 +186,7 @@ pub found-writes : {A : Type 0} (found : Found Kind) (n seed steps : ℕ) (out o
     → WritesText (found_or [] (λ a. step_lines a.plays.play a.made seed steps) (found_map (λ k. makes k n) found)) out out' f f' w w' r
 found-writes Nowhere n seed steps out out' f f' w w' r none = absurd none
 found-writes (Here (Steady l)) n seed steps out out' f f' w w' r is = is
-found-writes (Here (Clustered p)) n seed steps out out' f f' w w' r is = is
+found-writes (Here (Clustered k)) n seed steps out out' f f' w w' r is = is
 
 -- and where the first text breaks off, nothing stands after it
 within : (xs ys : List ℕ) (n : ℕ) → (k : ℕ) × (take n xs ≡ take k (xs ++ ys))

@@ -1,16 +1,17 @@
 -- The kinds of stacks that schedules are made for: what is asked of their handlers, inputs and transformers.
-use Rattle.std.specs.Prelude.{◌≡◌, ℕ, ◌+◌, ◌≤◌, List, Option, Some}
+use Rattle.std.specs.Prelude.{◌≡◌, ℕ, ◌+◌, ◌≤◌, List, Option, Some, None}
 use Rattle.app_text.specs.Spelling.{IsSpelling}
 use Rattle.handler_trait.specs.Handling.{Meaning}
 use Rattle.schedule_make.specs.Made.{Inputs}
 use Rattle.schedule_text.specs.Spellable.{AreSpellable}
-use Rattle.stacks.specs.Kinds.{Alone, Application, Backed, Clustered, Itself, Kind, Layers, Own, OwnHandlers, Service, Steady, Through, service}
-use Rattle.stacks.specs.Made.{AnyMade}
+use Rattle.stacks.specs.Clusters.{cluster_allows}
+use Rattle.stacks.specs.Kinds.{Alone, Application, Backed, Clustered, Itself, Kind, Layers, OnCluster, Own, OwnHandlers, Service, Steady, Through, service}
+use Rattle.stacks.specs.Made.{AnyMade, cluster_made}
 use Rattle.stacks.specs.Plays.{Texts}
 use Rattle.transformers.specs.Transformers.{Transformer}
 use Rattle.vst_base.specs.declared.node.TheConstants.{MAX_NODES}
 use Rattle.vst_base.specs.declared.step.TheConstants.{MAX_STEPS}
-use Rattle.made_schedules.specs.Sends.{SendsAtMost}
+use Rattle.made_schedules.specs.Sends.{SendsAtMost, SendsFew}
 use Rattle.made_schedules.specs.Texts.{HaveTexts}
 
 -- a value that is read back from its text
@@ -24,7 +25,7 @@ pub record MakesTexts {I O : Type 0} (most : ℕ) (t : Texts I O) (inputs : Inpu
 
 -- the most packets that an event sends of handlers without a transformer
 abbrev pub own_sends : ℕ
-own_sends = 2
+own_sends = 1
 
 -- handlers have as many nodes as are asked for, their events send few packets, and their inputs have short texts
 pub record OwnMakes (h : OwnHandlers) : Type 0 where
@@ -61,9 +62,17 @@ pub record SteadyMakes (l : Layers) : Type 0 where
   pub layers : LayersMake l
   pub sends : most_sends l ≤ MAX_NODES
 
+-- a cluster has as many nodes as are asked for, its events send few packets, its machine's commands have short texts, and it refuses no made
+-- schedule that its network allows
+pub record ClusterMakes (k : OnCluster) : Type 0 where
+  pub nodes : (n : ℕ) → (k.cluster.handlers n).nodes ≡ n
+  pub sends : (n : ℕ) → n ≤ MAX_NODES → SendsFew (k.cluster.handlers n)
+  pub inputs : MachineMakes k.application
+  pub allowed : (n seed steps : ℕ) → cluster_allows k.cluster n (cluster_made k n seed steps) → k.cluster.refused n (cluster_made k n seed steps) ≡ None
+
 abbrev pub KindMakes : Kind → Type 0
 KindMakes (Steady l) = SteadyMakes l
-KindMakes (Clustered p) = MachineMakes p
+KindMakes (Clustered k) = ClusterMakes k
 
 -- whatever the number that a schedule is made from, and however many steps it has, its steps have lines
 abbrev pub AllHaveLines : AnyMade → Type 0

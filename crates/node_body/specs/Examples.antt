@@ -4,6 +4,7 @@ use Rattle.kv_machine.specs.declared.cmd.KvCmd.{KvCmd}
 use Rattle.lock_table.specs.declared.cmd.TableCmd.{TableCmd}
 use Rattle.raft_types.specs.Messages.{KeptView}
 use Rattle.vst_base.specs.Entries.{EntryView}
+use Rattle.vst_base.specs.declared.stack.StackId.{StackId}
 use Rattle.vst_base.specs.declared.stack.StackId.TheVariants as stack
 use Rattle.vst_base.specs.declared.what.What.TheVariants as what
 use Rattle.wire_fields.specs.Formats.{Format}
@@ -108,10 +109,14 @@ table_put = number_of_eight 1 ++ (number_of_eight 7 ++ (number_of_eight 1 ++ (0 
 abbrev pub one_entry : List ℕ → List ℕ
 one_entry entry = number_of_eight 1 ++ (1 ∷ (number_of_four 1 ++ entry))
 
--- node 0 of 3 of the key-value stack, and what it finds
-abbrev pub who_as : ℕ → ℕ → List ℕ → Who
-who_as me nodes name = record { stack = stack.KvRaft; me = me; nodes = nodes; name = name }
+-- a node of this stack, and of the key-value stack
+abbrev pub who_on : StackId → ℕ → ℕ → List ℕ → Who
+who_on s me nodes name = record { stack = s; me = me; nodes = nodes; name = name }
 
+abbrev pub who_as : ℕ → ℕ → List ℕ → Who
+who_as me nodes name = who_on stack.KvRaft me nodes name
+
+-- what a node of the key-value stack finds, and node 0 of 3
 abbrev pub found_by : Who → List ℕ → Result (Held KvCmd) Why
 found_by who bs = slot_found stack.KvRaft kv_command who bs
 
@@ -120,7 +125,7 @@ found bs = found_by (who_as 0 3 cluster) bs
 
 -- what node 0 of 3 of the lock table finds
 abbrev pub found_by_table : List ℕ → Result (Held TableCmd) Why
-found_by_table bs = slot_found stack.TableRaft table_command (record { stack = stack.TableRaft; me = 0; nodes = 3; name = cluster }) bs
+found_by_table bs = slot_found stack.TableRaft table_command (who_on stack.TableRaft 0 3 cluster) bs
 
 -- what a front decides
 abbrev pub decided : List ℕ → Option (Result (Held KvCmd) Why)

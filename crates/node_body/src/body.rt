@@ -11,11 +11,13 @@ ghost use Rattle.lists.specs.Prefixes.{IsPrefix};
 use crate::kept::take_kept;
 use crate::log::put_log;
 use crate::vote::put_vote;
-use crate::{Commands, Owner, Version, Who};
+use crate::{Owner, Version, Who};
 use raft_types::Kept;
 use std::alloc::{AllocError, Global};
-use vst_base::{Entry, Node};
+use vst_base::{Entry, Node, StackId};
+use wire_codec::stack_byte;
 use wire_fields::{Input, NAME_LEN, put_u8, put_u64};
+use wire_messages::Wire;
 
 /// A node's state as its bytes say it: the version that they are spelled in, whose it is, and what the node keeps.
 #[derive(Debug, Drop)]
@@ -46,10 +48,10 @@ fn read_label(input: &mut Input<'_>, version: Version) -> Option<Option<[u8; NAM
 }
 
 // Whose state it is, where it is one of the stack.
-fn read_owner<C: Commands>(input: &mut Input<'_>, version: Version) -> Option<Owner>
-    ensures { Reads (owner C.stack version) input.old input.new result }
+fn read_owner(input: &mut Input<'_>, stack: StackId, version: Version) -> Option<Owner>
+    ensures { Reads (owner stack version) input.old input.new result }
 {
-    if input.byte()? != C::byte() {
+    if input.byte()? != stack_byte(stack) {
         return None;
     }
     let me = input.u8(0, 255)?;
@@ -59,7 +61,7 @@ fn read_owner<C: Commands>(input: &mut Input<'_>, version: Version) -> Option<Ow
         return None;
     }
     Some(Owner {
-        stack: C::stack(),
+        stack,
         me,
         nodes,
         name,
@@ -67,16 +69,17 @@ fn read_owner<C: Commands>(input: &mut Input<'_>, version: Version) -> Option<Ow
 }
 
 // The body that stands in front.
-fn take_front<C: Commands>(
+fn take_front<C: Wire>(
     alloc: Global,
+    stack: StackId,
     input: &mut Input<'_>,
 ) -> Result<Option<Body<C>>, AllocError>
-    ensures { Takes (body C.stack C.format) input.old input.new result }
+    ensures { Takes (body stack C.format) input.old input.new result }
 {
     let Some(version) = read_mark(input) else {
         return Ok(None);
     };
-    let Some(owner) = read_owner::<C>(input, version) else {
+    let Some(owner) = read_owner(input, stack, version) else {
         return Ok(None);
     };
     let Some(kept) = take_kept(alloc, input, version, owner.nodes)? else {
@@ -89,16 +92,17 @@ fn take_front<C: Commands>(
     }))
 }
 
-/// The body of either version that all of the bytes are. `None` comes exactly where they are no body of the stack of
+/// The body of either version that all of the bytes are. `None` comes exactly where they are no body of the stack with
 /// these commands, or its node is not one of its nodes.
-pub fn take_any_body<C: Commands>(
+pub fn take_any_body<C: Wire>(
     alloc: Global,
+    stack: StackId,
     bytes: &[u8],
 ) -> Result<Option<Body<C>>, AllocError>
-    ensures { IfOk result (λ found. found ≡ read_whole (body C.stack C.format) bytes.now) }
+    ensures { IfOk result (λ found. found ≡ read_whole (body stack C.format) bytes.now) }
 {
     let mut input = Input::new(bytes);
-    let Some(found) = take_front(alloc, &mut input)? else {
+    let Some(found) = take_front(alloc, stack, &mut input)? else {
         return Ok(None);
     };
     match input.rest() {
@@ -108,13 +112,14 @@ pub fn take_any_body<C: Commands>(
 }
 
 // Whose state all of the bytes are in version 2, and the state. That these are in range follows.
-fn take_named<C: Commands>(
+fn take_named<C: Wire>(
     alloc: Global,
+    stack: StackId,
     bytes: &[u8],
 ) -> Result<Option<(Who, Kept<C>)>, AllocError>
-    ensures { IfOk result (λ found. found ≡ read_body C.stack C.format bytes.now) }
+    ensures { IfOk result (λ found. found ≡ read_body stack C.format bytes.now) }
 {
-    let Some(found) = take_any_body::<C>(alloc, bytes)? else {
+    let Some(found) = take_any_body::<C>(alloc, stack, bytes)? else {
         return Ok(None);
     };
     let Some(name) = found.owner.name else {
@@ -124,15 +129,16 @@ fn take_named<C: Commands>(
 }
 
 /// Whose state all of the bytes are, and the state. `None` comes exactly where they are no body of version 2 of the stack
-/// of these commands, or its node is not one of its nodes.
-pub fn take_body<C: Commands>(
+/// with these commands, or its node is not one of its nodes.
+pub fn take_body<C: Wire>(
     alloc: Global,
+    stack: StackId,
     bytes: &[u8],
 ) -> Result<Option<(Who, Kept<C>)>, AllocError>
-    ensures found { IfOk result (λ found. found ≡ read_body C.stack C.format bytes.now) }
-    ensures keeps { IfOk result (λ found. IfSome found (λ p. MayKeep C.stack p.0 p.1)) }
+    ensures found { IfOk result (λ found. found ≡ read_body stack C.format bytes.now) }
+    ensures keeps { IfOk result (λ found. IfSome found (λ p. MayKeep stack p.0 p.1)) }
 {
-    take_named(alloc, bytes)
+    take_named(alloc, stack, bytes)
 }
 
 // Adds the name of a cluster at the end, or nothing.
@@ -146,62 +152,60 @@ fn put_name(out: &mut Vec<u8>, name: &[u8; NAME_LEN]) -> Result<(), AllocError>
 
 // Adds the mark and the node at the end, or a part of it.
 #[tactic(auto, using(wire_fields::specs::Fronts::front_stays))]
-fn put_node<C: Commands>(out: &mut Vec<u8>, me: u8, nodes: u8) -> Result<(), AllocError>
+fn put_node(out: &mut Vec<u8>, who: &Who) -> Result<(), AllocError>
     ensures ok { OnOk result (out.new.items ≡ out.old.items
-        ++ (mark.spell Version.Two ++ (stack_byte C.stack ∷ (number_bytes 1 me ++ number_bytes 1 nodes)))) }
+        ++ (mark.spell Version.Two ++ (stack_byte who.now.stack ∷ (number_bytes 1 who.now.me ++ number_bytes 1 who.now.nodes)))) }
     ensures err { OnErr result (IsPrefix out.old.items out.new.items) }
 {
-    out.extend_from_slice(&[b'S', 2, C::byte()])?;
-    put_u8(out, me)?;
-    put_u8(out, nodes)
+    out.extend_from_slice(&[b'S', 2, stack_byte(who.stack)])?;
+    put_u8(out, who.me)?;
+    put_u8(out, who.nodes)
 }
 
 // Adds what stands before the state at the end, or a part of it.
 #[tactic(auto, using(wire_fields::specs::Fronts::front_stays))]
-fn put_owner<C: Commands>(out: &mut Vec<u8>, who: &Who) -> Result<(), AllocError>
+fn put_owner(out: &mut Vec<u8>, who: &Who) -> Result<(), AllocError>
     ensures ok { OnOk result (out.new.items ≡ out.old.items
-        ++ (mark.spell Version.Two ++ (owner C.stack Version.Two).spell (owner_of who.now))) }
+        ++ (mark.spell Version.Two ++ (owner who.now.stack Version.Two).spell (owner_of who.now))) }
     ensures fits { OnOk result (a_name.Fits (Some who.now.name)) }
     ensures err { OnErr result (IsPrefix out.old.items out.new.items) }
 {
-    put_node::<C>(out, who.me, who.nodes)?;
+    put_node(out, who)?;
     put_name(out, &who.name)
 }
 
 /// Adds the body of version 2 of a node that keeps this term, vote and log at the end, or a part of it.
 #[tactic(auto, using(wire_fields::specs::Fronts::front_stays))]
-pub fn put_state<C: Commands>(
+pub fn put_state<C: Wire>(
     out: &mut Vec<u8>,
     who: &Who,
     term: u64,
     voted: Option<Node>,
     log: &[Entry<C>],
 ) -> Result<(), AllocError>
-    requires stack { who.now.stack ≡ C.stack }
     requires nodes { IsClusterSize who.now.nodes }
     requires me { who.now.me < who.now.nodes }
     requires term { IsTerm term }
     requires voted { VoteAmong who.now.nodes voted }
     requires log { IsIndex (length log.now) }
     ensures ok { OnOk result (out.new.items ≡ out.old.items
-        ++ (body C.stack C.format).spell (body_of who.now (kept_as term voted log.now))) }
-    ensures fits { OnOk result ((body C.stack C.format).Fits (body_of who.now (kept_as term voted log.now))) }
+        ++ (body who.now.stack C.format).spell (body_of who.now (kept_as term voted log.now))) }
+    ensures fits { OnOk result ((body who.now.stack C.format).Fits (body_of who.now (kept_as term voted log.now))) }
     ensures err { OnErr result (IsPrefix out.old.items out.new.items) }
 {
-    put_owner::<C>(out, who)?;
+    put_owner(out, who)?;
     put_u64(out, term)?;
     put_vote(out, voted)?;
     put_log(out, log)
 }
 
 /// Adds the body of version 2 of a node that keeps this at the end, or a part of it.
-pub fn put_body<C: Commands>(out: &mut Vec<u8>, who: &Who, kept: &Kept<C>) -> Result<(), AllocError>
-    requires stack { who.now.stack ≡ C.stack }
+pub fn put_body<C: Wire>(out: &mut Vec<u8>, who: &Who, kept: &Kept<C>) -> Result<(), AllocError>
     requires nodes { IsClusterSize who.now.nodes }
     requires me { who.now.me < who.now.nodes }
     requires voted { VoteAmong who.now.nodes kept.now.voted }
-    ensures ok { OnOk result (out.new.items ≡ out.old.items ++ (body C.stack C.format).spell (body_of who.now kept.now)) }
-    ensures fits { OnOk result ((body C.stack C.format).Fits (body_of who.now kept.now)) }
+    ensures ok { OnOk result (out.new.items ≡ out.old.items ++ (body who.now.stack C.format).spell (body_of who.now kept.now)) }
+    ensures fits { OnOk result ((body who.now.stack C.format).Fits (body_of who.now kept.now)) }
     ensures err { OnErr result (IsPrefix out.old.items out.new.items) }
 {
     put_state(out, who, kept.term(), kept.voted(), kept.log())

@@ -4,7 +4,6 @@ ghost use Rattle.node_body.specs.LoggedLaws.{IsLogged, kv_is_logged, table_is_lo
 ghost use Rattle.node_body.specs.declared.commands.TheConstants.{MAX_COMMAND};
 ghost use Rattle.vst_base.specs.declared.stack.StackId.{StackId};
 ghost use Rattle.vst_base.specs.declared.stack.StackId.TheVariants as stack_id;
-ghost use Rattle.wire_codec.specs.Headings.{stack_byte};
 
 use kv_machine::KvCmd;
 use lock_table::TableCmd;
@@ -23,10 +22,6 @@ pub trait Commands: Wire {
     fn stack() -> StackId
         ensures { result ≡ stack };
 
-    /// The byte of the stack.
-    fn byte() -> u8
-        ensures { result ≡ stack_byte stack };
-
     /// No command has more bytes.
     ghost short: { (c : Self) → Self.format.Fits c → length (Self.format.spell c) ≤ MAX_COMMAND };
 
@@ -41,10 +36,6 @@ impl Commands for KvCmd {
         StackId::KvRaft
     }
 
-    fn byte() -> u8 {
-        5
-    }
-
     ghost short = { kv_length };
 
     ghost logged = { kv_is_logged };
@@ -55,10 +46,6 @@ impl Commands for TableCmd {
 
     fn stack() -> StackId {
         StackId::TableRaft
-    }
-
-    fn byte() -> u8 {
-        7
     }
 
     ghost short = { table_length };

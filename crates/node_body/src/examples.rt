@@ -1,7 +1,7 @@
 ghost use Rattle.std.specs.Prelude.{◌≡◌, ◌∷◌, ◌++◌, [], None, Some, Ok, Err, codes, take, drop};
 ghost use Rattle.kv_machine.specs.declared.cmd.KvCmd.TheVariants as command;
 ghost use Rattle.node_body.specs.Bodies.{body, body_of, entry_in, kept_as, read_body};
-ghost use Rattle.node_body.specs.Examples.{before_greatest, cluster, decided, first_kept, first_slot, first_state, found, found_by, found_by_table, gated_records, greatest, journal_left, new_body, new_change, new_held, no_op, no_op_of, no_op_record, number_of_eight, number_of_four, old_body, old_first, old_held, old_put, old_voted, one_entry, other_cluster, past_greatest, record_of, slot, table_put, vote_record, voted_kept, voted_slot, voted_state, who_as};
+ghost use Rattle.node_body.specs.Examples.{before_greatest, cluster, decided, first_kept, first_slot, first_state, found, found_by, found_by_table, gated_records, greatest, journal_left, new_body, new_change, new_held, no_op, no_op_of, no_op_record, number_of_eight, number_of_four, old_body, old_first, old_held, old_put, old_voted, one_entry, other_cluster, past_greatest, record_of, slot, table_put, vote_record, voted_kept, voted_slot, voted_state, who_as, who_on};
 ghost use Rattle.node_body.specs.GatedRecords.{AreGated, patched_by, spell_gated};
 ghost use Rattle.node_body.specs.Journals.{change, change_as, journal_as, patched};
 ghost use Rattle.node_body.specs.Slots.{stack_of_slot};
@@ -21,6 +21,14 @@ pub fn worked_bodies()
     ensures of_version_one { read_body stack.KvRaft kv_command (old_body 5 0 3 voted_state) ≡ None }
     ensures a_byte_after { read_body stack.KvRaft kv_command (new_body 5 0 3 voted_state ++ 0 ∷ []) ≡ None }
     ensures no_request_without_its_byte { read_body stack.KvRaft kv_command (new_body 5 0 3 (one_entry old_put)) ≡ None }
+
+    // The same commands on another stack: its byte tells them apart.
+    ensures put_on_another { (body stack.LockSeq kv_command).spell (body_of (who_on stack.LockSeq 0 3 cluster) voted_kept)
+        ≡ new_body 2 0 3 voted_state }
+    ensures taken_on_another { read_body stack.LockSeq kv_command (new_body 2 0 3 voted_state)
+        ≡ Some (who_on stack.LockSeq 0 3 cluster, voted_kept) }
+    ensures not_taken_on_the_first { read_body stack.KvRaft kv_command (new_body 2 0 3 voted_state) ≡ None }
+    ensures nor_of_the_first_on_it { read_body stack.LockSeq kv_command (new_body 5 0 3 voted_state) ≡ None }
 {}
 
 /// What slots are for node 0 of 3.

@@ -7,6 +7,7 @@ use crate::{Commands, Journal, Owner, Version, Who, Why, read_journal, take_any_
 use kv_machine::KvCmd;
 use lock_table::TableCmd;
 use std::alloc::{AllocError, Global};
+use wire_codec::stack_byte;
 use wire_fields::Input;
 
 /// What a slot holds: whose state it is, the version that it is spelled in, and the state after its records.
@@ -41,7 +42,7 @@ pub fn read_slot<C: Commands>(
     let Some((body, rest)) = split(bytes) else {
         return Ok(Err(Why::Slot));
     };
-    let Some(body) = take_any_body::<C>(alloc, body)? else {
+    let Some(body) = take_any_body::<C>(alloc, C::stack(), body)? else {
         return Ok(Err(Why::Body));
     };
     let version = body.version;
@@ -86,7 +87,7 @@ fn slot_byte<C: Commands>(alloc: Global, bytes: &[u8]) -> Result<Result<u8, Why>
     ensures { IfOk result (λ found. found ≡ slot_byte C.stack C.format bytes.now) }
 {
     match read_slot::<C>(alloc, bytes)? {
-        Ok(_held) => Ok(Ok(C::byte())),
+        Ok(_held) => Ok(Ok(stack_byte(C::stack()))),
         Err(why) => Ok(Err(why)),
     }
 }
@@ -133,7 +134,7 @@ fn slot_for<C: Commands>(
         Err(Why::Body) => match stack_of_slot(alloc, bytes)? {
             Ok(kept) => Ok(Err(Why::Stack {
                 kept,
-                configured: C::byte(),
+                configured: stack_byte(C::stack()),
             })),
             Err(why) => Ok(Err(why)),
         },

@@ -196,26 +196,52 @@ fn a_body_is_put(rt: HostRuntime) -> Result<(), Fail> {
 
 #[test]
 fn a_body_is_taken(rt: HostRuntime) -> Result<(), Fail> {
-    let (who, kept) = take_body::<KvCmd>(rt.alloc(), &VOTED[4..38])?.ok_or("no body")?;
+    let found = take_body::<KvCmd>(rt.alloc(), StackId::KvRaft, &VOTED[4..38])?;
+    let (who, kept) = found.ok_or("no body")?;
     assert!(rt; who == WHO);
     assert!(rt; kept.term() == 1 && kept.voted() == Node::new(1, 3) && kept.log().is_empty());
     Ok(())
 }
 
-// Whether no body with these commands stands there.
-fn has_no_body<C: Commands>(alloc: Global, bytes: &[u8]) -> Result<bool, AllocError> {
-    Ok(take_body::<C>(alloc, bytes)?.is_none())
+#[test]
+fn a_body_is_of_the_stack_that_it_names(rt: HostRuntime) -> Result<(), Fail> {
+    let alloc = rt.alloc();
+    let who = Who {
+        stack: StackId::KvPb,
+        ..WHO
+    };
+    let kept = Kept::<KvCmd>::new(1, Node::new(1, 3), Entries::new(Vec::new(alloc)));
+    let mut bytes = Vec::new(alloc);
+    put_body(&mut bytes, &who, &kept)?;
+    assert!(rt; bytes[2] == 3, "the byte of the stack");
+    assert!(rt; &bytes[..2] == &VOTED[4..6] && &bytes[3..] == &VOTED[7..38]);
+    let (found, _kept) = take_body::<KvCmd>(alloc, StackId::KvPb, &bytes)?.ok_or("no body")?;
+    assert!(rt; found == who);
+    Ok(())
+}
+
+// Whether no body of the stack with these commands stands there.
+fn has_no_body<C: Commands>(
+    alloc: Global,
+    stack: StackId,
+    bytes: &[u8],
+) -> Result<bool, AllocError> {
+    Ok(take_body::<C>(alloc, stack, bytes)?.is_none())
 }
 
 #[test]
 fn other_bodies_are_not_taken(rt: HostRuntime) -> Result<(), Fail> {
     let alloc = rt.alloc();
     assert!(rt;
-        has_no_body::<TableCmd>(alloc, &VOTED[4..38])?,
-        "of the other stack"
+        has_no_body::<TableCmd>(alloc, StackId::TableRaft, &VOTED[4..38])?,
+        "of another stack"
     );
     assert!(rt;
-        has_no_body::<KvCmd>(alloc, &OLD_VOTED[4..])?,
+        has_no_body::<KvCmd>(alloc, StackId::KvPb, &VOTED[4..38])?,
+        "of another stack with the same commands"
+    );
+    assert!(rt;
+        has_no_body::<KvCmd>(alloc, StackId::KvRaft, &OLD_VOTED[4..])?,
         "of version 1"
     );
     Ok(())

@@ -21,7 +21,8 @@ use Rattle.raft_xform.specs.Replicating.{on_input}
 use Rattle.std.specs.Prelude.{option_map}
 use Rattle.net_semantics.specs.Runs.{place_and_why}
 use Rattle.raft_reads.specs.ReadRaft.{acknowledged, read_raft, read_recovery, reads_after, with_round, waits, with_reads}
-use Rattle.raft_reads.specs.Reads.{ReadMsg, ReadView, Reads, with_read}
+use Rattle.raft_types.specs.Rounds.{ReadMsg}
+use Rattle.raft_reads.specs.Reads.{ReadView, Reads, with_read}
 use Rattle.raft_reads.specs.Clusters.{ReadCluster, ReadWorld, next_world, refused_from, world_from}
 use Rattle.raft_reads.specs.Erasing.{RunsErase, StepsErase, erased_from, erased_packet, erased_step, erased_world}
 

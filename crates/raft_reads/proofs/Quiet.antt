@@ -20,7 +20,8 @@ use Rattle.raft_xform.specs.Replicating.{on_input}
 use Rattle.raft_reads.specs.Clusters.{ReadCluster, ReadWorld, first, handlers, next_world, recovery}
 use Rattle.raft_reads.specs.Erasing.{NoRead, WithoutReads, erased_from, erased_packet, erased_step, erased_world}
 use Rattle.raft_reads.specs.ReadRaft.{acknowledged, read_reply, reads_after, waits, with_reads}
-use Rattle.raft_reads.specs.Reads.{ReadMsg, ReadView, Reads, has_committed_own, is_appended, is_ready, no_reads, still_leads, with_ack}
+use Rattle.raft_types.specs.Rounds.{ReadMsg}
+use Rattle.raft_reads.specs.Reads.{ReadView, Reads, has_committed_own, is_appended, is_ready, no_reads, still_leads, with_ack}
 use Rattle.raft_reads.proofs.Erasing.{get_map, next_erased}
 
 -- one value put, and each other as it was

@@ -14,7 +14,8 @@ use Rattle.raft_types.specs.Messages.{KeptView}
 use Rattle.raft_types.specs.declared.client.RaftInput.{RaftInput}
 use Rattle.raft_types.specs.declared.client.RaftOut.{RaftOut}
 use Rattle.raft_reads.specs.ReadRaft.{read_raft, read_recovery}
-use Rattle.raft_reads.specs.Reads.{ReadMsg, ReadView}
+use Rattle.raft_types.specs.Rounds.{ReadMsg}
+use Rattle.raft_reads.specs.Reads.{ReadView}
 
 abbrev pub ReadWorld : Type 0 → Type 0 → Type 0 → Type 0
 ReadWorld S C O = World (ReadView S C O) (KeptView C) (ReadMsg C)

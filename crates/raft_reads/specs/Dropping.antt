@@ -4,7 +4,8 @@ use Rattle.vst_base.specs.Machines.{MachineMeaning}
 use Rattle.raft_types.specs.Messages.{KeptView}
 use Rattle.raft_types.specs.declared.client.RaftInput.{RaftInput}
 use Rattle.raft_reads.specs.ReadRaft.{ReadEffect, on_input, on_message, on_timeout, read_recovery}
-use Rattle.raft_reads.specs.Reads.{ReadMsg, ReadView, no_reads, still_leads}
+use Rattle.raft_types.specs.Rounds.{ReadMsg}
+use Rattle.raft_reads.specs.Reads.{ReadView, no_reads, still_leads}
 
 -- unless it leads on in its term, it has no reads after the event
 abbrev pub DropsReads : {S C O : Type 0} → ℕ → ReadView S C O → ReadEffect S C O → Type 0

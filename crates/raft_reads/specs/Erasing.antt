@@ -14,7 +14,7 @@ use Rattle.raft_xform.specs.Nodes.{RaftView}
 use Rattle.raft_xform.specs.Raft.{raft, raft_recovery}
 use Rattle.raft_reads.specs.Clusters.{ReadCluster, ReadWorld, first, handlers, input_of, next_world, refused_from, seen, world_from}
 use Rattle.raft_reads.specs.ReadRaft.{waits}
-use Rattle.raft_reads.specs.Reads.{ReadMsg}
+use Rattle.raft_types.specs.Rounds.{ReadMsg}
 
 abbrev pub erased_packet : {C : Type 0} → Packet (ReadMsg C) → Packet (RaftMsg C)
 erased_packet p = record { source = p.source; destination = p.destination; content = p.content.raft; copies = p.copies }

@@ -8,7 +8,8 @@ use Rattle.raft_types.specs.declared.msg.RaftMsg.{RaftMsg}
 use Rattle.raft_xform.specs.Examples.{Node, applied, asked, leader, noop, peer}
 use Rattle.raft_reads.specs.Clusters.{ReadCluster}
 use Rattle.raft_reads.specs.ReadRaft.{ReadEffect, read_raft}
-use Rattle.raft_reads.specs.Reads.{ReadMsg, ReadView, Waiting, started}
+use Rattle.raft_types.specs.Rounds.{ReadMsg}
+use Rattle.raft_reads.specs.Reads.{ReadView, Waiting, started}
 
 -- to add nothing is to read the sum
 abbrev pub adds_nothing : ℕ → Bool

@@ -13,7 +13,8 @@ use Rattle.raft_xform.specs.Electing.{tick}
 use Rattle.raft_xform.specs.Nodes.{RaftEffect, RaftView, is_leader, started_with}
 use Rattle.raft_xform.specs.Raft as raft
 use Rattle.raft_xform.specs.Replicating as replicating
-use Rattle.raft_reads.specs.Reads.{ReadMsg, ReadView, Reads, Waiting, has_committed_own, is_appended, is_ready, no_reads, round_of, started, still_leads, with_ack, with_read}
+use Rattle.raft_types.specs.Rounds.{ReadMsg}
+use Rattle.raft_reads.specs.Reads.{ReadView, Reads, Waiting, has_committed_own, is_appended, is_ready, no_reads, round_of, started, still_leads, with_ack, with_read}
 
 abbrev pub ReadEffect : Type 0 → Type 0 → Type 0 → Type 0
 ReadEffect S C O = Effect (ReadView S C O) (RaftOut O) (ReadMsg C)

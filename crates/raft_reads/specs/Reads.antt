@@ -25,11 +25,6 @@ pub record ReadView (S C O : Type 0) : Type 0 where
   pub reads : Reads C
   pub answered : List (Waiting C)
 
--- a message of Raft with a round: of AppendEntries the leader's, of an answer to it the one that it acknowledges, and else 0
-pub record ReadMsg (C : Type 0) : Type 0 where
-  pub raft : RaftMsg C
-  pub round : ℕ
-
 module _ {C : Type 0} where
   -- of a node that does not lead, or has just begun to
   abbrev pub no_reads : ℕ → Reads C

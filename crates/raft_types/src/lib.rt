@@ -11,6 +11,7 @@ mod examples;
 mod kept;
 mod limits;
 mod msg;
+mod read_msg;
 mod request_vote;
 mod vote;
 
@@ -20,8 +21,9 @@ pub use client::{RaftInput, RaftOut};
 pub use entries::Entries;
 pub use examples::{worked_messages, worked_ranges};
 pub use kept::Kept;
-pub use limits::{MAX_BATCH, MAX_INDEX};
+pub use limits::{MAX_BATCH, MAX_INDEX, MAX_ROUND};
 pub use msg::RaftMsg;
+pub use read_msg::ReadMsg;
 pub use request_vote::RequestVote;
 pub use vote::Vote;
 pub use vst_base::MAX_NODES;

@@ -10,7 +10,8 @@ use Rattle.raft_types.specs.declared.msg.RaftMsg.{RaftMsg}
 use Rattle.raft_xform.specs.Nodes.{RaftEffect, RaftView, is_leader}
 use Rattle.raft_xform.specs.Sound.{IsSoundNode}
 use Rattle.raft_reads.specs.ReadRaft.{read_reply, with_reads, with_round}
-use Rattle.raft_reads.specs.Reads.{ReadMsg, ReadView, Reads, Waiting, no_reads, with_read}
+use Rattle.raft_types.specs.Rounds.{ReadMsg}
+use Rattle.raft_reads.specs.Reads.{ReadView, Reads, Waiting, no_reads, with_read}
 use Rattle.read_xform.specs.Ending.{finished, leads_on, lent}
 use Rattle.read_xform.specs.Rounds.{may_answer, without}
 use Rattle.read_xform.specs.Sound.{AreSoundReads, IsSoundReader}

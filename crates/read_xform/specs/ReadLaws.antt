@@ -19,7 +19,8 @@ use Rattle.raft_xform.specs.RaftLaws as laws
 use Rattle.raft_xform.specs.Replicating as replicating
 use Rattle.raft_xform.specs.Sound.{IsSoundNode}
 use Rattle.raft_reads.specs.ReadRaft.{ReadEffect, acknowledged, on_input, on_message, on_timeout, read_reply, reads_after, waits, with_reads, with_round}
-use Rattle.raft_reads.specs.Reads.{ReadMsg, ReadView, Reads, Waiting, has_committed_own, is_appended, is_ready, no_reads, still_leads, with_ack, with_read}
+use Rattle.raft_types.specs.Rounds.{ReadMsg}
+use Rattle.raft_reads.specs.Reads.{ReadView, Reads, Waiting, has_committed_own, is_appended, is_ready, no_reads, still_leads, with_ack, with_read}
 use Rattle.read_xform.specs.Sound.{IsSoundReader}
 
 -- a filter leaves no more

@@ -1,18 +1,8 @@
--- Which rounds messages have, and the reads that may be answered once so much of the log is applied.
+-- The reads that may be answered once so much of the log is applied.
 use Rattle.std.specs.Prelude.{ℕ, Bool, not, ◌&&◌, List, [], ◌∷◌, nat_le, length, IsFalse}
 use Rattle.std.specs.List.{filter}
-use Rattle.handler_trait.specs.declared.handlers.TheConstants.{SPENT_MAX}
 use Rattle.vst_base.specs.Elections.{is_majority}
-use Rattle.raft_types.specs.declared.msg.RaftMsg.{RaftMsg}
-use Rattle.raft_types.specs.declared.msg.RaftMsg.TheVariants as msg
 use Rattle.raft_reads.specs.Reads.{Reads, Waiting, in_round}
-
--- the greatest round of a message: a vote has none, nor has who asks for one
-abbrev pub greatest_round : {C : Type 0} → RaftMsg C → ℕ
-greatest_round (msg.RequestVote r) = 0
-greatest_round (msg.Vote v) = 0
-greatest_round (msg.Append a) = SPENT_MAX
-greatest_round (msg.Appended a) = SPENT_MAX
 
 module _ {C : Type 0} where
   -- a read may be answered at this leader, which has applied so much of its log

@@ -2,10 +2,9 @@ ghost use Rattle.std.specs.Prelude.{◌≡◌, ◌≤◌, ◌++◌, length, map,
 ghost use Rattle.handler_trait.specs.declared.handlers.TheConstants.{SPENT_MAX};
 ghost use Rattle.raft_reads.specs.ReadRaft.{with_round};
 
-use crate::ReadMsg;
 use crate::rounds::Rounds;
 use handler_trait::Effects;
-use raft_types::RaftMsg;
+use raft_types::{RaftMsg, ReadMsg};
 use vst_base::Node;
 
 // Hands on the packets, in order, each with its round.

@@ -5,14 +5,12 @@
 
 mod answering;
 mod hand_on;
-mod msg;
 mod read_raft;
 mod reads;
 mod rounds;
 mod state;
 mod waiting;
 
-pub use msg::ReadMsg;
 pub use read_raft::ReadRaft;
 pub use state::ReadState;
 pub use waiting::Waiting;

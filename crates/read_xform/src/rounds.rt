@@ -1,7 +1,7 @@
 ghost use Rattle.std.specs.Prelude.{◌≡◌, ◌≤◌};
 ghost use Rattle.handler_trait.specs.declared.handlers.TheConstants.{SPENT_MAX};
 ghost use Rattle.raft_reads.specs.Reads.{round_of};
-ghost use Rattle.read_xform.specs.Rounds.{greatest_round};
+ghost use Rattle.raft_types.specs.Rounds.{greatest_round};
 
 use raft_types::RaftMsg;
 

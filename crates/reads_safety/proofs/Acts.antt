@@ -22,7 +22,8 @@ use Rattle.raft_xform.specs.Replicating.{on_input}
 use Rattle.raft_safety.proofs.Mirroring.{IsLike}
 use Rattle.raft_safety.proofs.Listing.{got_in}
 use Rattle.raft_reads.specs.ReadRaft.{acknowledged, read_raft, waits, with_reads}
-use Rattle.raft_reads.specs.Reads.{ReadMsg, ReadView, Reads, Waiting, acked_by, has_committed_own, is_appended, with_ack, with_read}
+use Rattle.raft_types.specs.Rounds.{ReadMsg}
+use Rattle.raft_reads.specs.Reads.{ReadView, Reads, Waiting, acked_by, has_committed_own, is_appended, with_ack, with_read}
 use Rattle.raft_reads.specs.Clusters.{ReadCluster, ReadWorld, next_world}
 use Rattle.raft_reads.specs.Erasing.{erased_packet, erased_step, erased_world}
 use Rattle.raft_reads.proofs.Erasing.{get_map}

@@ -14,7 +14,8 @@ use Rattle.raft_xform.specs.Replicating.{on_input}
 use Rattle.raft_safety.proofs.Mirroring.{puts}
 use Rattle.raft_reads.specs.Clusters.{ReadCluster, ReadWorld, first, handlers, next_world, recovery, world_from}
 use Rattle.raft_reads.specs.ReadRaft.{ReadEffect, acknowledged, waits, with_reads}
-use Rattle.raft_reads.specs.Reads.{ReadMsg, ReadView, Reads, no_reads, still_leads, with_read}
+use Rattle.raft_types.specs.Rounds.{ReadMsg}
+use Rattle.raft_reads.specs.Reads.{ReadView, Reads, no_reads, still_leads, with_read}
 use Rattle.reads_safety.specs.Safety.{OnlyLeadersRead}
 
 record Idle {S C O : Type 0} (nodes : ℕ) (s : ReadView S C O) : Type 0 where

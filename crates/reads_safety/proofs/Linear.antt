@@ -32,7 +32,8 @@ use Rattle.raft_safety.proofs.Safe.{applied_is_there}
 use Rattle.raft_safety.proofs.Told.{IsTold, told_outputs, told_since-append}
 use Rattle.raft_safety.proofs.Turning.{turn}
 use Rattle.raft_reads.specs.ReadRaft.{read_raft, read_recovery, read_reply, reads_after, waits}
-use Rattle.raft_reads.specs.Reads.{ReadMsg, ReadView, Waiting, is_ready}
+use Rattle.raft_types.specs.Rounds.{ReadMsg}
+use Rattle.raft_reads.specs.Reads.{ReadView, Waiting, is_ready}
 use Rattle.raft_reads.specs.Clusters.{ReadCluster, ReadWorld, first, seen, world_after}
 use Rattle.raft_reads.specs.Erasing.{erased, erased_from, erased_step, erased_world}
 use Rattle.reads_safety.specs.Orders.{answered, answered_from, insert, insert_all}

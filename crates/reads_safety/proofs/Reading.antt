@@ -15,7 +15,8 @@ use Rattle.raft_xform.specs.Nodes.{RaftView, is_leader}
 use Rattle.raft_safety.specs.Applied.{applied_by}
 use Rattle.raft_safety.proofs.Mirroring.{puts}
 use Rattle.raft_reads.specs.ReadRaft.{reads_after, waits}
-use Rattle.raft_reads.specs.Reads.{ReadMsg, ReadView, Reads, Waiting, acked_by, has_committed_own, in_round, is_appended, is_ready, no_reads, still_leads}
+use Rattle.raft_types.specs.Rounds.{ReadMsg}
+use Rattle.raft_reads.specs.Reads.{ReadView, Reads, Waiting, acked_by, has_committed_own, in_round, is_appended, is_ready, no_reads, still_leads}
 use Rattle.raft_reads.specs.Clusters.{ReadCluster, ReadWorld, first, next_world, world_after, world_from}
 use Rattle.raft_reads.specs.Erasing.{erased}
 use Rattle.reads_safety.specs.Orders.{answered, answered_at, answered_from}

@@ -18,7 +18,8 @@ use Rattle.raft_types.specs.declared.msg.RaftMsg.TheVariants as msg
 use Rattle.raft_xform.specs.Nodes.{RaftView, is_leader}
 use Rattle.raft_safety.proofs.Mirroring.{puts}
 use Rattle.raft_reads.specs.ReadRaft.{read_raft, read_recovery, reads_after, with_round, with_reads}
-use Rattle.raft_reads.specs.Reads.{ReadMsg, ReadView, acked_by, no_reads, round_of, still_leads}
+use Rattle.raft_types.specs.Rounds.{ReadMsg}
+use Rattle.raft_reads.specs.Reads.{ReadView, acked_by, no_reads, round_of, still_leads}
 use Rattle.raft_reads.specs.Clusters.{ReadCluster, ReadWorld, first, next_world, world_after, world_from}
 use Rattle.reads_safety.specs.Runs.{IsRun}
 use Rattle.reads_safety.proofs.Acts.{Act, Quiet, Taken, act}

@@ -9,7 +9,8 @@ use Rattle.raft_types.specs.declared.client.RaftInput.{RaftInput}
 use Rattle.raft_types.specs.declared.client.RaftOut.{RaftOut}
 use Rattle.raft_reads.specs.Clusters.{ReadCluster, ReadWorld, first, handlers, next_world}
 use Rattle.raft_reads.specs.Erasing.{erased}
-use Rattle.raft_reads.specs.Reads.{ReadMsg, ReadView}
+use Rattle.raft_types.specs.Rounds.{ReadMsg}
+use Rattle.raft_reads.specs.Reads.{ReadView}
 use Rattle.raft_safety.specs.Applied.{applied_by}
 
 module _ {C : Type 0} where

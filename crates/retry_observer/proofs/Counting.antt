@@ -1,14 +1,14 @@
 -- What is kept, after one packet more.
 use Rattle.std.specs.Prelude.{◌≡◌, ◌≢◌, ℕ, zero, suc, ◌+◌, ◌<◌, nat_lt, false, List, [], ◌∷◌, ◌++◌, length, Option, Some, None, is_some, slice_get}
-use Rattle.std.proofs.Common.{ap, arith, inl, inr, refl, set, sym, ◌∙◌}
+use Rattle.std.proofs.Common.{ap, arith, inl, inr, refl, sym, ◌∙◌}
 use Rattle.std.proofs.lemmas.Bool.{cases_eq, eq-eqb, ltb-false, ltb-true, ne_eqb}
-use Rattle.std.proofs.lemmas.Grind.{get_or-set_at}
-use Rattle.std.proofs.lemmas.List.{get_or-set_other, length-append, map-append}
+use Rattle.std.proofs.lemmas.List.{length-append, map-append}
 use Rattle.std.proofs.lemmas.Option.{slice_get_past}
 use Rattle.lists.specs.Places.{slice_get_last, slice_get_there}
 use Rattle.retry_xform.specs.Image.{is_same, place_of}
 use Rattle.retry_xform.proofs.Names.{place-there}
-use Rattle.retry_observer.specs.Places.{Follows, IsKnown, IsNew, PlacesView, all_carried, carried_by, kept_of, named}
+use Rattle.retry_observer.specs.Places.{Follows, IsKnown, IsNew, PlacesView, all_carried, carried_by, named}
+use Rattle.observer_parts.specs.PacketLists.{list_at}
 use Rattle.retry_observer.proofs.Naming.{all-stay, is-unused, named-append, named-new, numbered, place-push}
 
 -- a packet that bears no new name
@@ -37,17 +37,18 @@ push-elsewhere [] y (suc i) ne = refl
 push-elsewhere (x ∷ xs) y zero ne = refl
 push-elsewhere (x ∷ xs) y (suc i) ne = push-elsewhere xs y i (λ e. ne (ap suc e))
 
--- new data of a node, which has a list
-pub follows-new : (v : PlacesView) (ks : List (List ℕ)) (bs : List (ℕ × Option ℕ)) (n : ℕ) (o : Option ℕ) → n < length ks → ((j : ℕ) → kept_of ks j ≡ kept_of v.lists j) → Follows v bs → IsNew bs n o
-    → Follows (record { carried = v.carried ++ Some v.count ∷ []; lists = set ks n (kept_of ks n ++ v.count ∷ []); count = v.count + 1 }) (bs ++ (n, o) ∷ [])
-follows-new v ks bs n o there same f new =
+-- new data of a node
+pub follows-new : (v : PlacesView) (longer : List (List ℕ)) (bs : List (ℕ × Option ℕ)) (n : ℕ) (o : Option ℕ) → list_at longer n ≡ list_at v.lists n ++ v.count ∷ []
+    → ((j : ℕ) → j ≢ n → list_at longer j ≡ list_at v.lists j) → Follows v bs → IsNew bs n o
+    → Follows (record { carried = v.carried ++ Some v.count ∷ []; lists = longer; count = v.count + 1 }) (bs ++ (n, o) ∷ [])
+follows-new v lists bs n o more others f new =
     let x = new.number in
     let ns = named bs in
     let place : place_of (n, x) ns ≡ None = is-unused n x ns new.next in
     let longer : named (bs ++ (n, o) ∷ []) ≡ ns ++ (n, x) ∷ [] = ap (λ i. named (bs ++ (n, i) ∷ [])) new.is ∙ named-new bs n x new.next in
     let last : carried_by (ns ++ (n, x) ∷ []) n o ≡ Some v.count = ap (carried_by (ns ++ (n, x) ∷ []) n) new.is ∙ (place-there (n, x) ns [] place ∙ ap Some (sym f.count)) in
-    let long : length (kept_of ks n) ≡ x = ap length (same n) ∙ long-as (kept_of v.lists n) x (λ y. ap is_some (f.lists n y) ∙ numbered n x y ns new.next) in
-    let pushed = kept_of ks n ++ v.count ∷ [] in
+    let long : length (list_at v.lists n) ≡ x = long-as (list_at v.lists n) x (λ y. ap is_some (f.lists n y) ∙ numbered n x y ns new.next) in
+    let pushed : (a : ℕ) → a ≡ n → list_at lists a ≡ list_at v.lists n ++ v.count ∷ [] = λ a here. ap (list_at lists) here ∙ more in
     let stays : (a y : ℕ) → is_same (a, y) (n, x) ≡ false → place_of (a, y) ns ≡ place_of (a, y) (named (bs ++ (n, o) ∷ [])) =
     λ a y differs. sym (place-push (a, y) (n, x) ns differs) ∙ ap (place_of (a, y)) (sym longer) in
     record {
@@ -57,14 +58,14 @@ follows-new v ks bs n o there same f new =
       lists = λ a y. elim (cases_eq a n) [
         | inl here ↦ elim (cases_eq y x) [
           | inl next ↦
-              ap (λ l. slice_get l y) (get_or-set_at ks n a pushed [] here there)
-              ∙ (slice_get_last (kept_of ks n) v.count y (next ∙ sym long) ∙ (ap Some f.count ∙ (sym (place-there (n, x) ns [] place) ∙ (λ i. place_of (sym here i, sym next i) (sym longer i)))))
+              ap (λ l. slice_get l y) (pushed a here)
+              ∙ (slice_get_last (list_at v.lists n) v.count y (next ∙ sym long) ∙ (ap Some f.count ∙ (sym (place-there (n, x) ns [] place) ∙ (λ i. place_of (sym here i, sym next i) (sym longer i)))))
           | inr other ↦
-              ap (λ l. slice_get l y) (get_or-set_at ks n a pushed [] here there)
-              ∙ (push-elsewhere (kept_of ks n) v.count y (λ e. other (e ∙ long))
-              ∙ (ap (λ l. slice_get l y) (same n) ∙ (f.lists n y ∙ ((λ i. place_of (sym here i, y) ns) ∙ stays a y (rw (eq-eqb a n here, ne_eqb y x other) refl)))))
+              ap (λ l. slice_get l y) (pushed a here)
+              ∙ (push-elsewhere (list_at v.lists n) v.count y (λ e. other (e ∙ long))
+              ∙ (f.lists n y ∙ ((λ i. place_of (sym here i, y) ns) ∙ stays a y (rw (eq-eqb a n here, ne_eqb y x other) refl))))
         ]
-        | inr elsewhere ↦ ap (λ l. slice_get l y) (get_or-set_other ks n a pushed [] elsewhere ∙ same a) ∙ (f.lists a y ∙ stays a y (rw (ne_eqb a n elsewhere) refl))
+        | inr elsewhere ↦ ap (λ l. slice_get l y) (others a elsewhere) ∙ (f.lists a y ∙ stays a y (rw (ne_eqb a n elsewhere) refl))
       ];
       count = omega (arith, f.count, ap length longer, length-append ns ((n, x) ∷ []));
     }

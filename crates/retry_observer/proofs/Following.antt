@@ -23,7 +23,8 @@ use Rattle.retry_observer.specs.Places.{ComeAfter, Follows, PlacesView, carried_
 use Rattle.retry_observer.proofs.Carrying.{names-are, sent-there}
 use Rattle.retry_observer.proofs.Naming.{is-used}
 use Rattle.retry_observer.proofs.Sending.{EndsBelow, EndsIn, Makes, again_last, come-new, come-nil, ending, ends-in, made, made-again, new_numbers}
-use Rattle.retry_observer.proofs.Worlds.{AreNamed, ack_last, again-below, allowed-before, are-named, message-makes, numbers-copied, numbers-sent}
+use Rattle.observer_parts.specs.PartLaws.{allowed-before}
+use Rattle.retry_observer.proofs.Worlds.{AreNamed, ack_last, again-below, are-named, message-makes, numbers-copied, numbers-sent}
 
 module _ {S I O M : Type 0} (m : Meaning S I O M) where
   abbrev RetryWorld : Type 0

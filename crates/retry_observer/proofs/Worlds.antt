@@ -7,6 +7,7 @@ use Rattle.std.proofs.lemmas.Option.{none-some, same_Some}
 use Rattle.handler_trait.specs.Handling.{Meaning, Effect, Recovery}
 use Rattle.net_semantics.specs.Runs.{IsAllowed, first_refused_from, no_recovery, run, run_from}
 use Rattle.net_semantics.specs.RunLaws.{place_and_why-none}
+use Rattle.observer_parts.specs.PartLaws.{allowed-before}
 use Rattle.net_semantics.specs.Steps.{acts_at, after_event, copied, crashed, delivered, delivery, destination_of, effect_at, fails, next, next_in, node_named, rebooted, refusal_in, refusal_of, with_packets}
 use Rattle.net_semantics.specs.StepLaws.{ends_delivered}
 use Rattle.net_semantics.specs.Worlds.{Packet, World, change_at, ends_of, first_world, put, sent_by}
@@ -41,15 +42,6 @@ passes test n e = by-case (test n) e where
   by-case : (b : Bool) → not b ≡ false → b ≡ true
   by-case true is = refl
   by-case false is = sym is
-
--- where no step is refused, neither those before the last one are, nor that
-pub allowed-before : {S K I O M : Type 0} (net : Net) (m : Meaning S I O M) (r : Recovery S K) (ss : List (Step I)) (s : Step I) (w : World S K M) → first_refused_from net m r w (ss ++ s ∷ []) ≡ None
-    → (first_refused_from net m r w ss ≡ None) × (refusal_of net m (run_from m r w ss) s ≡ None)
-allowed-before net m r [] s w allowed = (refl, (place_and_why-none (refusal_of net m w s) None allowed).0)
-allowed-before net m r (t ∷ ss) s w allowed =
-    let both = place_and_why-none (refusal_of net m w t) (first_refused_from net m r (next m r w t) (ss ++ s ∷ [])) allowed in
-    let rest = allowed-before net m r ss s (next m r w t) both.1 in
-    (rw (both.0, rest.0) refl, rest.1)
 
 module _ {M : Type 0} where
   -- a copy that goes or comes changes no number

@@ -1,8 +1,8 @@
 -- What the packets of retrying handlers carry: packets of the run within, each by its place there. Here a packet is its source and,
 -- where it is data, its number.
 use Rattle.std.specs.Prelude.{◌≡◌, ℕ, zero, suc, ◌+◌, ◌≤◌, ◌==◌, ◌&&◌, Bool, true, false, List, [], ◌∷◌, ◌++◌, length, map, take, Option, Some, None, slice_get, if◌then◌else◌}
-use Rattle.std.proofs.Common.{get_or}
 use Rattle.net_semantics.specs.Worlds.{Packet}
+use Rattle.observer_parts.specs.PacketLists.{list_at}
 use Rattle.vst_base.specs.declared.retry.RetryMsg.{RetryMsg}
 use Rattle.vst_base.specs.declared.retry.RetryMsg.TheVariants as msg
 use Rattle.retry_xform.specs.Image.{place_of, with_name}
@@ -61,14 +61,10 @@ pub record PlacesView : Type 0 where
   pub lists : List (List ℕ)
   pub count : ℕ
 
--- those of one node, as they are kept
-abbrev pub kept_of : List (List ℕ) → ℕ → List ℕ
-kept_of lists n = get_or lists n []
-
 -- what is kept follows these packets
 pub record Follows (v : PlacesView) (bs : List (ℕ × Option ℕ)) : Type 0 where
   pub carried : v.carried ≡ all_carried (named bs) bs
-  pub lists : (n number : ℕ) → slice_get (kept_of v.lists n) number ≡ place_of (n, number) (named bs)
+  pub lists : (n number : ℕ) → slice_get (list_at v.lists n) number ≡ place_of (n, number) (named bs)
   pub count : v.count ≡ length (named bs)
 
 -- a packet that comes after these is new data: it has the next number of its source

@@ -1,7 +1,8 @@
-ghost use Rattle.std.specs.Prelude.{◌≡◌, ℕ, ◌+◌, ◌<◌, ◌^◌, List, [], ◌∷◌, ◌++◌, Option, length, map, OnOk};
-ghost use Rattle.retry_observer.specs.Places.{Comes, Follows, IsKnown, IsNew, carried_at, kept_of, named};
+ghost use Rattle.std.specs.Prelude.{◌≡◌, ℕ, ◌+◌, ◌<◌, ◌^◌, List, [], ◌∷◌, ◌++◌, Option, length, OnOk};
+ghost use Rattle.retry_observer.specs.Places.{Comes, Follows, IsKnown, IsNew, carried_at, named};
 ghost use Rattle.retry_xform.specs.Image.{place_of};
 
+use observer_parts::PacketLists;
 use std::alloc::{AllocError, Global};
 use std::marker::Model;
 use vst_base::Node;
@@ -13,32 +14,20 @@ pub struct Places {
     // What each packet carries.
     carried: Vec<Option<u32>>,
     // The packets of the run within of each node, by their numbers.
-    lists: Vec<Vec<u32>>,
+    lists: PacketLists,
     // How many packets of the run within there are.
     count: u32,
 }
 
 impl Model for Places {
-    ghost use Rattle.std.specs.Prelude.{◌<◌, ◌≤◌, ◌^◌, length, map};
+    ghost use Rattle.std.specs.Prelude.{◌<◌, ◌≤◌, ◌^◌, length};
     ghost use Rattle.retry_observer.specs.Places.{PlacesView};
 
     ghost Value = { PlacesView };
 
-    ghost view = { λ p. record { carried = p.carried.items; lists = map (λ l. l.items) p.lists.items; count = p.count } };
+    ghost view = { λ p. record { carried = p.carried.items; lists = p.lists; count = p.count } };
 
     ghost invariant = { λ p. (p.count ≤ length p.carried.items) × (length p.carried.items < 2 ^ 32) };
-}
-
-// Makes a list for a node, and for each before it, empty where there was none.
-fn reach(alloc: Global, lists: &mut Vec<Vec<u32>>, node: usize) -> Result<(), AllocError>
-    ensures there { OnOk result (node < length lists.new.items) }
-    ensures same { OnOk result ((j : ℕ)
-        → kept_of (map (λ l. l.items) lists.new.items) j ≡ kept_of (map (λ l. l.items) lists.old.items) j) }
-{
-    while lists.len() <= node {
-        lists.push(Vec::new(alloc))?;
-    }
-    Ok(())
 }
 
 impl Places {
@@ -48,7 +37,7 @@ impl Places {
     {
         Places {
             carried: Vec::new(alloc),
-            lists: Vec::new(alloc),
+            lists: PacketLists::new(alloc),
             count: 0,
         }
     }
@@ -69,9 +58,7 @@ impl Places {
     {
         let count = self.count;
         let node = usize::from(source.index());
-        reach(alloc, &mut self.lists, node)?;
-        let list = &mut self.lists[node];
-        list.push(count)?;
+        self.lists.push(alloc, node, count)?;
         self.carried.push(Some(count))?;
         self.count = count + 1;
         Ok(())
@@ -102,7 +89,6 @@ impl Places {
     pub fn place_with(&self, node: Node, number: u64) -> Option<u32>
         ensures { (bs : List (ℕ × Option ℕ)) → Follows self.now bs → result ≡ place_of (node, number) (named bs) }
     {
-        let list = self.lists.get(usize::from(node.index()))?;
-        list.get(number as usize).copied()
+        self.lists.get(usize::from(node.index()), number as usize)
     }
 }

@@ -1,11 +1,9 @@
 ghost use Rattle.std.specs.Prelude.{◌≡◌, ℕ, List, Option, option_map, slice_get};
 ghost use Rattle.net_semantics.specs.Runs.{no_recovery, run};
 ghost use Rattle.net_semantics.specs.ShownFail.{kept_at};
-ghost use Rattle.raft_xform.specs.Raft.{raft, raft_recovery};
 ghost use Rattle.vst_base.specs.declared.stack.StackId.{StackId};
 ghost use Rattle.vst_base.specs.declared.step.Step.{Step};
 ghost use Rattle.xform_stack.specs.Systems.{world_of};
-ghost use Rattle.wire_messages.specs.RaftBytes.{raft_message};
 ghost use Rattle.wired.specs.Wiring.{no_name};
 ghost use Rattle.runs_in_bytes.specs.Carrying.{IsCarried, held_content};
 ghost use Rattle.runs_in_bytes.specs.CarryingLaws.{carried};
@@ -13,11 +11,8 @@ ghost use Rattle.runs_in_bytes.specs.ClusterLaws.{kept_as};
 
 use crate::{ClusterInBytes, InBytes};
 use handler_trait::Handlers;
-use node_body::Commands;
-use raft_xform::Raft;
-use vst_base::Machine;
 use wire_messages::Wire;
-use wired::{AlwaysFits, OnWire, Saves};
+use wired::{OnDisk, OnWire, Saves};
 use xform_stack::Network;
 
 /// A network whose packets are bytes.
@@ -41,7 +36,7 @@ pub trait KeepsBytes<H: Saves<Msg: Wire>>: CarriesBytes<H> + Network<H, Kept = H
 
     /// After each schedule that it has followed, that is the bytes of what the node kept when it stopped.
     ghost keeps: { (w : Self) (ss : List (Step H.Input)) → Self.sound w → Self.follows w ss
-        → (n : ℕ) → stopped w n ≡ option_map ((H.saving (Self.within w) no_name).spell n) ((world_of (Self.system w) ss).kept n) };
+        → (n : ℕ) → stopped w n ≡ option_map ((H.saving (Self.within w) (Self.stack w) no_name).spell n) ((world_of (Self.system w) ss).kept n) };
 }
 
 impl<H: OnWire> CarriesBytes<H> for InBytes<H> {
@@ -54,28 +49,20 @@ impl<H: OnWire> CarriesBytes<H> for InBytes<H> {
         (H.meaning w.handlers.inner).nodes w.taken sound.own.named (sound.world.packets k) (follows.shows.packets k) };
 }
 
-impl<M: Machine> CarriesBytes<Raft<M>> for ClusterInBytes<M>
-where
-    M::Cmd: Commands + AlwaysFits,
-{
-    ghost stack = { λ _. M.Cmd.stack };
+impl<H: OnDisk> CarriesBytes<H> for ClusterInBytes<H> {
+    ghost stack = { λ w. w.handlers.stack };
 
     ghost held = { λ w k. held_content (slice_get w.packets k) };
 
-    ghost carries = { λ w ss sound follows k. carried (raft_message M.Cmd.format) M.Cmd.stack w.handlers.name
-        (run (raft w.handlers.inner.inner.nodes (M.meaning w.handlers.inner.inner.machine))
-        (raft_recovery (M.meaning w.handlers.inner.inner.machine)) ss).packets (slice_get w.packets k) k w.handlers.inner.inner.nodes
-        w.taken sound.own.named (sound.world.world.packets k) (follows.shows.packets k) };
+    ghost carries = { λ w ss sound follows k. carried H.Msg.format w.handlers.stack w.handlers.name
+        (run (H.meaning w.handlers.inner.inner) (H.recovery w.handlers.inner.inner) ss).packets (slice_get w.packets k) k
+        (H.meaning w.handlers.inner.inner).nodes w.taken sound.own.named (sound.world.world.packets k) (follows.shows.packets k) };
 }
 
-impl<M: Machine> KeepsBytes<Raft<M>> for ClusterInBytes<M>
-where
-    M::Cmd: Commands + AlwaysFits,
-{
+impl<H: OnDisk> KeepsBytes<H> for ClusterInBytes<H> {
     ghost stopped = { λ w n. kept_at (slice_get w.stopped n) };
 
-    ghost keeps = { λ w ss sound follows n. kept_as M.Cmd.format M.Cmd.stack w.handlers
-        (run (raft w.handlers.inner.inner.nodes (M.meaning w.handlers.inner.inner.machine))
-        (raft_recovery (M.meaning w.handlers.inner.inner.machine)) ss) n (kept_at (slice_get w.stopped n)) sound.own.named
-        (follows.shows.kept n) };
+    ghost keeps = { λ w ss sound follows n. kept_as H.Msg.format H.saving w.handlers
+        (run (H.meaning w.handlers.inner.inner) (H.recovery w.handlers.inner.inner) ss) n (kept_at (slice_get w.stopped n))
+        sound.own.named (follows.shows.kept n) };
 }

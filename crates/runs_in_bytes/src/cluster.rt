@@ -1,155 +1,129 @@
-ghost use Rattle.std.specs.Prelude.{◌≡◌, [], IfOk, refl};
+ghost use Rattle.std.specs.Prelude.{◌≡◌, ◌≤◌, [], IfOk, refl};
 ghost use Rattle.raft_types.specs.Messages.{IsClusterSize};
-ghost use Rattle.raft_xform.specs.Raft.{raft_recovery};
+ghost use Rattle.vst_base.specs.declared.net.Net.TheVariants as net_id;
+ghost use Rattle.wire_codec.specs.Datagrams.{longest_message};
 ghost use Rattle.wire_codec.specs.Headings.{HasByte};
-ghost use Rattle.wire_messages.specs.RaftBytes.{raft_message};
-ghost use Rattle.wired.specs.RaftSaving.{IsAsked};
 ghost use Rattle.wired.specs.WiredRuns.{IsFormatOf};
 ghost use Rattle.xform_stack.specs.Running.{HasTaken};
-ghost use Rattle.xform_stack.specs.Systems.{cluster_of};
 ghost use Rattle.runs_in_bytes.specs.ClusterLaws.{cluster_tells};
 ghost use Rattle.runs_in_bytes.specs.Clusters.{IsOwnCluster, byte_world};
 
 use crate::name::no_name;
 use crate::{OnBytes, OnBytesAlone};
 use net_semantics::{StepFault, Trace};
-use node_body::Commands;
-use raft_types::{Kept, RaftInput, RaftOut};
-use raft_xform::{Raft, RaftState};
 use std::alloc::{AllocError, Global};
 use std::marker::Model;
-use vst_base::{Machine, Net, Node, Step};
-use wired::{AlwaysFits, Cluster, Saved, SeatState, Wired, clusters_run_the_same_on_bytes_alone};
+use vst_base::{Net, Node, StackId, Step};
+use wired::{Cluster, OnDisk, Saved, SeatState, Wired, clusters_run_the_same_on_bytes_alone};
 use xform_stack::Network;
 
-impl<M: Machine> OnBytesAlone for Wired<Saved<Raft<M>>>
-where
-    M::Cmd: Commands + AlwaysFits,
-{
-    type Inner = Raft<M>;
+impl<H: OnDisk> OnBytesAlone for Wired<Saved<H>> {
+    type Inner = H;
 
-    type InnerKept = Kept<M::Cmd>;
+    type InnerKept = H::Kept;
 
     ghost within = { λ w. w.inner.inner };
 
-    ghost within_recovery = { λ w. raft_recovery (M.meaning w.inner.inner.machine) };
+    ghost within_recovery = { λ w. H.recovery w.inner.inner };
 
-    ghost byte_world = { λ w. byte_world M.Cmd.format M.Cmd.stack w };
+    ghost byte_world = { λ w. byte_world H.Msg.format H.saving w };
 
-    ghost has_bytes = { IsAsked M.Cmd.format };
+    ghost has_bytes = { H.has_bytes };
 
-    ghost is_own = { IsOwnCluster M.Cmd.format M.Cmd.stack };
+    ghost is_own = { λ w. IsOwnCluster H.Msg.format H.longest H.meaning w };
 
-    fn has_bytes(input: &RaftInput<M::Cmd>) {
-        input.client.number();
-        input.request.number();
-        input.cmd.fits();
+    fn has_bytes(input: &H::Input) {
+        H::has_bytes(input);
     }
 
     fn run_on_bytes_alone() {
-        clusters_run_the_same_on_bytes_alone::<M::State, M::Out, M::Cmd>();
+        clusters_run_the_same_on_bytes_alone::<H>();
     }
 
-    fn inner(&self) -> &Raft<M> {
+    fn inner(&self) -> &H {
         self.inner().inner()
     }
 
-    fn inner_state(
-        state: &SeatState<RaftState<M::State, M::Cmd, M::Out>>,
-    ) -> &RaftState<M::State, M::Cmd, M::Out> {
+    fn inner_state(state: &SeatState<H::State>) -> &H::State {
         state.inner()
     }
 
-    ghost tells = { λ w. cluster_tells M.Cmd.format M.Cmd.stack (M.meaning w.inner.inner.machine) w };
+    ghost tells = { λ w. cluster_tells H.Msg.format H.saving w H.meaning };
 }
 
-// A cluster of this machine on so many nodes, carried on bytes alone.
-fn on_bytes<M: Machine>(machine: M, nodes: u8) -> Wired<Saved<Raft<M>>>
-where
-    M::Cmd: Commands + AlwaysFits,
-    requires size { IsClusterSize nodes }
-    requires packets { HasByte M.Cmd.stack }
-    requires format { IsFormatOf M.Cmd.stack (raft_message M.Cmd.format) }
-    ensures within { result.inner.inner ≡ record { machine = machine; nodes = nodes } }
-    ensures own { IsOwnCluster M.Cmd.format M.Cmd.stack result }
+// A cluster of these handlers, carried on bytes of a stack alone.
+fn on_bytes<H: OnDisk>(handlers: H, stack: StackId) -> Wired<Saved<H>>
+    requires size { IsClusterSize (H.meaning handlers).nodes }
+    requires packets { HasByte stack }
+    requires format { IsFormatOf stack H.Msg.format }
+    requires short { H.longest ≤ longest_message }
+    ensures within { result.inner.inner ≡ handlers }
+    ensures stack { result.stack ≡ stack }
+    ensures own { IsOwnCluster H.Msg.format H.longest H.meaning result }
 {
-    let name = no_name();
     let cluster = Cluster {
-        stack: M::Cmd::stack(),
-        name,
+        stack,
+        name: no_name(),
     };
-    let nodes = Saved::new(Raft::new(machine, nodes), name);
-    Wired::new(nodes, cluster)
+    Wired::new(Saved::new(handlers, cluster), cluster)
 }
 
-/// A cluster of a machine, carried on bytes alone.
+/// A cluster of handlers whose nodes stop and start again, carried on bytes alone.
 #[derive(Drop)]
-pub struct ClusterInBytes<M: Machine>
-where
-    M::Cmd: Commands + AlwaysFits,
-{
-    network: OnBytes<Wired<Saved<Raft<M>>>>,
+pub struct ClusterInBytes<H: OnDisk> {
+    network: OnBytes<Wired<Saved<H>>>,
 }
 
-impl<M: Machine> Model for ClusterInBytes<M>
-where
-    M::Cmd: Commands + AlwaysFits,
-{
-    ghost use Rattle.std.specs.Coded.{codes};
-    ghost use Rattle.raft_xform.specs.Codes.{raft_code};
-    ghost use Rattle.wired.specs.Saving.{seated_code};
+impl<H: OnDisk> Model for ClusterInBytes<H> {
     ghost use Rattle.runs_in_bytes.specs.Clusters.{ClusterView};
 
-    ghost Value = { ClusterView M M.State M.Cmd M.Out };
-
-    ghost coded = { Prim.hlevel (codes, seated_code (raft_code M.State.code M.Cmd.code M.Out.code)) };
+    ghost Value = { ClusterView H H.State H.Input H.Output };
 
     ghost view = { λ r. r.network };
 }
 
-impl<M: Machine> ClusterInBytes<M>
-where
-    M::Cmd: Commands + AlwaysFits,
-{
-    /// No step yet of this machine on a cluster of so many nodes, 1 to `MAX_NODES`, whose messages are those of the stack of its
-    /// commands.
-    pub fn new(alloc: Global, machine: M, nodes: u8) -> Result<Self, AllocError>
-        requires size { IsClusterSize nodes }
-        requires packets { HasByte M.Cmd.stack }
-        requires format { IsFormatOf M.Cmd.stack (raft_message M.Cmd.format) }
-        ensures handlers { IfOk result (λ network. network.handlers.inner.inner ≡ record { machine = machine; nodes = nodes }) }
-        ensures started { IfOk result (λ network. HasTaken (⟦<ClusterInBytes<M> as Network<Raft<M>>>⟧.system network)
-            ⟦<ClusterInBytes<M> as Network<Raft<M>>>⟧.follows ⟦<ClusterInBytes<M> as Network<Raft<M>>>⟧.progress [] network) }
+impl<H: OnDisk> ClusterInBytes<H> {
+    /// No step yet of these handlers on a cluster of 1 to `MAX_NODES` nodes, in the bytes of a stack whose messages are theirs.
+    pub fn new(alloc: Global, handlers: H, stack: StackId) -> Result<Self, AllocError>
+        requires size { IsClusterSize (H.meaning handlers).nodes }
+        requires packets { HasByte stack }
+        requires format { IsFormatOf stack H.Msg.format }
+        requires short { H.longest ≤ longest_message }
+        ensures handlers { IfOk result (λ network. network.handlers.inner.inner ≡ handlers) }
+        ensures stack { IfOk result (λ network. network.handlers.stack ≡ stack) }
+        ensures started { IfOk result (λ network. HasTaken (⟦<ClusterInBytes<H> as Network<H>>⟧.system network)
+            ⟦<ClusterInBytes<H> as Network<H>>⟧.follows ⟦<ClusterInBytes<H> as Network<H>>⟧.progress [] network) }
         ensures trace { IfOk result (λ network. network.trace ≡ []) }
-        ensures sound { IfOk result ⟦<ClusterInBytes<M> as Network<Raft<M>>>⟧.sound }
+        ensures sound { IfOk result ⟦<ClusterInBytes<H> as Network<H>>⟧.sound }
     {
         Ok(ClusterInBytes {
-            network: OnBytes::start(alloc, on_bytes(machine, nodes))?,
+            network: OnBytes::start(alloc, on_bytes(handlers, stack))?,
         })
     }
 }
 
-impl<M: Machine> Network<Raft<M>> for ClusterInBytes<M>
-where
-    M::Cmd: Commands + AlwaysFits,
-{
-    type Kept = Kept<M::Cmd>;
+impl<H: OnDisk> Network<H> for ClusterInBytes<H> {
+    type Kept = H::Kept;
 
     ghost within = { λ w. w.handlers.inner.inner };
 
-    ghost system = { λ w. cluster_of (M.meaning w.handlers.inner.inner.machine) w.handlers.inner.inner.nodes };
+    ghost system = { λ w. record {
+      net = net_id.Fail;
+      meaning = H.meaning w.handlers.inner.inner;
+      recovery = H.recovery w.handlers.inner.inner;
+    } };
 
     ghost progress = { λ w. record { trace = w.trace; taken = w.taken } };
 
-    ghost follows = { ⟦<OnBytes<Wired<Saved<Raft<M>>>> as Network<Raft<M>>>⟧.follows };
+    ghost follows = { ⟦<OnBytes<Wired<Saved<H>>> as Network<H>>⟧.follows };
 
-    ghost sound = { ⟦<OnBytes<Wired<Saved<Raft<M>>>> as Network<Raft<M>>>⟧.sound };
+    ghost sound = { ⟦<OnBytes<Wired<Saved<H>>> as Network<H>>⟧.sound };
 
-    fn step(&mut self, step: &Step<RaftInput<M::Cmd>>) -> Result<(), StepFault> {
+    fn step(&mut self, step: &Step<H::Input>) -> Result<(), StepFault> {
         self.network.step(step)
     }
 
-    fn handlers(&self) -> &Raft<M> {
+    fn handlers(&self) -> &H {
         self.network.handlers()
     }
 
@@ -157,7 +131,7 @@ where
         self.network.net()
     }
 
-    fn trace(&self) -> &Trace<RaftInput<M::Cmd>, RaftOut<M::Out>> {
+    fn trace(&self) -> &Trace<H::Input, H::Output> {
         self.network.trace()
     }
 
@@ -165,7 +139,7 @@ where
         self.network.forget_trace();
     }
 
-    fn into_trace(self) -> Trace<RaftInput<M::Cmd>, RaftOut<M::Out>> {
+    fn into_trace(self) -> Trace<H::Input, H::Output> {
         self.network.into_trace()
     }
 
@@ -173,7 +147,7 @@ where
         self.network.taken()
     }
 
-    fn state(&self, n: Node) -> &RaftState<M::State, M::Cmd, M::Out> {
+    fn state(&self, n: Node) -> &H::State {
         self.network.state(n)
     }
 

@@ -14,6 +14,8 @@ mod on_bytes;
 pub use alone::OnBytesAlone;
 pub use carries_bytes::{CarriesBytes, KeepsBytes};
 pub use cluster::ClusterInBytes;
-pub use examples::{worked_clusters, worked_packets, worked_worlds};
+pub use examples::{
+    worked_clusters, worked_network, worked_packets, worked_readers, worked_worlds,
+};
 pub use in_bytes::InBytes;
 pub use on_bytes::OnBytes;

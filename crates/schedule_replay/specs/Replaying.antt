@@ -26,6 +26,7 @@ why_of refusal.NoCopy = why.NoCopy
 why_of refusal.NotFirst = why.NotFirst
 why_of refusal.NodeBusy = why.NodeBusy
 why_of refusal.NodeIdle = why.NodeIdle
+why_of refusal.PairUsed = why.PairUsed
 
 -- the line of the step at a place; that of a refusal is always the place of a step
 abbrev pub line_at : {I : Type 0} → ℕ → List (ℕ × Step I) → ℕ

@@ -35,6 +35,7 @@ fn why_of(refusal: StepRefusal) -> Why
         StepRefusal::NotFirst => Why::NotFirst,
         StepRefusal::NodeBusy => Why::NodeBusy,
         StepRefusal::NodeIdle => Why::NodeIdle,
+        StepRefusal::PairUsed => Why::PairUsed,
     }
 }
 

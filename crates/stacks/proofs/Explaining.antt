@@ -6,7 +6,6 @@ use Rattle.net_semantics.specs.RunLaws.{outputs_in-machine_trace_from}
 use Rattle.net_semantics.specs.Runs.{IsAllowed, machine_trace, no_recovery, outputs_in}
 use Rattle.net_semantics.specs.Worlds.{first_world}
 use Rattle.primary_backup.proofs.Backing.{bag_explained}
-use Rattle.raft_safety.proofs.Ordering.{runs_are_linearizable}
 use Rattle.trace_maps.proofs.Alone.{all-of-them, any-commands, from-any-state}
 use Rattle.trace_maps.specs.SingleNode.{single_node, alone}
 use Rattle.transformers.specs.Transformers.{IsCarried}
@@ -35,8 +34,8 @@ layers-explain (Itself i l) n carried = λ ss allowed. record { allowed = allowe
 
 pub explains : (row : StackRow) (k : Kind) (n : ℕ) → IsFit row k → row.least ≤ n → n ≤ row.most → ExplainsAll (plays k n)
 explains row (Steady l) n fit least most = layers-explain l n fit.nodes.carried
-explains row (Clustered p) n fit least most = λ ss allowed.
-    runs_are_linearizable p.State p.Command p.Output p.machine n ss (record { size = (omega (arith, fit.some, least), omega (arith, fit.few, most)); allowed = allowed })
+explains row (Clustered k) n fit least most = λ ss allowed.
+    fit.nodes.acts.linearizable n ss (omega (arith, fit.some, least), omega (arith, fit.few, most)) allowed
 
 takes-commands : (p : Application) → TakesCommands p
 takes-commands p =
@@ -66,4 +65,4 @@ layers-take-images (Itself i l) = tt
 
 pub takes-images : (k : Kind) → TakesImages k
 takes-images (Steady l) = layers-take-images l
-takes-images (Clustered p) = tt
+takes-images (Clustered k) = tt

@@ -12,6 +12,7 @@ use Rattle.stacks.specs.Fits.{IsCarriedBy, IsFit}
 use Rattle.stacks.specs.Plays.{IfFound}
 use Rattle.stacks.specs.Kinds.{Service}
 use Rattle.stacks.specs.Table.{kind_at}
+use Rattle.stacks.proofs.Clusters.{raft-acts}
 
 -- sequence numbering stands on the network that it carries handlers from, and carries all
 numbered : (s : Service) → s.net ≡ numbering.lower → IsCarriedBy numbering s
@@ -26,5 +27,5 @@ retried : (s : Service) → s.net ≡ retransmission.lower → IsCarriedBy retra
 retried s stands = record { stands = stands; carries = retransmission_is s.State s.Input s.Output s.Msg }
 
 pub fits : (i : StackId) → IfFound (kind_at (row_of i).net i) (IsFit (row_of i))
-fits stack.Lock = search (rules, numbered, ordered, retried)
-fits _ = search (rules, numbered, ordered, retried)
+fits stack.Lock = search (rules, numbered, ordered, retried, raft-acts)
+fits _ = search (rules, numbered, ordered, retried, raft-acts)

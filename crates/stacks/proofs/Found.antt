@@ -50,23 +50,23 @@ made_in a = record { plays = a.plays; made = a.made }
 
 pub plays-of-stack : (k : Kind) (n : ℕ) → (stack k n).plays ≡ plays k n
 plays-of-stack (Steady l) n = refl
-plays-of-stack (Clustered p) n = refl
+plays-of-stack (Clustered k) n = refl
 
 pub claims-of-stack : (k : Kind) (n : ℕ) → claims_in (stack k n) ≡ claims k n
 claims-of-stack (Steady l) n = refl
-claims-of-stack (Clustered p) n = refl
+claims-of-stack (Clustered k) n = refl
 
 pub made-of-stack : (k : Kind) (n : ℕ) → made_in (stack k n) ≡ makes k n
 made-of-stack (Steady l) n = refl
-made-of-stack (Clustered p) n = refl
+made-of-stack (Clustered k) n = refl
 
 pub plays-of-claims : (k : Kind) (n : ℕ) → (claims k n).plays ≡ plays k n
 plays-of-claims (Steady l) n = refl
-plays-of-claims (Clustered p) n = refl
+plays-of-claims (Clustered k) n = refl
 
 pub plays-of-made : (k : Kind) (n : ℕ) → (makes k n).plays ≡ plays k n
 plays-of-made (Steady l) n = refl
-plays-of-made (Clustered p) n = refl
+plays-of-made (Clustered k) n = refl
 
 -- where two maps give the same, what holds of the one holds of the other
 module _ {A B : Type 1} (f g : A → B) (same : (a : A) → f a ≡ g a) where

@@ -1,4 +1,5 @@
 pub mod Found
+pub mod Clusters
 pub mod Fitting
 pub mod Explaining
 pub mod Playing

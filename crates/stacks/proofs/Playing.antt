@@ -9,7 +9,7 @@ use Rattle.vst_base.specs.declared.net.Net.{Net}
 use Rattle.vst_base.specs.declared.net.Net.TheVariants as net
 use Rattle.xform_stack.specs.Systems.{cluster_of, played_on, system_of}
 use Rattle.stacks.specs.Explained.{alone_play}
-use Rattle.stacks.specs.Kinds.{Application, cluster_play, header_on, order_below, raft_texts, schedule_below}
+use Rattle.stacks.specs.Kinds.{Application, cluster_play, header_on, order_below, raft_of, raft_texts, schedule_below}
 use Rattle.stacks.specs.Plays.{play_of}
 
 pub alone-plays : (p : Application) (on : Net) (m : Meaning p.State p.Command p.Output (Unit {0})) → on ≡ net.One → m ≡ single_node p.machine
@@ -17,5 +17,5 @@ pub alone-plays : (p : Application) (on : Net) (m : Meaning p.State p.Command p.
 alone-plays p on m is-one is-it = rw (is-one, is-it) refl
 
 pub cluster-plays : (p : Application) (nodes : ℕ) (m : MachineMeaning p.State p.Command p.Output) (n : ℕ) → m ≡ p.machine → n ≡ nodes
-    → cluster_play p nodes ≡ play_of (played_on (cluster_of m n) (executed_by m n)) (raft_texts p.texts) (order_below p.texts)
+    → cluster_play (raft_of p) nodes ≡ play_of (played_on (cluster_of m n) (executed_by m n)) (raft_texts p.texts) (order_below p.texts)
 cluster-plays p nodes m n is-it are = rw (is-it, are) refl

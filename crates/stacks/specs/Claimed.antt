@@ -60,7 +60,7 @@ pub record AnyClaims : Type 1 where
 
 abbrev pub claims : Kind → ℕ → AnyClaims
 claims (Steady l) n = record { plays = plays (Steady l) n; claimed = layers_claimed l }
-claims (Clustered p) n = record { plays = plays (Clustered p) n; claimed = cluster_claimed p }
+claims (Clustered k) n = record { plays = plays (Clustered k) n; claimed = cluster_claimed k.application }
 
 -- claims on a stack are those on its own network, on as many nodes as it may have
 abbrev pub claims_on : StackId → Found AnyClaims

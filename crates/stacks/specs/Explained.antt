@@ -40,4 +40,4 @@ LayersTakeImages (Itself i l) = Unit {0}
 
 abbrev pub TakesImages : Kind → Type 0
 TakesImages (Steady l) = LayersTakeImages l
-TakesImages (Clustered p) = Unit {0}
+TakesImages (Clustered k) = Unit {0}

@@ -1,4 +1,5 @@
--- That a kind of stack fits the row of a stack: its network, its numbers of nodes, and that each transformer carries what it stands on.
+-- That a kind of stack fits the row of a stack: its network, its numbers of nodes, that each transformer carries what it stands on, and that
+-- a cluster acts as one machine.
 use Rattle.std.specs.Prelude.{◌≡◌, ℕ, ◌≤◌}
 use Rattle.vst_base.specs.Stacks.{row_of}
 use Rattle.vst_base.specs.declared.net.Net.{Net}
@@ -6,12 +7,13 @@ use Rattle.vst_base.specs.declared.net.Net.TheVariants as net
 use Rattle.vst_base.specs.declared.node.TheConstants.{MAX_NODES}
 use Rattle.vst_base.specs.declared.stack.StackRow.{StackRow}
 use Rattle.transformers.specs.Transformers.{Carries, Transformer}
-use Rattle.stacks.specs.Kinds.{Alone, Backed, Clustered, Itself, Kind, Layers, Own, Service, Steady, Through, service}
+use Rattle.stacks.specs.Clusters.{ActsAs}
+use Rattle.stacks.specs.Kinds.{Alone, Backed, Clustered, Itself, Kind, Layers, OnCluster, Own, Service, Steady, Through, service}
 
 -- the network that schedules of a kind of stack run on
 abbrev pub net_of : Kind → Net
 net_of (Steady l) = (service l).net
-net_of (Clustered p) = net.Fail
+net_of (Clustered k) = net.Fail
 
 -- a stack has so many nodes, no fewer and no more
 pub record HasNodes (row : StackRow) (few many : ℕ) : Type 0 where
@@ -49,9 +51,13 @@ pub record AreLayersOf (row : StackRow) (l : Layers) : Type 0 where
   pub nodes : HasItsNodes row l
   pub carried : AreCarried l
 
+pub record IsClusterOf (row : StackRow) (k : OnCluster) : Type 0 where
+  pub nodes : HasNodes row 1 MAX_NODES
+  pub acts : ActsAs k.application.machine k.cluster
+
 abbrev pub IsOfItsNodes : StackRow → Kind → Type 0
 IsOfItsNodes row (Steady l) = AreLayersOf row l
-IsOfItsNodes row (Clustered p) = HasNodes row 1 MAX_NODES
+IsOfItsNodes row (Clustered k) = IsClusterOf row k
 
 pub record IsFit (row : StackRow) (k : Kind) : Type 0 where
   pub net : row.net ≡ net_of k

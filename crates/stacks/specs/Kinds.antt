@@ -16,7 +16,6 @@ use Rattle.linearizability.specs.Linearizable.{IsLinearizable}
 use Rattle.net_semantics.specs.BelowPb.{IsExplainedBy, below_pb}
 use Rattle.net_semantics.specs.Runs.{IsAllowed, machine_trace, no_recovery, trace}
 use Rattle.primary_backup.specs.Backup.{Backed as Backup, primary_backup}
-use Rattle.raft_safety.specs.Applied.{executed_by}
 use Rattle.raft_text.specs.RaftTexts.{order_text, raft_input_of, raft_input_text, raft_output_of, raft_output_text, raft_replies}
 use Rattle.raft_types.specs.declared.client.RaftInput.{RaftInput}
 use Rattle.raft_types.specs.declared.client.RaftOut.{RaftOut}
@@ -24,7 +23,8 @@ use Rattle.schedule_text.specs.Printing.{step_text}
 use Rattle.schedule_text.specs.declared.header.Header.{Header}
 use Rattle.trace_maps.specs.SingleNode.{commands, single_node, alone}
 use Rattle.transformers.specs.Transformers.{Transformer}
-use Rattle.xform_stack.specs.Systems.{cluster_of, played_on, system_of}
+use Rattle.xform_stack.specs.Systems.{played_on, system_of}
+use Rattle.stacks.specs.Clusters.{ClusterOf, cluster_played, raft_cluster}
 use Rattle.stacks.specs.Plays.{AnyPlay, ImageTexts, Play, Texts, any_play, play_of}
 
 -- handlers of so many nodes, with their texts and the inputs of made schedules by a random word and a step's place, which without a
@@ -66,10 +66,19 @@ pub data Layers : Type 1 where
   Through : Transformer → Layers → Layers
   Itself : StackId → Layers → Layers
 
--- a kind of stack: such layers, or a machine on a Raft cluster, whose nodes stop and start again
+-- an application on a kind of cluster, whose nodes stop and start again
+pub record OnCluster : Type 1 where
+  pub application : Application
+  pub cluster : ClusterOf application.Command application.Output
+
+-- on Raft
+abbrev pub raft_of : Application → OnCluster
+raft_of p = record { application = p; cluster = raft_cluster p.machine }
+
+-- a kind of stack: such layers, or a machine on a cluster
 pub data Kind : Type 1 where
   Steady : Layers → Kind
-  Clustered : Application → Kind
+  Clustered : OnCluster → Kind
 
 -- the header of a schedule of a stack on its network
 abbrev pub header_on : StackId → ℕ → Header
@@ -218,12 +227,12 @@ abbrev pub steady_plays : Service → ℕ → AnyPlay
 steady_plays s n = any_play (service_play s n) s.Explains
 
 -- on a cluster the image is the order in which one machine takes the requests
-abbrev pub cluster_play : (p : Application) → ℕ → Play (RaftInput p.Command) (RaftOut p.Output) (RaftInput p.Command)
-cluster_play p n = play_of (played_on (cluster_of p.machine n) (executed_by p.machine n)) (raft_texts p.texts) (order_below p.texts)
+abbrev pub cluster_play : (k : OnCluster) → ℕ → Play (RaftInput k.application.Command) (RaftOut k.application.Output) (RaftInput k.application.Command)
+cluster_play k n = play_of (cluster_played k.cluster n) (raft_texts k.application.texts) (order_below k.application.texts)
 
-abbrev pub cluster_plays : Application → ℕ → AnyPlay
-cluster_plays p n = any_play (cluster_play p n) (λ c. IsLinearizable p.machine c.image c.trace)
+abbrev pub cluster_plays : OnCluster → ℕ → AnyPlay
+cluster_plays k n = any_play (cluster_play k n) (λ c. IsLinearizable k.application.machine c.image c.trace)
 
 abbrev pub plays : Kind → ℕ → AnyPlay
 plays (Steady l) n = steady_plays (service l) n
-plays (Clustered p) n = cluster_plays p n
+plays (Clustered k) n = cluster_plays k n

@@ -1,5 +1,6 @@
 pub mod Plays
 pub mod ClaimTexts
+pub mod Clusters
 pub mod Kinds
 pub mod Fits
 pub mod Explained

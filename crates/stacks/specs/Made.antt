@@ -5,9 +5,10 @@ use Rattle.schedule_make.specs.Inputs.{asked_by_client}
 use Rattle.schedule_make.specs.Made.{Inputs, made}
 use Rattle.schedule_text.specs.declared.header.Header.{Header}
 use Rattle.vst_base.specs.declared.step.Step.{Step}
-use Rattle.xform_stack.specs.Systems.{cluster_of, System, system_of}
+use Rattle.xform_stack.specs.Systems.{System, system_of}
+use Rattle.stacks.specs.Clusters.{cluster_system}
 use Rattle.stacks.specs.Plays.{Found, found_map, AnyPlay}
-use Rattle.stacks.specs.Kinds.{Alone, Application, Backed, Clustered, Itself, Kind, Layers, Own, Steady, Through, plays, service}
+use Rattle.stacks.specs.Kinds.{Alone, Backed, Clustered, Itself, Kind, Layers, OnCluster, Own, Steady, Through, plays, service}
 use Rattle.stacks.specs.Table.{kind_at}
 
 abbrev pub made_on : {S K I O M : Type 0} → System S K I O M → Inputs I → ℕ → ℕ → List (Step I)
@@ -24,8 +25,8 @@ layers_make (Itself i l) = layers_make l
 abbrev pub layers_made : (l : Layers) → ℕ → ℕ → ℕ → List (Step (service l).Input)
 layers_made l n = made_on (system_of (service l).net ((service l).handlers n)) (layers_make l)
 
-abbrev pub cluster_made : (p : Application) → ℕ → ℕ → ℕ → List (Step (RaftInput p.Command))
-cluster_made p n = made_on (cluster_of p.machine n) (asked_by_client p.makes)
+abbrev pub cluster_made : (k : OnCluster) → ℕ → ℕ → ℕ → List (Step (RaftInput k.application.Command))
+cluster_made k n = made_on (cluster_system k.cluster n) (asked_by_client k.application.makes)
 
 -- a stack of so many nodes, and the schedules that are made for it
 pub record AnyMade : Type 1 where
@@ -34,7 +35,7 @@ pub record AnyMade : Type 1 where
 
 abbrev pub makes : Kind → ℕ → AnyMade
 makes (Steady l) n = record { plays = plays (Steady l) n; made = layers_made l n }
-makes (Clustered p) n = record { plays = plays (Clustered p) n; made = cluster_made p n }
+makes (Clustered k) n = record { plays = plays (Clustered k) n; made = cluster_made k n }
 
 -- those of a header
 abbrev pub makes_at : Header → Found AnyMade

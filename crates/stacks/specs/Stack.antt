@@ -21,7 +21,7 @@ any_stack play Explains claimed made = record { plays = any_play play Explains; 
 -- that of a kind, of so many nodes
 abbrev pub stack : Kind → ℕ → AnyStack
 stack (Steady l) n = record { plays = steady_plays (service l) n; claimed = layers_claimed l; made = layers_made l n }
-stack (Clustered p) n = record { plays = cluster_plays p n; claimed = cluster_claimed p; made = cluster_made p n }
+stack (Clustered k) n = record { plays = cluster_plays k n; claimed = cluster_claimed k.application; made = cluster_made k n }
 
 -- and that of a header
 abbrev pub stack_at : Header → Found AnyStack

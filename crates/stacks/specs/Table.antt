@@ -26,7 +26,7 @@ use Rattle.transformers.specs.Ordering.{ordering}
 use Rattle.transformers.specs.Numbering.{numbering}
 use Rattle.transformers.specs.Retransmission.{retransmission}
 use Rattle.stacks.specs.Plays.{Found, Here, Nowhere, found_map, AnyPlay, Texts, texts_of}
-use Rattle.stacks.specs.Kinds.{Alone, Application, Backed, Clustered, Itself, Kind, Layers, Own, OwnHandlers, Steady, Through, application, own_handlers, plays}
+use Rattle.stacks.specs.Kinds.{Alone, Application, Backed, Clustered, Itself, Kind, Layers, Own, OwnHandlers, Steady, Through, application, own_handlers, plays, raft_of}
 
 abbrev pub lock_texts : Texts LockInput LockOutput
 lock_texts = texts_of lock_text.input_of lock_text.input_text lock_text.output_of lock_text.output_text (λ _. true)
@@ -67,10 +67,10 @@ kind_at net.Dup stack.LockSeq = Here (Steady numbered_locks)
 kind_at net.One stack.Kv = Here (Steady (Alone store))
 kind_at net.Bag stack.KvPb = Here (Steady (Backed store))
 kind_at net.Dup stack.KvPbSeq = Here (Steady numbered_store)
-kind_at net.Fail stack.KvRaft = Here (Clustered store)
+kind_at net.Fail stack.KvRaft = Here (Clustered (raft_of store))
 kind_at net.One stack.Table = Here (Steady (Alone lock_table))
 kind_at net.Dup stack.TablePbSeq = Here (Steady (Through numbering (Backed lock_table)))
-kind_at net.Fail stack.TableRaft = Here (Clustered lock_table)
+kind_at net.Fail stack.TableRaft = Here (Clustered (raft_of lock_table))
 kind_at net.Ord stack.Mirror = Here (Steady (Own mirrors))
 kind_at net.Dup stack.MirrorFifo = Here (Steady (Through ordering (Own mirrors)))
 kind_at net.Loss stack.LockSeqRetry = Here (Steady (Through retransmission (Itself stack.LockSeq numbered_locks)))

@@ -2,7 +2,7 @@ ghost use Rattle.std.specs.Prelude.{◌≡◌, ◌≤◌, ◌+◌, [], IfOk, len
 ghost use Rattle.linearizability.specs.Linearizable.{IsLinearizable};
 ghost use Rattle.raft_types.specs.Messages.{IsClusterSize};
 ghost use Rattle.stacks.specs.Claimed.{cluster_claimed};
-ghost use Rattle.stacks.specs.Kinds.{application, cluster_play};
+ghost use Rattle.stacks.specs.Kinds.{application, cluster_play, raft_of};
 ghost use Rattle.stacks.specs.Made.{cluster_made};
 ghost use Rattle.stacks.specs.Plays.{texts_of};
 ghost use Rattle.wire_codec.specs.Headings.{HasByte};
@@ -13,7 +13,6 @@ use crate::{Application, Judged, Plays, StackCode};
 use applied_order::AppliedOrder;
 use check_text::{Claim, Orders};
 use claim_verdicts::{Verdict, cluster_verdict};
-use node_body::Commands;
 use raft_text::RaftText;
 use raft_types::{RaftInput, RaftOut};
 use raft_xform::Raft;
@@ -33,7 +32,7 @@ pub struct Clustered<M> {
 
 impl<M: Application> Plays for Clustered<M>
 where
-    M::Cmd: Commands + AlwaysFits,
+    M::Cmd: AlwaysFits,
 {
     type Input = RaftInput<M::Cmd>;
 
@@ -43,29 +42,28 @@ where
 
     type Text = RaftText<M::Text>;
 
-    type Running = Running<Raft<M>, ClusterInBytes<M>, AppliedOrder<M::Cmd>>;
+    type Running = Running<Raft<M>, ClusterInBytes<Raft<M>>, AppliedOrder<M::Cmd>>;
 
-    ghost play = { cluster_play (application M.own (M.meaning M.machine)
-        (texts_of M.Text.input_of M.Text.input_text M.Text.output_of M.Text.output_text M.Text.replies) M.Inputs.inputs) };
+    ghost play = { cluster_play (raft_of (application M.own (M.meaning M.machine)
+        (texts_of M.Text.input_of M.Text.input_text M.Text.output_of M.Text.output_text M.Text.replies) M.Inputs.inputs)) };
 
     ghost Explains = { λ c. IsLinearizable (M.meaning M.machine) c.image c.trace };
 
-    ghost ready = { λ i n. IsClusterSize n × (M.Cmd.stack ≡ i) × HasByte M.Cmd.stack
-        × IsFormatOf M.Cmd.stack (raft_message M.Cmd.format) };
+    ghost ready = { λ i n. IsClusterSize n × HasByte i × IsFormatOf i (raft_message M.Cmd.format) };
 
     fn below(_nodes: u8) -> Option<Header> {
         None
     }
 
-    fn start(alloc: Global, _stack: StackId, nodes: u8) -> Result<Self::Running, AllocError> {
-        let network = ClusterInBytes::<M>::new(alloc, M::machine(), nodes)?;
+    fn start(alloc: Global, stack: StackId, nodes: u8) -> Result<Self::Running, AllocError> {
+        let network = ClusterInBytes::new(alloc, Raft::new(M::machine(), nodes), stack)?;
         Ok(Running::new(alloc, network))
     }
 }
 
 impl<M: Application> Judged for Clustered<M>
 where
-    M::Cmd: Commands + AlwaysFits,
+    M::Cmd: AlwaysFits,
 {
     type Lines = Orders<RaftText<M::Text>>;
 
@@ -85,18 +83,18 @@ where
 
 impl<M: Application> StackCode for Clustered<M>
 where
-    M::Cmd: Commands + AlwaysFits,
+    M::Cmd: AlwaysFits,
 {
     type Handlers = Raft<M>;
 
-    type Network = ClusterInBytes<M>;
+    type Network = ClusterInBytes<Raft<M>>;
 
     type Inputs = ByClients<M::Inputs>;
 
-    ghost made = { cluster_made (application M.own (M.meaning M.machine)
-        (texts_of M.Text.input_of M.Text.input_text M.Text.output_of M.Text.output_text M.Text.replies) M.Inputs.inputs) };
+    ghost made = { cluster_made (raft_of (application M.own (M.meaning M.machine)
+        (texts_of M.Text.input_of M.Text.input_text M.Text.output_of M.Text.output_text M.Text.replies) M.Inputs.inputs)) };
 
-    fn network(alloc: Global, _stack: StackId, nodes: u8) -> Result<Self::Network, AllocError> {
-        ClusterInBytes::<M>::new(alloc, M::machine(), nodes)
+    fn network(alloc: Global, stack: StackId, nodes: u8) -> Result<Self::Network, AllocError> {
+        ClusterInBytes::new(alloc, Raft::new(M::machine(), nodes), stack)
     }
 }

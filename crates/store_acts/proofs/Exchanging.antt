@@ -1,7 +1,7 @@
 -- Bytes that are written over others or cut off, and put back.
-use Rattle.std.proofs.Common.{◌≡◌, ℕ, zero, suc, ◌+◌, ◌-◌, ◌<◌, ◌≤◌, ◌⊎◌, inl, inr, List, [], ◌∷◌, ◌++◌, length, take, drop, replicate, refl, sym, ap, ◌∙◌, arith}
+use Rattle.std.proofs.Common.{◌≡◌, ℕ, zero, suc, ◌+◌, ◌-◌, ◌<◌, ◌≤◌, ◌⊎◌, inl, inr, List, [], ◌∷◌, ◌++◌, length, take, drop, replicate, reverse, refl, sym, ap, ◌∙◌, arith}
 use Rattle.std.proofs.lemmas.Bool.{cases_lt}
-use Rattle.std.proofs.lemmas.List.{append-nil, drop_all, drop-append-le, length-append, length-drop, length-replicate, length-take-le, take-take, take_all, take_at}
+use Rattle.std.proofs.lemmas.List.{append-nil, drop_all, drop-append-le, length-append, length-drop, length-replicate, length-take-le, reverse-append, take-take, take_all, take_at}
 use Rattle.disk.specs.Disk.{overwritten, resized}
 use Rattle.store_acts.specs.PendingAreas.{all_undone, undone}
 use Rattle.store_acts.specs.declared.pending_area.Undo.{Undo}
@@ -115,8 +115,11 @@ over_row old filled row at bytes some within put (inr (gap, longer, few)) =
     ∙ (ap (λ (xs : List ℕ). take at (old ++ replicate gap 0) ++ xs) (append-nil bytes) ∙ sym (over_end old at bytes gap some end))))
 
 -- what takes back an act more
-pub stood_on : (undos now : List Undo) (undo : Undo) (old bytes : List ℕ) → now ≡ undo ∷ undos → undone undo bytes ≡ old → all_undone now bytes ≡ all_undone undos old
-stood_on undos now undo old bytes more back = ap (λ us. all_undone us bytes) more ∙ ap (all_undone undos) back
+pub stood_on : (undos now : List Undo) (undo : Undo) (old bytes : List ℕ) → now ≡ undos ++ undo ∷ [] → undone undo bytes ≡ old →
+    all_undone (reverse now) bytes ≡ all_undone (reverse undos) old
+stood_on undos now undo old bytes more back =
+    ap (λ us. all_undone (reverse us) bytes) more
+    ∙ (ap (λ us. all_undone us bytes) (reverse-append undos (undo ∷ [])) ∙ ap (all_undone (reverse undos)) back)
 
 pub takes_write_back : (undo : Undo) (old now bytes : List ℕ) → undo.len ≡ length old → now ≡ overwritten old undo.at bytes →
     undo.over.items ≡ take (length bytes) (drop undo.at old) → undone undo now ≡ old

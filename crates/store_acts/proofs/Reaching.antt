@@ -1,7 +1,8 @@
 -- Which places are pending, as the code tests it.
-use Rattle.std.proofs.Common.{◌≡◌, ℕ, ◌+◌, ◌-◌, ◌<◌, ◌≤◌, Bool, true, false, List, [], ◌∷◌, map, Option, Some, None, refl, ap, ◌∙◌, arith, ◌⊎◌, inl, inr, min, nat_le, nat_lt, ◌||◌, ◌&&◌}
+use Rattle.std.proofs.Common.{◌≡◌, ℕ, ◌+◌, ◌-◌, ◌<◌, ◌≤◌, Bool, true, false, List, [], ◌∷◌, map, reverse, Option, Some, None, refl, sym, ap, ◌∙◌, arith, ◌⊎◌, inl, inr, min, nat_le, nat_lt, ◌||◌, ◌&&◌}
 use Rattle.std.specs.List.{list_any}
 use Rattle.std.proofs.lemmas.Bool.{cases_lt, le-leb, lt-leb, lt-ltb, le-ltb}
+use Rattle.std.proofs.lemmas.List.Sorted.{IsPermutation-reverse, list_any-IsPermutation}
 use Rattle.disk.specs.Disk.{least, is_within}
 use Rattle.store_acts.specs.PendingAreas.{ranges_of, reaches, with_range, wrote_at}
 use Rattle.store_acts.specs.declared.pending_area.Undo.{Undo}
@@ -44,8 +45,11 @@ pub past_the_end : (n : ℕ) (undos : List Undo) (i : ℕ) → n ≤ i →
 past_the_end n undos i h = reached n undos i ∙ rw (le-leb n i h) refl
 
 pub before_the_end : (n : ℕ) (undos : List Undo) (i : ℕ) → i < n →
-    (nat_le (least n (map (λ (undo : Undo). undo.len) undos)) i || is_within (ranges_of undos) i) ≡ list_any (λ undo. reaches undo i) undos
-before_the_end n undos i h = reached n undos i ∙ rw (lt-leb n i h) refl
+    (nat_le (least n (map (λ (undo : Undo). undo.len) (reverse undos))) i || is_within (ranges_of (reverse undos)) i)
+    ≡ list_any (λ undo. reaches undo i) undos
+before_the_end n undos i h =
+    reached n (reverse undos) i
+    ∙ rw (lt-leb n i h) (sym (list_any-IsPermutation (λ undo. reaches undo i) undos (reverse undos) (IsPermutation-reverse undos)))
 
 -- in a range, by the place in it
 pub in_range : (at n i : ℕ) → (nat_le at i && nat_lt i (at + n)) ≡ (nat_le at i && nat_lt (i - at) n)

@@ -25,6 +25,7 @@ impl Image {
             selector: Vec::new(alloc),
         }
     }
+
     /// The bytes of the slot that a selector names.
     pub fn slot(&self, selector: u8) -> &[u8]
         ensures { result.now ≡ area_at (image_of self.now) (named selector) }

@@ -38,12 +38,12 @@ fn any_reaches(undos: &[Undo], place: u64) -> bool
     undos.iter().any(|undo| undo.reaches(place))
 }
 
-/// An area in memory with what is pending on it. An act costs as much as the bytes that it writes or takes away.
+/// An area in memory with what is pending on it, by which each act since the last sync can be taken back.
 #[derive(Drop)]
 pub struct PendingArea {
     // what a read gives
     bytes: Vec<u8>,
-    // what takes back the acts since the last sync, the last of them first
+    // what takes back the acts since the last sync, in their order
     undos: Vec<Undo>,
 }
 
@@ -126,7 +126,7 @@ impl PendingArea {
             over,
             wrote,
         };
-        self.undos.insert(0, undo)?;
+        self.undos.push(undo)?;
         Ok(())
     }
 
@@ -145,7 +145,7 @@ impl PendingArea {
             over,
             wrote: None,
         };
-        self.undos.insert(0, undo)?;
+        self.undos.push(undo)?;
         Ok(())
     }
 
@@ -161,8 +161,11 @@ impl PendingArea {
     pub fn stood(self) -> Result<Vec<u8>, AllocError>
         ensures { IfOk result (λ bytes. bytes.items ≡ stood_of self) }
     {
-        let PendingArea { mut bytes, undos } = self;
-        for undo in undos {
+        let PendingArea {
+            mut bytes,
+            mut undos,
+        } = self;
+        while let Some(undo) = undos.pop() {
             overwrite(&mut bytes, undo.at as usize, undo.over)?;
             bytes.resize(undo.len as usize, 0)?;
         }

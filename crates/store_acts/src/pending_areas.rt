@@ -2,7 +2,7 @@ ghost use Rattle.std.specs.Prelude.{◌≡◌, ◌%◌, OnOk, OnErr, IfOk};
 ghost use Rattle.disk.specs.Areas.{area_at, changed, each};
 ghost use Rattle.disk.specs.Disk.{contents, cut, settled, synced, written};
 ghost use Rattle.disk.specs.Images.{follow, followed, image_of_kind, started, torn};
-ghost use Rattle.store_acts.specs.PendingAreas.{image_of, trail_of};
+ghost use Rattle.store_acts.specs.PendingAreas.{FirstDone, image_of, trail_of};
 ghost use Rattle.store_acts.specs.StoreActs.{act_of, acts_of, number_of};
 
 use crate::{AreaId, Image, PendingArea, StoreAct};
@@ -91,9 +91,10 @@ impl PendingAreas {
         }
     }
 
-    /// Does these acts. Where memory is wanted the first of them are done.
+    /// Does these acts. Where memory is wanted those before an act are done, and it and those after it are not.
     pub fn act_all(&mut self, alloc: Global, acts: Vec<StoreAct>) -> Result<(), AllocError>
-        ensures { OnOk result (trail_of self.new ≡ followed (trail_of self.old) (acts_of acts.items)) }
+        ensures ok { OnOk result (trail_of self.new ≡ followed (trail_of self.old) (acts_of acts.items)) }
+        ensures err { OnErr result (FirstDone (trail_of self.old) (acts_of acts.items) (trail_of self.new)) }
     {
         for act in acts {
             self.act(alloc, act)?;

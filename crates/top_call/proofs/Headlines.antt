@@ -38,11 +38,11 @@ explained-by-layers (Itself i l) c is = is
 -- and what a stack of a kind says of its
 explains-it : (k : Kind) (nodes : ℕ) (c : Claim (plays k nodes).Input (plays k nodes).Output (plays k nodes).Line) → (plays k nodes).Explains c → ExplainsIt k nodes c
 explains-it (Steady l) nodes c is = layers-explain l c is
-explains-it (Clustered p) nodes c is = is
+explains-it (Clustered k) nodes c is = is
 
 explained-by-it : (k : Kind) (nodes : ℕ) (c : Claim (plays k nodes).Input (plays k nodes).Output (plays k nodes).Line) → ExplainsIt k nodes c → (plays k nodes).Explains c
 explained-by-it (Steady l) nodes c is = explained-by-layers l c is
-explained-by-it (Clustered p) nodes c is = is
+explained-by-it (Clustered k) nodes c is = is
 
 on-kind : (k : Kind) (nodes number : ℕ) (ls : List (List ℕ)) (text : List ℕ) → IsReplayOn (plays k nodes) number ls text → IsHeadlineOn k nodes number ls text
 on-kind k nodes number ls text r = record {

@@ -25,10 +25,10 @@ LayersExplain (Backed p) c = IsOneMachine p.machine c
 LayersExplain (Through t l) c = LayersExplain l c
 LayersExplain (Itself i l) c = IsWhatClientsSee (service l).net ((service l).handlers (nodes_of c.header)) c
 
--- And through Raft: what clients saw is linearizable, to the one machine that takes the requests in the image's order.
+-- And on a cluster: what clients saw is linearizable, to the one machine that takes the requests in the image's order.
 abbrev pub ExplainsIt : (k : Kind) (nodes : ℕ) → Claim (plays k nodes).Input (plays k nodes).Output (plays k nodes).Line → Type 0
 ExplainsIt (Steady l) nodes c = LayersExplain l c
-ExplainsIt (Clustered p) nodes c = IsLinearizable p.machine c.image c.trace
+ExplainsIt (Clustered k) nodes c = IsLinearizable k.application.machine c.image c.trace
 
 module _ (k : Kind) (nodes : ℕ) where
   abbrev play_at : Play (plays k nodes).Input (plays k nodes).Output (plays k nodes).Line

@@ -14,7 +14,7 @@ use Rattle.raft_types.specs.declared.client.RaftOut.{RaftOut}
 use Rattle.raft_types.specs.declared.client.RaftOut.TheVariants as told
 use Rattle.schedule_text.specs.Reading.{and_then}
 use Rattle.stacks.specs.Claimed.{claims}
-use Rattle.stacks.specs.Kinds.{Application, Clustered}
+use Rattle.stacks.specs.Kinds.{Clustered, OnCluster}
 use Rattle.stacks.specs.Plays.{Texts}
 use Rattle.vst_base.specs.declared.step.Item.{Item}
 use Rattle.vst_base.specs.declared.step.Item.TheVariants as item
@@ -50,25 +50,25 @@ module _ {I : Type 0} (f : List ℕ → Option I) (HasIn : I → Type 0) (has_te
 abbrev pub order_form : {C O : Type 0} → ℕ → Texts C O → Form (RaftInput C) (RaftOut O) (RaftInput C)
 order_form nodes t = form_of nodes (raft_input_of t.input_of) (raft_output_of t.output_of) None (order_says (raft_input_of t.input_of))
 
-module _ (apart : AreApart) (nodes : ℕ) (p : Application) (spelled : IsSpelledMachine p) where
-  abbrev HasIn : p.Command → Type 0
-  HasIn c = HasInputText p.texts c
+module _ (apart : AreApart) (nodes : ℕ) (k : OnCluster) (spelled : IsSpelledMachine k.application) where
+  abbrev HasIn : k.application.Command → Type 0
+  HasIn c = HasInputText k.application.texts c
 
-  abbrev HasOut : p.Output → Type 0
-  HasOut o = HasOutputText p.texts o
+  abbrev HasOut : k.application.Output → Type 0
+  HasOut o = HasOutputText k.application.texts o
 
-  cluster-spelled : (ls : List (List ℕ)) (c : ClusterClaim p.Command p.Output) → claim_of (order_form nodes p.texts) ls ≡ Whole c → AreSpelled HasIn HasOut p.machine c
+  cluster-spelled : (ls : List (List ℕ)) (c : ClusterClaim k.application.Command k.application.Output) → claim_of (order_form nodes k.application.texts) ls ≡ Whole c → AreSpelled HasIn HasOut k.application.machine c
   cluster-spelled ls c is =
       let requests = raft_inputs_are_spelled spelled.texts.inputs in
       let answers = raft_outputs_are_spelled spelled.texts.outputs in
-      let read = read-whole apart (order_form nodes p.texts) (IsRaftInput HasIn) (IsRaftOutput HasOut) (IsRaftInput HasIn) requests.has_text answers.has_text
-      (order-text (raft_input_of p.texts.input_of) (IsRaftInput HasIn) requests.has_text) ls c is in
+      let read = read-whole apart (order_form nodes k.application.texts) (IsRaftInput HasIn) (IsRaftOutput HasOut) (IsRaftInput HasIn) requests.has_text answers.has_text
+      (order-text (raft_input_of k.application.texts.input_of) (IsRaftInput HasIn) requests.has_text) ls c is in
       record {
         trace = each_weaker (IsTextItem nodes (IsRaftInput HasIn) (IsRaftOutput HasOut)) (IsSpelledItem HasIn HasOut) (item-spelled nodes HasIn HasOut) c.trace read.trace;
         order = each_weaker (IsRaftInput HasIn) (λ r. HasIn r.cmd) (λ r has. has.2) c.image read.image;
         outputs = spelled.answers (map (λ r. r.cmd) c.image) (commands-text HasIn c.image read.image);
       }
 
-  pub cluster-decided : (n : ℕ) → IsDecided nodes (claims (Clustered p) n)
+  pub cluster-decided : (n : ℕ) → IsDecided nodes (claims (Clustered k) n)
   cluster-decided n ls c is =
-      yes-linearizable HasOut p.texts.output_of p.texts.output_text spelled.texts.outputs p.machine HasIn p.texts.input_of p.texts.input_text spelled.texts.inputs c (cluster-spelled ls c is)
+      yes-linearizable HasOut k.application.texts.output_of k.application.texts.output_text spelled.texts.outputs k.application.machine HasIn k.application.texts.input_of k.application.texts.input_text spelled.texts.inputs c (cluster-spelled ls c is)

@@ -10,24 +10,20 @@ use Rattle.raft_text.specs.RaftTextLaws.{raft_inputs_are_spelled, raft_outputs_a
 use Rattle.raft_text.specs.RaftTexts.{IsRaftInput, IsRaftOutput}
 use Rattle.raft_types.specs.declared.client.RaftInput.{RaftInput}
 use Rattle.raft_types.specs.declared.client.RaftOut.{RaftOut}
-use Rattle.raft_xform.specs.Raft.{raft, raft_recovery}
 use Rattle.stacks.specs.ClaimTexts.{claim_by, claim_text}
 use Rattle.stacks.specs.Checks.{form_on}
 use Rattle.stacks.specs.Claimed.{Claimed, cluster_claimed}
-use Rattle.stacks.specs.Kinds.{Application, cluster_play}
+use Rattle.stacks.specs.Clusters.{ActsAs}
+use Rattle.stacks.specs.Kinds.{OnCluster, cluster_play}
 use Rattle.stacks.specs.Plays.{Play}
-use Rattle.vst_base.specs.declared.net.Net.TheVariants as net
 use Rattle.vst_base.specs.declared.step.Item.{Item}
 use Rattle.vst_base.specs.declared.step.Item.TheVariants as item
 use Rattle.vst_base.specs.declared.step.Step.{Step}
-use Rattle.trace_check.specs.Spelled.{HasInputText, HasOutputText, IsSpelledMachine, IsTextItem}
-use Rattle.trace_check.proofs.Machines.{IsTextState, spelled-keeps}
-use Rattle.trace_check.proofs.Runs.{trace-texts}
+use Rattle.trace_check.specs.Spelled.{HasInputText, HasOutputText, IsSpelledCluster, IsTextItem}
 use Rattle.trace_check.proofs.TextItems.{more-nodes}
 use Rattle.trace_check.proofs.Counts.{trace-inputs}
 use Rattle.trace_check.proofs.Lengths.{brief-answers, brief-requests, short-orders}
 use Rattle.trace_check.proofs.OrderImages.{orders-said, plain-orders, unheaded}
-use Rattle.trace_check.proofs.RaftRuns.{IsTextNode, IsTextRaftMsg, raft-keeps}
 use Rattle.trace_check.proofs.Requests.{requests-few}
 use Rattle.trace_check.proofs.Scripts.{AreReadSteps}
 use Rattle.trace_check.proofs.StackReading.{stack-lines, stack-read}
@@ -40,37 +36,35 @@ put-in-text nodes HasIn HasOut (item.Input n j ∷ seen) texts i (inl same) = su
 put-in-text nodes HasIn HasOut (item.Input n j ∷ seen) texts i (inr later) = put-in-text nodes HasIn HasOut seen texts.1 i later
 put-in-text nodes HasIn HasOut (item.Output n o ∷ seen) texts i has = put-in-text nodes HasIn HasOut seen texts.1 i has
 
-module _ (p : Application) (is : IsSpelledMachine p) (nodes n : ℕ) (few_nodes : nodes < 4294967296) (most : n ≤ nodes) where
-  abbrev plays : Play (RaftInput p.Command) (RaftOut p.Output) (RaftInput p.Command)
-  plays = cluster_play p n
+module _ (k : OnCluster) (acts : ActsAs k.application.machine k.cluster) (is : IsSpelledCluster k) (nodes n : ℕ) (few_nodes : nodes < 4294967296) (most : n ≤ nodes) where
+  abbrev plays : Play (RaftInput k.application.Command) (RaftOut k.application.Output) (RaftInput k.application.Command)
+  plays = cluster_play k n
 
-  abbrev claimed : Claimed (RaftInput p.Command) (RaftOut p.Output) (RaftInput p.Command)
-  claimed = cluster_claimed p
+  abbrev claimed : Claimed (RaftInput k.application.Command) (RaftOut k.application.Output) (RaftInput k.application.Command)
+  claimed = cluster_claimed k.application
 
-  pub cluster-read : (ss : List (Step (RaftInput p.Command))) → AreReadSteps (IsRaftInput (HasInputText p.texts)) ss → plays.refused ss ≡ None → IsLinearizable p.machine (plays.image ss) (plays.trace ss)
+  pub cluster-read : (ss : List (Step (RaftInput k.application.Command))) → AreReadSteps (IsRaftInput (HasInputText k.application.texts)) ss → plays.refused ss ≡ None → IsLinearizable k.application.machine (plays.image ss) (plays.trace ss)
       → length (lines_of (claim_text plays (claim_by plays ss))) ≤ 8000000 → claim_of (form_on nodes plays claimed) (lines_of (claim_text plays (claim_by plays ss))) ≡ Whole (claim_by plays ss)
   cluster-read ss read allowed explained within =
-      let t = p.texts in
-      let HasIn = HasInputText p.texts in
-      let HasOut = HasOutputText p.texts in
-      let state = IsTextState p is in
-      let keeps = spelled-keeps p is in
-      let m = raft n p.machine in
-      let again = raft_recovery p.machine in
+      let t = k.application.texts in
+      let HasIn = HasInputText t in
+      let HasOut = HasOutputText t in
+      let m = k.cluster.handlers n in
+      let again = k.cluster.recovery n in
       let order = plays.image ss in
       let few = read.few in
-      let asked = raft_inputs_are_spelled is.texts.inputs in
-      let told = raft_outputs_are_spelled is.texts.outputs in
-      let seen = trace-texts net.Fail m again (IsRaftInput HasIn) (IsRaftOutput HasOut) (IsTextNode p.machine HasIn HasOut state keeps n) (IsTextRaftMsg p.machine HasIn HasOut state keeps n) (raft-keeps p.machine HasIn HasOut state keeps n) ss allowed read.texts in
+      let asked = raft_inputs_are_spelled is.machine.texts.inputs in
+      let told = raft_outputs_are_spelled is.machine.texts.outputs in
+      let seen = is.items n ss (acts.allowed n ss allowed) read.texts in
       let items = more-nodes n nodes (IsRaftInput HasIn) (IsRaftOutput HasOut) most (plays.trace ss) seen in
       let requests = each_weaker (HasInput (plays.trace ss)) (IsRaftInput HasIn) (put-in-text nodes (IsRaftInput HasIn) (IsRaftOutput HasOut) (plays.trace ss) items) order explained.requested.put_in in
       let plain = plain-orders HasIn t.input_of t.input_text asked order requests in
       let orders = orders-said HasIn t.input_of t.input_text asked order requests in
-      let brief_asked = brief-requests HasIn t.input_text is.texts.short_inputs in
-      let brief_told = brief-answers HasOut t.output_text is.texts.short_outputs in
+      let brief_asked = brief-requests HasIn t.input_text is.machine.texts.short_inputs in
+      let brief_told = brief-answers HasOut t.output_text is.machine.texts.short_outputs in
       let bare = unheaded (form_on nodes plays claimed) (λ number ls. refl) in
       let lines = stack-lines nodes plays claimed (IsRaftInput HasIn) (IsRaftOutput HasOut) few_nodes asked told brief_asked brief_told bare tt tt ss items plain orders in
       let inputs = trace-inputs m again (first_world m) ss in
       let few_requests = requests-few (plays.trace ss) order explained.requested.once explained.requested.put_in in
       stack-read nodes plays claimed (IsRaftInput HasIn) (IsRaftOutput HasOut) few_nodes asked told brief_asked brief_told bare tt tt
-      ss items plain orders (subst (λ k. k ≤ 8000000) lines within) (short-orders HasIn t.input_text is.texts.short_inputs order requests) (omega (arith, inputs, few)) (omega (arith, few, inputs, few_requests))
+      ss items plain orders (subst (λ count. count ≤ 8000000) lines within) (short-orders HasIn t.input_text is.machine.texts.short_inputs order requests) (omega (arith, inputs, few)) (omega (arith, few, inputs, few_requests))

@@ -30,4 +30,4 @@ module _ (apart : AreApart) (own_row : (h : Header) → IsHeader h → IsBy (row
 
 pub kind-decided : AreApart → ((h : Header) → IsHeader h → IsBy (row_of h.stack) h) → (row : StackRow) (k : Kind) → IsFit row k → IsSpelledKind k → IsDecided row.most (claims k row.most)
 kind-decided apart own_row row (Steady l) fit is = layers-decided apart own_row row (omega (arith, fit.few)) l fit.nodes.nodes fit.nodes.carried is
-kind-decided apart own_row row (Clustered p) fit is = cluster-decided apart row.most p is row.most
+kind-decided apart own_row row (Clustered k) fit is = cluster-decided apart row.most k is.machine row.most

@@ -18,9 +18,10 @@ use Rattle.schedule_text.specs.declared.header.Header.{Header}
 use Rattle.stacks.specs.Checks.{IsClaim, form_on}
 use Rattle.stacks.specs.Claimed.{AnyClaims, claims, layers_claimed}
 use Rattle.stacks.specs.ClaimTexts.{claim_by, claim_text}
+use Rattle.stacks.specs.Clusters.{ActsAs}
 use Rattle.stacks.specs.Fits.{AreCarried, AreLayersOf, HasItsNodes, IsCarriedBy, IsFit}
 use Rattle.stacks.specs.Plays.{AnyPlay}
-use Rattle.stacks.specs.Kinds.{Alone, Application, Backed, Clustered, Itself, Kind, Layers, Own, Service, Steady, Through, cluster_play, plays, service, service_play, through}
+use Rattle.stacks.specs.Kinds.{Alone, Backed, Clustered, Itself, Kind, Layers, OnCluster, Own, Service, Steady, Through, cluster_play, plays, service, service_play, through}
 use Rattle.transformers.specs.Transformers.{IsAllowedAbove, Transformer}
 use Rattle.vst_base.specs.Stacks.{row_of}
 use Rattle.vst_base.specs.declared.net.Net.TheVariants as net
@@ -29,7 +30,7 @@ use Rattle.vst_base.specs.declared.stack.StackRow.{StackRow}
 use Rattle.vst_base.specs.declared.step.Item.{Item}
 use Rattle.vst_base.specs.declared.step.Step.{Step}
 use Rattle.vst_base.specs.declared.step.Step.TheVariants as step
-use Rattle.trace_check.specs.Spelled.{AreSpelledLayers, HasInputText, IsSpelledKind, IsSpelledMachine, StaysSpelled}
+use Rattle.trace_check.specs.Spelled.{AreSpelledLayers, HasInputText, IsSpelledCluster, IsSpelledKind, StaysSpelled}
 use Rattle.trace_check.proofs.BackedReplays.{backed-read}
 use Rattle.trace_check.proofs.ClusterReplays.{cluster-read}
 use Rattle.trace_check.proofs.Counts.{below-few, trace-inputs}
@@ -126,15 +127,17 @@ module _ (each_row : (i : StackId) (h : Header) → IsBy (row_of i) h → IsHead
           so = r.explained;
         }
 
-    clustered-claim : (p : Application) → IsSpelledMachine p → length (lines_of text) ≤ 8000000 → IsReplayOn (plays (Clustered p) n) number ls text → IsClaimOf (claims (Clustered p) row.most)
-    clustered-claim p is within r =
-        let ran = cluster_play p n in
-        let HasIn = HasInputText p.texts in
-        let read = steps-read (raft_input_of p.texts.input_of) number ls r.steps r.says (IsRaftInput HasIn) (raft_inputs_are_spelled is.texts.inputs).has_text in
+    clustered-claim : (k : OnCluster) → ActsAs k.application.machine k.cluster → IsSpelledCluster k → length (lines_of text) ≤ 8000000 → IsReplayOn (plays (Clustered k) n) number ls text
+        → IsClaimOf (claims (Clustered k) row.most)
+    clustered-claim k acts is within r =
+        let ran = cluster_play k n in
+        let t = k.application.texts in
+        let HasIn = HasInputText t in
+        let read = steps-read (raft_input_of t.input_of) number ls r.steps r.says (IsRaftInput HasIn) (raft_inputs_are_spelled is.machine.texts.inputs).has_text in
         record {
           claim = claim_by ran r.steps;
-          read = ap (λ bs. claim_of (form_on row.most ran (claims (Clustered p) n).claimed) (lines_of bs)) r.written
-              ∙ cluster-read p is row.most n few_nodes most r.steps read r.allowed r.explained (subst (λ bs. length (lines_of bs) ≤ 8000000) r.written within);
+          read = ap (λ bs. claim_of (form_on row.most ran (claims (Clustered k) n).claimed) (lines_of bs)) r.written
+              ∙ cluster-read k acts is row.most n few_nodes most r.steps read r.allowed r.explained (subst (λ bs. length (lines_of bs) ≤ 8000000) r.written within);
           so = r.explained;
         }
 
@@ -142,4 +145,4 @@ module _ (each_row : (i : StackId) (h : Header) → IsBy (row_of i) h → IsHead
     pub kind-claim : (k : Kind) → IsFit row k → IsSpelledKind k → (row.net ≡ net.Fail → length (lines_of text) ≤ 8000000) → (r : IsReplayOn (plays k n) number ls text)
         → (row.net ≡ net.Loss → IsBriefReplay (plays k n) r) → IsClaimOf (claims k row.most)
     kind-claim (Steady l) fit is within r lost = steady-claim l fit.nodes is r (λ on. lost (fit.net ∙ on))
-    kind-claim (Clustered p) fit is within r lost = clustered-claim p is (within fit.net) r
+    kind-claim (Clustered k) fit is within r lost = clustered-claim k fit.nodes.acts is (within fit.net) r

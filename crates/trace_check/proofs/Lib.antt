@@ -37,6 +37,7 @@ pub mod Headers
 pub mod Requests
 pub mod RaftApplying
 pub mod RaftRuns
+pub mod Clusters
 pub mod ItselfReplays
 pub mod BackedReplays
 pub mod ClusterReplays

@@ -2,8 +2,11 @@
 use Rattle.std.specs.Prelude.{◌≡◌, ◌≢◌, ◌⊎◌, ℕ, ◌<◌, ◌≤◌, ◌+◌, List, [], ◌∷◌, length, Some, codes}
 use Rattle.app_text.specs.Spelling.{IsSpelling}
 use Rattle.net_semantics.specs.Runs.{IsAllowed, no_recovery, trace}
+use Rattle.raft_text.specs.RaftTexts.{IsRaftInput, IsRaftOutput}
+use Rattle.raft_types.specs.declared.client.RaftInput.{RaftInput}
 use Rattle.schedule_text.specs.Spellable.{IsSpellable}
-use Rattle.stacks.specs.Kinds.{Alone, Application, Backed, Clustered, Itself, Kind, Layers, Own, OwnHandlers, Service, Steady, Through, service}
+use Rattle.stacks.specs.Clusters.{cluster_allows, cluster_trace}
+use Rattle.stacks.specs.Kinds.{Alone, Application, Backed, Clustered, Itself, Kind, Layers, OnCluster, Own, OwnHandlers, Service, Steady, Through, service}
 use Rattle.stacks.specs.Plays.{Texts}
 use Rattle.transformers.specs.Transformers.{IsAllowedAbove, Transformer}
 use Rattle.vst_base.specs.Machines.{fold}
@@ -91,7 +94,14 @@ AreSpelledLayers (Backed p) = IsSpelledMachine p
 AreSpelledLayers (Through t l) = StaysSpelled t (service l) × AreSpelledLayers l
 AreSpelledLayers (Itself i l) = AreSpelledLayers l
 
+-- on a cluster of a spelled machine, of a schedule that its network allows and whose requests have texts, each item that clients see has one
+pub record IsSpelledCluster (k : OnCluster) : Type 0 where
+  pub machine : IsSpelledMachine k.application
+  pub items : (n : ℕ) (ss : List (Step (RaftInput k.application.Command))) → cluster_allows k.cluster n ss
+      → Each (IsSpellable (IsRaftInput (HasInputText k.application.texts))) ss
+      → Each (IsTextItem n (IsRaftInput (HasInputText k.application.texts)) (IsRaftOutput (HasOutputText k.application.texts))) (cluster_trace k.cluster n ss)
+
 -- and of what a kind of stack is a stack of
 abbrev pub IsSpelledKind : Kind → Type 0
 IsSpelledKind (Steady l) = AreSpelledLayers l
-IsSpelledKind (Clustered p) = IsSpelledMachine p
+IsSpelledKind (Clustered k) = IsSpelledCluster k

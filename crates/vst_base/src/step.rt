@@ -63,7 +63,7 @@ pub enum Item<I, O> {
     Output(Node, O),
 }
 
-/// Why a world does not take a step. The first that applies, in this order, is answered.
+/// Why a step of a schedule is not taken. The first that applies, in this order, is answered.
 #[derive(Clone, Copy, Debug, PartialEq, Eq, Error)]
 pub enum StepRefusal {
     /// The network has no steps of this kind.
@@ -94,4 +94,7 @@ pub enum StepRefusal {
     /// The node has no event to go on with.
     #[error("node idle")]
     NodeIdle,
+    /// The client has asked under this number before, and one of the two requests is a read, where reads take no entry of a log.
+    #[error("pair used")]
+    PairUsed,
 }

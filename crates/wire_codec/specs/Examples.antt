@@ -67,6 +67,10 @@ puts_x = 2 ∷ 1 ∷ 97 ∷ 0 ∷ 1 ∷ 120 ∷ []
 abbrev pub requests_put : List ℕ
 requests_put = one ++ puts_x
 
+-- data 1 that holds packet 0, which has the backup put a x
+abbrev pub applies_as_data_1 : List ℕ
+applies_as_data_1 = 1 ∷ (one ++ (zero_of_eight ++ (1 ∷ puts_x)))
+
 -- the reply to request 1: a has the value x, and had none
 abbrev pub replies_x : List ℕ
 replies_x = one ++ (1 ∷ 1 ∷ 97 ∷ 1 ∷ 0 ∷ 1 ∷ 120 ∷ 0 ∷ [])

@@ -10,7 +10,7 @@ ghost use Rattle.vst_base.specs.declared.stack.StackId.TheVariants as stack;
 ghost use Rattle.vst_base.specs.declared.what.What.TheVariants as what;
 ghost use Rattle.wire_codec.specs.Bodies.{AreMessagesOf, is_message};
 ghost use Rattle.wire_codec.specs.Datagrams.{read_datagram, read_typed};
-ghost use Rattle.wire_codec.specs.Examples.{acknowledges_data_1, asks_as_data_1, asks_for_a_vote, asks_for_the_lock, before_greatest_index, bob_holds_l, cluster_name, entry_of_put, framed, grants_a_vote, greatest_index, l_and_bob, no_ops, of_kv, one, put_taken_by, puts_a, puts_a_as_packet_1, puts_x, read_raft, replies_x, requests_put, sends_after, sends_an_entry, zero_of_eight, zero_of_four};
+ghost use Rattle.wire_codec.specs.Examples.{acknowledges_data_1, applies_as_data_1, asks_as_data_1, asks_for_a_vote, asks_for_the_lock, before_greatest_index, bob_holds_l, cluster_name, entry_of_put, framed, grants_a_vote, greatest_index, l_and_bob, no_ops, of_kv, one, put_taken_by, puts_a, puts_a_as_packet_1, puts_x, read_raft, replies_x, requests_put, sends_after, sends_an_entry, zero_of_eight, zero_of_four};
 ghost use Rattle.wire_codec.specs.Headings.{any_kind, heading_of, kind_field, stack_field};
 ghost use Rattle.wire_codec.specs.declared.kind.Kind.TheVariants as kind;
 ghost use Rattle.wire_messages.specs.ClientBytes.{client_reply, client_request};
@@ -38,6 +38,10 @@ pub fn worked_datagrams()
         ≡ Some (heading_of stack.LockSeqRetry kind.Peer 1 0 cluster_name, retry.Data 1 (record { number = 0; inner = lock.Lock })) }
     ensures kv_pb_seq_retry { read_typed (retried (numbered (backup_message kv_command))) (framed 11 0 1 0 acknowledges_data_1)
         ≡ Some (heading_of stack.KvPbSeqRetry kind.Peer 1 0 cluster_name, retry.Ack 1) }
+    ensures kv_pb_seq_retry_data { read_typed (retried (numbered (backup_message kv_command))) (framed 11 0 0 1 applies_as_data_1) ≡ Some (
+      heading_of stack.KvPbSeqRetry kind.Peer 0 1 cluster_name,
+      retry.Data 1 (record { number = 0; inner = backup.Apply (command.Put (codes "a") (codes "x")) }),
+    ) }
     ensures request { read_typed (client_request kv_command) (framed 5 1 0 0 requests_put)
         ≡ Some (of_kv kind.Request 0 0, record { request = 1; cmd = command.Put (codes "a") (codes "x") }) }
     ensures reply { read_typed (client_reply kv_output) (framed 5 2 0 0 replies_x) ≡ Some (
@@ -130,7 +134,7 @@ pub fn worked_table_commands()
     ensures no_answer_2 { table_output.read (1 ∷ 108 ∷ 0 ∷ 2 ∷ []) ≡ None }
 {}
 
-/// The bytes of each message of the lock server, of primary-backup and of sequence numbering.
+/// The bytes of each message of the lock server, of primary-backup, of sequence numbering and of sending again.
 #[tactic(auto, unfolding(wire_fields::specs::Bytes::number_bytes, wire_fields::specs::Bytes::number_in, wire_fields::specs::Bytes::has_bytes, wire_fields::specs::Bytes::read_number))]
 pub fn worked_packets()
     ensures asks { lock_message.spell lock.Lock ≡ 1 ∷ [] }
@@ -145,6 +149,10 @@ pub fn worked_packets()
     ensures no_backup_0 { (backup_message kv_command).read (0 ∷ []) ≡ None }
     ensures no_backup_3 { (backup_message kv_command).read (3 ∷ []) ≡ None }
     ensures numbered { (numbered lock_message).spell (record { number = 1; inner = lock.Locked }) ≡ one ++ (3 ∷ []) }
+    ensures data { (retried (numbered (backup_message kv_command))).spell (retry.Data 1 (record {
+      number = 0;
+      inner = backup.Apply (command.Put (codes "a") (codes "x"));
+    })) ≡ applies_as_data_1 }
 {}
 
 /// The bytes of each message between the nodes of a Raft cluster, and of entries, up to the ends of their ranges.

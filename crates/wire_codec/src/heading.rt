@@ -93,8 +93,8 @@ fn read_kind(input: &mut Input<'_>, stack: StackId) -> Option<Kind>
     Some(kind)
 }
 
-// The byte of a stack whose nodes send packets, and 0 of a machine alone.
-fn byte_of(stack: StackId) -> u8
+/// The byte of a stack whose nodes send packets, and 0 of a machine alone.
+pub fn stack_byte(stack: StackId) -> u8
     ensures { result ≡ stack_byte stack }
 {
     match stack {
@@ -146,7 +146,7 @@ impl Heading {
         let mut bytes = [0; HEADING_LEN];
         bytes[0] = b'V';
         bytes[1] = 2;
-        bytes[2] = byte_of(self.stack);
+        bytes[2] = stack_byte(self.stack);
         bytes[3] = self.kind.byte();
         bytes[4] = self.from;
         bytes[5] = self.to;

@@ -13,7 +13,7 @@ pub use examples::{
     refused_datagrams, worked_answers, worked_cluster_messages, worked_commands, worked_datagrams,
     worked_headings, worked_messages, worked_packets, worked_stacks, worked_table_commands,
 };
-pub use heading::Heading;
+pub use heading::{Heading, stack_byte};
 pub use kind::Kind;
 pub use laws::{datagrams_have_one_spelling, fitting_messages_have_datagrams};
 

@@ -1,5 +1,5 @@
--- What putting one value more adds.
-use Rattle.std.proofs.Common.{◌≡◌, ◌<◌, ◌+◌, ℕ, List, [], ◌∷◌, ◌++◌, length, take, All, get_or, sym, ap, subst, ◌∙◌, append_assoc, append-nil}
+-- What putting bytes, or one value more, adds.
+use Rattle.std.proofs.Common.{◌≡◌, ◌<◌, ◌+◌, ℕ, List, [], ◌∷◌, ◌++◌, length, take, All, get_or, Result, Ok, Err, OnOk, is_ok, if◌then◌else◌, sym, ap, subst, ◌∙◌, append_assoc, append-nil}
 use Rattle.std.specs.List.{flat_map}
 use Rattle.std.proofs.lemmas.List.{take_more}
 use Rattle.std.proofs.lemmas.Grind.{flat_map-append}
@@ -16,3 +16,8 @@ puts_more spell Fits xs i x old now new within is so_far fit added fits =
       added ∙ ap (λ front. front ++ spell x) so_far ∙ append_assoc old (flat_map spell (take i xs)) (spell x) ∙ ap (λ all. old ++ all) (sym bytes),
       All-more Fits xs i x within fit (subst Fits is fits),
     )
+
+-- where memory was found, all was added
+pub adds_all : {T E : Type 0} (r : Result T E) (old new xs ys : List ℕ) → xs ≡ ys → new ≡ (if is_ok r then old ++ xs else old) → OnOk r (new ≡ old ++ ys)
+adds_all (Ok x) old new xs ys same added = added ∙ ap (λ zs. old ++ zs) same
+adds_all (Err e) old new xs ys same added = tt

@@ -14,3 +14,10 @@ one = zero_of_four ++ (0 ∷ 0 ∷ 0 ∷ 1 ∷ [])
 -- client 7 asks for its request 1 of node 0: put a x
 abbrev pub put_asked : List ℕ
 put_asked = zero_of_four ++ (0 ∷ 0 ∷ 0 ∷ 7 ∷ (one ++ (0 ∷ 2 ∷ 1 ∷ 97 ∷ 0 ∷ 1 ∷ 120 ∷ [])))
+
+-- the greatest round, 2^62, and the number after it
+abbrev pub greatest : List ℕ
+greatest = 64 ∷ 0 ∷ 0 ∷ 0 ∷ zero_of_four
+
+abbrev pub past_greatest : List ℕ
+past_greatest = 64 ∷ 0 ∷ 0 ∷ 0 ∷ (0 ∷ 0 ∷ 0 ∷ 1 ∷ [])

@@ -10,6 +10,8 @@ pub mod EntryBytes
 pub mod EntryByteLaws
 pub mod RaftBytes
 pub mod RaftByteLaws
+pub mod ReadBytes
+pub mod ReadByteLaws
 pub mod ClientBytes
 pub mod ClientByteLaws
 pub mod Lists

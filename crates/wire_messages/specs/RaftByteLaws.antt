@@ -1,5 +1,5 @@
 -- Each message between the nodes of a Raft cluster has one spelling.
-use Rattle.std.proofs.Common.{◌≡◌, ◌+◌, nat_le, length, refl, lit<}
+use Rattle.std.proofs.Common.{◌≡◌, length, refl, lit<}
 use Rattle.raft_types.specs.declared.limits.TheConstants.{MAX_BATCH, MAX_INDEX}
 use Rattle.raft_types.specs.declared.msg.RaftMsg.{RaftMsg}
 use Rattle.raft_types.specs.declared.msg.RaftMsg.TheVariants.{RequestVote, Vote, Append, Appended}
@@ -13,7 +13,7 @@ use Rattle.wire_messages.specs.EntryByteLaws.{election_term_is_format, entry_is_
 use Rattle.wire_messages.specs.EntryBytes.{entry}
 use Rattle.wire_fields.specs.Records.{record_of}
 use Rattle.wire_fields.specs.RecordLaws.{record_of_is_format}
-use Rattle.wire_messages.specs.RaftBytes.{request_vote_fields, vote_fields, appended_fields, append_fields, any_term, log_index, request_vote, vote, appended, entries, append_of, append, raft_kinds, raft_part, raft_message}
+use Rattle.wire_messages.specs.RaftBytes.{request_vote_fields, vote_fields, appended_fields, append_fields, any_term, log_index, request_vote, vote, appended, entries, append_of, ends_at_an_index, append, raft_kinds, raft_part, raft_message}
 
 pub any_term_is_format : IsFormat any_term
 any_term_is_format = number_is_format 8 0 MAX_TERM (lit< tt)
@@ -34,13 +34,13 @@ appended_is_format =
     record_of_is_format appended_fields (λ term ok index. record { term = term; ok = ok; index = index }) (λ a. refl) (λ t. refl) (election_term_is_format, (flag_is_format, log_index_is_format))
 
 module _ {C : Type 0} (f : Format C) (is_f : IsFormat f) where
-  entries_is_format : IsFormat (entries f)
+  pub entries_is_format : IsFormat (entries f)
   entries_is_format =
       keyed_is_format length (number 1 0 MAX_BATCH) (λ n. listed (entry f) n) (λ n v fits. fits.0) (number_is_format 1 0 MAX_BATCH (lit< tt)) (λ n. listed_is_format (entry f) (entry_is_format f is_f) n)
 
   pub append_is_format : IsFormat (append f)
   append_is_format =
-      tested_is_format (λ a. nat_le (a.prev_index + length a.entries) MAX_INDEX) (record_of (append_fields f) append_of)
+      tested_is_format ends_at_an_index (record_of (append_fields f) append_of)
       (record_of_is_format (append_fields f) append_of (λ a. refl) (λ t. refl) (election_term_is_format, (log_index_is_format, (any_term_is_format, (log_index_is_format, entries_is_format)))))
 
   pub raft_message_is_format : IsFormat (raft_message f)

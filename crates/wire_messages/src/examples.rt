@@ -1,17 +1,19 @@
-ghost use Rattle.std.specs.Prelude.{◌≡◌, ◌∷◌, ◌++◌, [], None, Some, codes};
+ghost use Rattle.std.specs.Prelude.{◌≡◌, ◌∷◌, ◌++◌, [], None, Some, codes, true};
 ghost use Rattle.kv_machine.specs.declared.cmd.KvCmd.TheVariants as command;
 ghost use Rattle.lock_table.specs.declared.cmd.TableCmd.TheVariants as table;
 ghost use Rattle.vst_base.specs.declared.mirror.MirrorMsg.TheVariants as mirror;
+ghost use Rattle.raft_types.specs.declared.limits.TheConstants.{MAX_ROUND};
 ghost use Rattle.raft_types.specs.declared.msg.RaftMsg.TheVariants as message;
 ghost use Rattle.vst_base.specs.declared.retry.RetryMsg.TheVariants as retry;
 ghost use Rattle.vst_base.specs.declared.what.What.TheVariants as what;
 ghost use Rattle.wire_fields.specs.Fields.{key};
 ghost use Rattle.wire_fields.specs.Formats.{listed};
 ghost use Rattle.wire_messages.specs.EntryBytes.{entry, entry_of, old_entry};
-ghost use Rattle.wire_messages.specs.Examples.{one, put_asked, zero_of_four, zero_of_eight};
+ghost use Rattle.wire_messages.specs.Examples.{greatest, one, past_greatest, put_asked, zero_of_four, zero_of_eight};
 ghost use Rattle.wire_messages.specs.KvBytes.{kv_command};
 ghost use Rattle.wire_messages.specs.PeerBytes.{mirror_message, numbered, retried};
 ghost use Rattle.wire_messages.specs.RaftBytes.{append_of, raft_message};
+ghost use Rattle.wire_messages.specs.ReadBytes.{read_message, with_round};
 ghost use Rattle.wire_messages.specs.TableBytes.{table_command};
 ghost use Rattle.wire_messages.specs.Wires.{read_whole};
 
@@ -66,4 +68,25 @@ pub fn worked_retries()
     ensures a_message_after_an_acknowledgement { read_whole (retried mirror_message) (2 ∷ (one ++ (1 ∷ 0 ∷ 1 ∷ 97 ∷ []))) ≡ None }
     ensures of_numbered { (retried (numbered mirror_message)).spell (retry.Data 1 (record { number = 1; inner = mirror.Item (codes "a") }))
         ≡ 1 ∷ (one ++ (one ++ (1 ∷ 0 ∷ 1 ∷ 97 ∷ []))) }
+{}
+
+/// Messages with a round: a leader's stands right before the number of its entries, an answer's after all the rest, and a vote has none.
+#[tactic(auto, unfolding(wire_fields::specs::Bytes::number_bytes, wire_fields::specs::Bytes::number_in, wire_fields::specs::Bytes::has_bytes, wire_fields::specs::Bytes::read_number))]
+pub fn worked_rounds()
+    ensures sent { (read_message kv_command).spell (with_round (message.Append (append_of 1 0 0 0 (entry_of 1 what.Noop ∷ []))) 1)
+        ≡ 3 ∷ (one ++ (zero_of_four ++ (zero_of_eight ++ (zero_of_four ++ (one ++ (1 ∷ (one ++ (0 ∷ [])))))))) }
+    ensures reads_sent { (read_message kv_command).read (3 ∷ (one ++ (zero_of_four ++ (zero_of_eight ++ (zero_of_four ++ (one ++ (1 ∷ (one ++ (0 ∷ [])))))))))
+        ≡ Some (with_round (message.Append (append_of 1 0 0 0 (entry_of 1 what.Noop ∷ []))) 1, []) }
+    ensures sent_past_the_greatest { (read_message kv_command).read (3 ∷ (one ++ (zero_of_four ++ (zero_of_eight ++ (zero_of_four ++ (past_greatest ++ (0 ∷ [])))))))
+        ≡ None }
+    ensures answer { (read_message kv_command).spell (with_round (message.Appended (record { term = 1; ok = true; index = 0 })) MAX_ROUND)
+        ≡ 4 ∷ (one ++ (1 ∷ (zero_of_four ++ greatest))) }
+    ensures reads_answer { (read_message kv_command).read (4 ∷ (one ++ (1 ∷ (zero_of_four ++ greatest))))
+        ≡ Some (with_round (message.Appended (record { term = 1; ok = true; index = 0 })) MAX_ROUND, []) }
+    ensures answer_past_the_greatest { (read_message kv_command).read (4 ∷ (one ++ (1 ∷ (zero_of_four ++ past_greatest)))) ≡ None }
+    ensures answer_of_no_round { (read_message kv_command).read (4 ∷ (one ++ (1 ∷ zero_of_four))) ≡ None }
+    ensures reads_vote { read_whole (read_message kv_command) (2 ∷ (one ++ (1 ∷ [])))
+        ≡ Some (with_round (message.Vote (record { term = 1; granted = true })) 0) }
+    ensures a_byte_after_a_vote { read_whole (read_message kv_command) (2 ∷ (one ++ (1 ∷ 0 ∷ []))) ≡ None }
+    ensures no_round_of_a_vote { (read_message kv_command).Fits (with_round (message.Vote (record { term = 1; granted = true })) 1) → ⊥ }
 {}

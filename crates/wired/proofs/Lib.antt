@@ -9,5 +9,4 @@ pub mod Taking
 pub mod Dealing
 pub mod Refusing
 pub mod RunningAsBytes
-pub mod RaftFits
-pub mod RaftDeals
+pub mod ClustersAlone

@@ -6,6 +6,11 @@ pub mod Saving
 pub mod SavingLaws
 pub mod RaftSaving
 pub mod RaftSavingLaws
+pub mod RaftSending
+pub mod RaftFitLaws
+pub mod RaftDealLaws
+pub mod ReadFitLaws
+pub mod ReadDealLaws
 pub mod BytesAlone
 pub mod StackRuns
 pub mod Dealing
@@ -17,3 +22,4 @@ pub mod MirrorDealLaws
 pub mod FifoDealLaws
 pub mod RetryDealLaws
 pub mod Examples
+pub mod ReadExamples

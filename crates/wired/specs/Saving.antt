@@ -8,6 +8,7 @@ use Rattle.vst_base.specs.declared.net.Net.{Net}
 use Rattle.vst_base.specs.declared.step.Step.{Step}
 use Rattle.vst_base.specs.Nets.{AtNode, OfPacket, Starts, StepView, Stops, view_of}
 use Rattle.wired.specs.Same.{RunsTheSame}
+use Rattle.wired.specs.Wiring.{Named}
 
 -- what a node of each number may keep so that it has bytes, its bytes, and what bytes are to that node: none where they are none of
 -- its own
@@ -26,11 +27,6 @@ pub record Seated (S : Type 0) : Type 0 where
 
 abbrev pub seated_code : {S : Type 0} → Coded S → Coded (Seated S)
 seated_code {S} code = code_by (ℕ × S) (coded× coded_ℕ code) (λ s. (s.me, s.inner)) (λ p. record { me = p.0; inner = p.1 }) (λ _. refl)
-
--- handlers that keep bytes: the handlers within, and the name of their cluster
-pub record Labelled (H : Type 0) : Type 0 where
-  pub inner : H
-  pub name : List ℕ
 
 abbrev pub seat : {S : Type 0} → ℕ → S → Seated S
 seat n s = record { me = n; inner = s }
@@ -61,10 +57,10 @@ saved_recovery saving m r = record {
 }
 
 -- a state is that of its node, and keeps to what the handlers within ask of theirs
-abbrev pub saved_sound : {H S : Type 0} → (H → ℕ → S → Type 0) → Labelled H → ℕ → Seated S → Type 0
+abbrev pub saved_sound : {H S : Type 0} → (H → ℕ → S → Type 0) → Named H → ℕ → Seated S → Type 0
 saved_sound sound w n s = (s.me ≡ n) × sound w.inner n s.inner
 
-abbrev pub saved_spent : {H S : Type 0} → (H → S → ℕ) → Labelled H → Seated S → ℕ
+abbrev pub saved_spent : {H S : Type 0} → (H → S → ℕ) → Named H → Seated S → ℕ
 saved_spent spent w s = spent w.inner s.inner
 
 -- the world whose nodes know their numbers and keep bytes

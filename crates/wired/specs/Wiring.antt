@@ -26,7 +26,7 @@ abbrev pub after_message : {S I O M : Type 0} → Meaning S I O M → ℕ → S 
 after_message m n s from None = record { state = s; outputs = []; sends = [] }
 after_message m n s from (Some message) = m.message n s from message
 
--- handlers whose packets are bytes: the handlers within, and the stack and the name that their packets have
+-- handlers that deal in bytes: the handlers within, and the stack and the name that their packets, or what their nodes keep, have
 pub record Named (H : Type 0) : Type 0 where
   pub inner : H
   pub stack : StackId

@@ -1,7 +1,7 @@
 use vst_base::StackId;
 use wire_fields::NAME_LEN;
 
-/// Whose packets they are: the stack, and the name of the cluster.
+/// Whose bytes they are: the stack, and the name of the cluster.
 #[derive(Clone, Copy, Debug, PartialEq, Eq)]
 pub struct Cluster {
     pub stack: StackId,

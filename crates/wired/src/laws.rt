@@ -21,14 +21,14 @@ pub fn wired_runs_are_the_same<S, K, I, O, M: Wire>()
 
 /// The same of handlers that keep bytes, wherever what the handlers within keep has bytes.
 pub fn saved_runs_are_the_same<S, I, O, M, H: Saves>()
-    ensures { (h : H) (name : List ℕ) (m : Meaning S I O M) (r : Recovery S H.Kept)
-        → SavedRunsAreTheSame {S = S} {K = H.Kept} {I = I} {O = O} {M = M} (H.saving h name) m r }
+    ensures { (h : H) (stack : StackId) (name : List ℕ) (m : Meaning S I O M) (r : Recovery S H.Kept)
+        → SavedRunsAreTheSame {S = S} {K = H.Kept} {I = I} {O = O} {M = M} (H.saving h stack name) m r }
 {}
 
 /// And of handlers that keep bytes and whose packets are bytes.
 pub fn bytes_run_the_same<S, I, O, M: Wire, H: Saves>()
     ensures { (h : H) (stack : StackId) (name : List ℕ) (m : Meaning S I O M) (r : Recovery S H.Kept)
-        → BytesRunTheSame {S = S} {K = H.Kept} {I = I} {O = O} {M = M} M.format stack name (H.saving h name) m r }
+        → BytesRunTheSame {S = S} {K = H.Kept} {I = I} {O = O} {M = M} M.format stack name (H.saving h stack name) m r }
 {}
 
 /// A message between nodes 0 to 8 has bytes where it fits, is short enough beside the 22 bytes of the heading, and is one of a stack

@@ -4,14 +4,17 @@
 #![tactic(auto)]
 
 mod always_fits;
+mod body_bytes;
 mod cluster;
 mod examples;
 mod hand_on;
 mod hearing;
 mod laws;
+mod on_disk;
 mod on_wire;
 mod packet;
 mod raft;
+mod read_examples;
 mod saved;
 mod saved_bytes;
 mod saves;
@@ -28,8 +31,10 @@ pub use laws::{
     bytes_run_the_same, fitting_messages_have_bytes, saved_runs_are_the_same,
     wired_runs_are_the_same,
 };
+pub use on_disk::OnDisk;
 pub use on_wire::OnWire;
 pub use packet::Packet;
+pub use read_examples::{worked_readers, worked_rounds};
 pub use saved::Saved;
 pub use saved_bytes::SavedBytes;
 pub use saves::Saves;

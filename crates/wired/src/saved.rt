@@ -1,37 +1,36 @@
 ghost use Rattle.wired.specs.Saving.{saved, saved_recovery, saved_sound, saved_spent};
 ghost use Rattle.wired.specs.SavingLaws.{fresh, modest_input, modest_message, modest_timeout, rebooted_fresh};
 
-use crate::{SavedBytes, Saves, SeatState};
+use crate::{Cluster, SavedBytes, Saves, SeatState};
 use handler_trait::{Effects, Handlers, Rebootable};
 use std::alloc::{AllocError, Global};
 use std::marker::Model;
 use vst_base::Node;
-use wire_fields::NAME_LEN;
 
 /// Handlers that keep bytes: a node that stops writes what it keeps as its own, and one that starts on bytes that are none of its own
-/// has its first state. Contracts see the handlers within, and the name of their cluster.
+/// has its first state. Contracts see the handlers within, and the stack and the name of their cluster.
 #[derive(Drop)]
 pub struct Saved<H: Saves> {
     inner: H,
-    name: [u8; NAME_LEN],
+    cluster: Cluster,
 }
 
 impl<H: Saves> Model for Saved<H> {
-    ghost use Rattle.wired.specs.Saving.{Labelled};
+    ghost use Rattle.wired.specs.Wiring.{Named};
 
-    ghost Value = { Labelled H };
+    ghost Value = { Named H };
 
-    ghost view = { λ s. record { inner = s.inner; name = s.name } };
+    ghost view = { λ s. record { inner = s.inner; stack = s.cluster.stack; name = s.cluster.name } };
 }
 
 impl<H: Saves> Saved<H> {
     ghost use Rattle.std.specs.Prelude.{◌≡◌};
 
-    /// These handlers, in a cluster of this name.
-    pub fn new(inner: H, name: [u8; NAME_LEN]) -> Self
-        ensures { result ≡ record { inner = inner; name = name } }
+    /// These handlers, whose nodes keep the bytes of a cluster.
+    pub fn new(inner: H, cluster: Cluster) -> Self
+        ensures { result ≡ record { inner = inner; stack = cluster.stack; name = cluster.name } }
     {
-        Saved { inner, name }
+        Saved { inner, cluster }
     }
 
     /// The handlers within.
@@ -131,12 +130,14 @@ impl<H: Saves> Handlers for Saved<H> {
 impl<H: Saves> Rebootable for Saved<H> {
     type Kept = SavedBytes;
 
-    ghost recovery = { λ w. saved_recovery (H.saving w.inner w.name) (H.meaning w.inner) (H.recovery w.inner) };
+    ghost recovery = { λ w. saved_recovery (H.saving w.inner w.stack w.name) (H.meaning w.inner) (H.recovery w.inner) };
 
     ghost fits = { λ _ _. Unit {0} };
 
     fn keep(&self, alloc: Global, state: &SeatState<H::State>) -> Result<SavedBytes, AllocError> {
-        let bytes = self.inner.save(alloc, &self.name, state.me, &state.inner)?;
+        let bytes = self
+            .inner
+            .save(alloc, &self.cluster, state.me, &state.inner)?;
         Ok(SavedBytes::new(bytes))
     }
 
@@ -146,7 +147,9 @@ impl<H: Saves> Rebootable for Saved<H> {
         node: Node,
         kept: SavedBytes,
     ) -> Result<SeatState<H::State>, AllocError> {
-        let found = self.inner.restore(alloc, &self.name, node, kept.bytes())?;
+        let found = self
+            .inner
+            .restore(alloc, &self.cluster, node, kept.bytes())?;
         let inner = match found {
             Some(found) => self.inner.reboot(alloc, node, found)?,
             None => self.inner.init(alloc, node)?,

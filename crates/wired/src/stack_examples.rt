@@ -1,29 +1,32 @@
-ghost use Rattle.std.specs.Prelude.{ℕ, ◌≤◌};
+ghost use Rattle.std.specs.Prelude.{ℕ, ◌≤◌, Bool};
 ghost use Rattle.fifo_xform.specs.Fifo.{fifo};
 ghost use Rattle.kv_machine.specs.declared.cmd.KvCmd.{KvCmd as SpecKvCmd};
 ghost use Rattle.lock_server.specs.Locks.{lock_server};
 ghost use Rattle.lock_table.specs.declared.cmd.TableCmd.{TableCmd as SpecTableCmd};
 ghost use Rattle.mirror.specs.Mirroring.{mirror};
 ghost use Rattle.primary_backup.specs.Backup.{primary_backup};
+ghost use Rattle.raft_reads.specs.ReadRaft.{read_raft, read_recovery};
 ghost use Rattle.raft_types.specs.Messages.{IsClusterSize};
 ghost use Rattle.raft_xform.specs.Raft.{raft, raft_recovery};
 ghost use Rattle.retry_xform.specs.Retransmission.{retrying};
 ghost use Rattle.seqnum_xform.specs.Numbering.{sequence_numbered};
 ghost use Rattle.vst_base.specs.Machines.{MachineMeaning};
+ghost use Rattle.vst_base.specs.declared.stack.StackId.{StackId};
 ghost use Rattle.vst_base.specs.declared.stack.StackId.TheVariants as stack;
+ghost use Rattle.wire_codec.specs.Headings.{HasByte};
 ghost use Rattle.wire_messages.specs.KvBytes.{kv_command};
 ghost use Rattle.wire_messages.specs.PeerBytes.{backup_message, lock_message, mirror_message, numbered, retried};
 ghost use Rattle.wire_messages.specs.RaftBytes.{raft_message};
+ghost use Rattle.wire_messages.specs.ReadBytes.{read_message};
 ghost use Rattle.wire_messages.specs.TableBytes.{table_command};
 ghost use Rattle.wired.specs.RaftSaving.{IsAsked, raft_saving};
 ghost use Rattle.wired.specs.Sending.{HasPut};
 ghost use Rattle.wired.specs.StackRuns.{RunsAsBytes, RunsOnBytesAlone};
+ghost use Rattle.wired.specs.WiredRuns.{IsFormatOf};
 
-use crate::{clusters_run_the_same_on_bytes_alone, runs_as_bytes};
+use crate::runs_as_bytes;
 use fifo_xform::Fifo;
-use kv_machine::KvCmd;
 use lock_server::LockServer;
-use lock_table::TableCmd;
 use mirror::Mirror;
 use retry_xform::Retry;
 use seqnum_xform::SeqNum;
@@ -58,7 +61,7 @@ pub fn worked_stacks<S, O>()
 
 /// The stacks whose nodes stop and start again: on bytes alone, in packets and in what is kept, each refuses what it refuses with
 /// messages and states, and clients see the same. The commands that clients give are to have bytes, and the numbers of clients and
-/// requests eight at most.
+/// requests eight at most. So it is where reads take no entry of the log, in each stack whose messages have rounds.
 pub fn worked_cluster_stacks<S, O>()
     ensures kv_raft { (nodes : ℕ) (m : MachineMeaning S SpecKvCmd O) → IsClusterSize nodes
         → RunsOnBytesAlone (raft_message kv_command) stack.KvRaft (raft_saving stack.KvRaft kv_command nodes)
@@ -66,7 +69,8 @@ pub fn worked_cluster_stacks<S, O>()
     ensures table_raft { (nodes : ℕ) (m : MachineMeaning S SpecTableCmd O) → IsClusterSize nodes
         → RunsOnBytesAlone (raft_message table_command) stack.TableRaft (raft_saving stack.TableRaft table_command nodes)
         (IsAsked table_command) (raft nodes m) (raft_recovery m) }
-{
-    clusters_run_the_same_on_bytes_alone::<S, O, KvCmd>();
-    clusters_run_the_same_on_bytes_alone::<S, O, TableCmd>();
-}
+    ensures kv_reads { (stack : StackId) (nodes : ℕ) (m : MachineMeaning S SpecKvCmd O) (is_read : SpecKvCmd → Bool) → HasByte stack
+        → IsFormatOf stack (read_message kv_command) → IsClusterSize nodes
+        → RunsOnBytesAlone (read_message kv_command) stack (raft_saving stack kv_command nodes)
+        (IsAsked kv_command) (read_raft nodes m is_read) (read_recovery nodes m) }
+{}

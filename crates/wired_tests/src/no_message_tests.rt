@@ -221,7 +221,11 @@ fn kept_after<H: Rebootable>(
 fn three_nodes() -> Saved<Raft<KvMachine>>
     ensures { result.inner.nodes ≡ 3 }
 {
-    Saved::new(Raft::new(KvMachine, 3), [0; 16])
+    let cluster = Cluster {
+        stack: StackId::KvRaft,
+        name: [0; 16],
+    };
+    Saved::new(Raft::new(KvMachine, 3), cluster)
 }
 
 // What node 0 of three keeps, which has voted for itself.

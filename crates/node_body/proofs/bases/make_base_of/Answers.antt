@@ -1,4 +1,4 @@
-use Rattle.std.proofs.Common.{[], ◌∷◌, ap, arith, length, length-append}
+use Rattle.std.proofs.Common.{[], ◌∷◌, ap, arith, length, length-append, subst}
 use Rattle.wire_fields.specs.ByteLaws.{length-number_bytes}
 use Rattle.wire_fields.specs.Bytes.{number_bytes}
 use Rattle.node_body.specs.BaseLaws.{body_length}
@@ -8,7 +8,7 @@ use Rattle.node_body.proofs.bases.make_base_of.Goals as goal
 pub overflow_cast-len : goal.overflow_cast-len
 overflow_cast-len g c =
     let kept = kept_as c.args.term c.args.voted c.args.log.now in
-    let spelled = (body g.C.Commands.stack g.C.Wire.format).spell (body_of c.args.who.now kept) in
+    let spelled = (body c.args.who.now.stack g.C.Wire.format).spell (body_of c.args.who.now kept) in
     let bytes = ap length c.in_ok-put_state.ensures.ok in
     let empty = ap length c.new-body.ensures.items in
     omega (
@@ -17,14 +17,14 @@ overflow_cast-len g c =
       empty,
       length-append c.new-body.result.items spelled,
       c.len.ensures,
-      body_length g.C.Commands.stack g.C.Wire.format g.met.C.Commands.short c.args.who.now kept c.in_ok-put_state.ensures.fits,
+      body_length c.args.who.now.stack g.C.Wire.format g.met.C.Commands.short c.args.who.now kept c.in_ok-put_state.ensures.fits,
     )
 
 pub returns-clause-short : goal.returns-clause-short
 returns-clause-short g c =
     let kept = kept_as c.args.term c.args.voted c.args.log.now in
-    let spelled = (body g.C.Commands.stack g.C.Wire.format).spell (body_of c.args.who.now kept) in
-    let long = body_length g.C.Commands.stack g.C.Wire.format g.met.C.Commands.short c.args.who.now kept c.in_ok-put_state.ensures.fits in
+    let spelled = (body c.args.who.now.stack g.C.Wire.format).spell (body_of c.args.who.now kept) in
+    let long = body_length c.args.who.now.stack g.C.Wire.format g.met.C.Commands.short c.args.who.now kept c.in_ok-put_state.ensures.fits in
     let bytes = ap length c.in_ok-put_state.ensures.ok in
     let empty = ap length c.new-body.ensures.items in
     let both = length-append c.new-body.result.items spelled in
@@ -38,3 +38,8 @@ returns-clause-short g c =
     let last = ap length c.in_ok-push.ensures.items in
     let one = length-append c.extend_from_slice.new.self.items (0 ∷ []) in
     omega (arith, c.push.new.self.ok.0, last, one, added, sum, same, number, four, size, none, bytes, both, empty, long)
+
+pub returns-clause-fits : goal.returns-clause-fits
+returns-clause-fits g c =
+    let kept = kept_as c.args.term c.args.voted c.args.log.now in
+    subst (λ s. (body s g.C.Wire.format).Fits (body_of c.args.who.now kept)) c.requires.stack c.in_ok-put_state.ensures.fits

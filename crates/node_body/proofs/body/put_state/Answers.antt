@@ -1,3 +1,4 @@
+use Rattle.std.proofs.Common.{refl}
 use Rattle.std.proofs.lemmas.Result.{on_ok_weaker}
 use Rattle.node_body.specs.Bodies.{kept_as}
 use Rattle.node_body.specs.BodyLaws.{body_fits}
@@ -7,7 +8,7 @@ use Rattle.node_body.proofs.body.put_state.Goals as goal
 pub returns-clause-fits : goal.returns-clause-fits
 returns-clause-fits g c =
     on_ok_weaker c.put_log.result
-    (λ entries. body_fits g.C.Commands.stack g.C.Wire.format c.args.who.now (kept_as c.args.term c.args.voted c.args.log.now) c.requires.stack c.requires.nodes c.requires.me c.in_ok-put_owner.ensures.fits c.requires.term c.requires.voted
+    (λ entries. body_fits c.args.who.now.stack g.C.Wire.format c.args.who.now (kept_as c.args.term c.args.voted c.args.log.now) refl c.requires.nodes c.requires.me c.in_ok-put_owner.ensures.fits c.requires.term c.requires.voted
     entries)
     c.put_log.ensures.fits
 

@@ -1,18 +1,12 @@
-use Rattle.std.proofs.Common.{ap, sym, ◌∙◌}
+use Rattle.runs_in_bytes.proofs.Owned.{owned, within}
 use Rattle.runs_in_bytes.proofs.cluster.on_bytes.Goals as goal
 
 pub returns-clause-within : goal.returns-clause-within
-returns-clause-within g c = ap (λ w. w.inner.inner) c.new-2.ensures ∙ (ap (λ w. w.inner) c.new-nodes.ensures ∙ c.new.ensures)
+returns-clause-within g c =
+    within c.args.handlers c.args.stack c.no_name.result c.new.result c.new-2.result c.new.ensures c.new-2.ensures
 
 pub returns-clause-own : goal.returns-clause-own
 returns-clause-own g c =
-    let made = c.new-2.ensures in
-    let within = ap (λ w. w.inner) made ∙ c.new-nodes.ensures in
-    record {
-      packets = c.requires.packets;
-      format = c.requires.format;
-      size = rw (ap (λ w. w.inner) within ∙ c.new.ensures) c.requires.size;
-      stack = ap (λ w. w.stack) made ∙ c.stack.ensures;
-      same_name = ap (λ w. w.name) within ∙ sym (ap (λ w. w.name) made);
-      named = ap (λ w. w.name) made ∙ c.no_name-name.ensures;
-    }
+    let f = g.H.Msg.Wire.format in
+    owned c.args.handlers c.args.stack c.no_name.result f g.H.OnDisk.longest g.H.Handlers.meaning c.new.result c.new-2.result c.new.ensures c.new-2.ensures c.no_name.ensures
+    c.requires.packets c.requires.format c.requires.short c.requires.size

@@ -14,8 +14,9 @@ pub returns-clause-own : goal.returns-clause-own
 returns-clause-own c = record {
   packets = tt;
   format = λ bytes. refl;
+  short = omega arith;
   size = (omega arith, omega arith);
-  stack = refl;
+  same_stack = refl;
   same_name = refl;
   named = refl;
 }
@@ -26,8 +27,8 @@ returns-clause-not_of_another_format c = λ h. cc (h.format (1 ∷ []), too_shor
 pub returns-clause-not_of_no_packets : goal.returns-clause-not_of_no_packets
 returns-clause-not_of_no_packets c = λ h. absurd h.packets
 
-pub returns-clause-not_of_another_stack : goal.returns-clause-not_of_another_stack
-returns-clause-not_of_another_stack c = λ h. cc (h.stack)
+pub returns-clause-not_of_two_stacks : goal.returns-clause-not_of_two_stacks
+returns-clause-not_of_two_stacks c = λ h. cc (h.same_stack)
 
 pub returns-clause-not_under_another_name : goal.returns-clause-not_under_another_name
 returns-clause-not_under_another_name c = λ h. let e : ◌≡◌ {A = ℕ} 7 0 = ap (λ name. get_or name 0 0) h.named in omega (arith, e)
@@ -37,3 +38,6 @@ returns-clause-not_under_two_names c = λ h. let e : ◌≡◌ {A = ℕ} 8 0 = a
 
 pub returns-clause-not_of_ten_nodes : goal.returns-clause-not_of_ten_nodes
 returns-clause-not_of_ten_nodes c = λ h. let e : 10 ≤ 9 = h.size.1 in omega (arith, e)
+
+pub returns-clause-not_of_long_messages : goal.returns-clause-not_of_long_messages
+returns-clause-not_of_long_messages c = λ h. let e : 59979 ≤ 59978 = h.short in omega (arith, e)

@@ -5,5 +5,5 @@ use Rattle.wire_messages.proofs.append.put_append_front.Goals as goal
 pub returns-clause-ok : goal.returns-clause-ok
 unfolding number_bytes
 returns-clause-ok c =
-    let added = rw (c.write_u32-2.ensures, c.write_u64-2.ensures, c.write_u32.ensures, c.write_u64.ensures) at c.extend_from_slice.ensures.items in
+    let added = rw c.write.ensures at c.extend_from_slice.ensures.items in
     search rules

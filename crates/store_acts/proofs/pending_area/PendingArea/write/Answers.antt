@@ -1,12 +1,12 @@
-use Rattle.std.proofs.Common.{◌≡◌, ◌∷◌, length, ap, ◌∙◌, arith}
+use Rattle.std.proofs.Common.{◌≡◌, [], ◌∷◌, ◌++◌, length, ap, ◌∙◌, arith}
 use Rattle.store_acts.proofs.Exchanging.{stood_on, takes_write_back}
 use Rattle.store_acts.specs.declared.pending_area.Undo.{Undo}
 use Rattle.store_acts.proofs.pending_area.PendingArea.write.Goals as goal
 
 pub returns-clause-stood : goal.returns-clause-stood
 returns-clause-stood c =
-    let undo : Undo = record { len = c.len-len.result; at = c.args.at; over = c.in_ok-over.over; wrote = _ } in
     let len : c.len-len.result ≡ length c.args.self.now.bytes.items = omega arith in
+    let undo : Undo = record { len = c.len-len.result; at = c.args.at; over = c.in_ok-over.over; wrote = _ } in
     stood_on c.args.self.now.undos.items _ undo c.args.self.now.bytes.items _
-    (c.in_ok-insert.ensures.items ∙ ap (λ us. undo ∷ us) c.reserve.ensures.items)
+    (c.in_ok-push.ensures.items ∙ ap (λ us. us ++ undo ∷ []) c.reserve.ensures.items)
     (takes_write_back undo c.args.self.now.bytes.items _ c.args.bytes.items len c.in_ok-over.ensures.new c.in_ok-over.ensures.over)

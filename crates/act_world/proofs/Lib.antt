@@ -1,0 +1,17 @@
+pub mod Ones
+pub mod Standing
+pub mod Showing
+pub mod Flying
+pub mod Refusing
+pub mod Sound
+pub mod Stepping
+pub mod Copying
+pub mod Answering
+pub mod Coding
+pub mod Starting
+pub mod Beginning
+pub mod Noting
+pub mod Going
+pub mod Delivering
+pub mod Arriving
+pub mod Seeing

@@ -1,0 +1,11 @@
+pub mod Views
+pub mod Notes
+pub mod Flights
+pub mod Turns
+pub mod Nodes
+pub mod ActViews
+pub mod Refusals
+pub mod Moves
+pub mod Following
+pub mod FollowingLaws
+pub mod Examples

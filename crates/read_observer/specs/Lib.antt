@@ -1,0 +1,4 @@
+pub mod CheckedLaws
+pub mod Examples
+pub mod Observed
+pub mod Pairs

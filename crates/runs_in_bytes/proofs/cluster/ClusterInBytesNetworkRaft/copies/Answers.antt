@@ -1,4 +1,0 @@
-use Rattle.runs_in_bytes.proofs.cluster.ClusterInBytesNetworkRaft.copies.Goals as goal
-
-pub returns : goal.returns
-returns g c = rw (← c.self.view_is) c.copies.ensures

@@ -1,4 +1,0 @@
-use Rattle.runs_in_bytes.proofs.cluster.ClusterInBytesNetworkRaft.is_up.Goals as goal
-
-pub returns : goal.returns
-returns g c = rw (← c.self.view_is) c.is_up.ensures
