@@ -15,3 +15,4 @@ pub mod Going
 pub mod Delivering
 pub mod Arriving
 pub mod Seeing
+pub mod Wording

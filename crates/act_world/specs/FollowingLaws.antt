@@ -11,8 +11,10 @@ use Rattle.act_network.specs.ActRuns.{acts_from, acts_run, first_refused_act_fro
 use Rattle.act_network.specs.ActSteps.{act_next}
 use Rattle.act_network.specs.ActWorlds.{ActWorld, first_act_world}
 use Rattle.act_network.specs.Disks.{Disks}
+use Rattle.act_network.specs.Words.{by_words, by_words_from, left_by}
 use Rattle.act_network.specs.declared.step.ActStep.{ActStep}
 use Rattle.act_world.specs.ActViews.{ActView, ShowsAct}
+use Rattle.act_world.specs.ByWords.{HasFollowedWords}
 use Rattle.act_world.specs.Following.{HasFollowedActs}
 
 module _ {S K I O M D A X : Type 0} (m : Meaning S I O M) (r : Recovery S K) (d : Disks K D A X) where
@@ -39,3 +41,21 @@ follows-on {H = H} f d v after ss s same leads followed =
     let m = f.meaning v.handlers in let r = f.recovery v.handlers in
     subst (λ (h : H). ShowsAct after (acts_run (f.meaning h) (f.recovery h) d (ss ++ s ∷ []))) (sym same)
     (subst (ShowsAct after) (sym (acts_from-last m r d (first_act_world m d) ss s)) (leads (acts_run m r d ss) followed))
+
+-- the steps that words say, with one more
+module _ {S K I O M D A X W : Type 0} (m : Meaning S I O M) (r : Recovery S K) (d : Disks K D A X) (by_word : D → W → X) where
+  pub by_words_from-last : (w : ActWorld S I O M D A X) (ss : List (ActStep I W)) (s : ActStep I W) →
+      by_words_from m r d by_word w (ss ++ s ∷ []) ≡ by_words_from m r d by_word w ss ++ left_by by_word (acts_from m r d w (by_words_from m r d by_word w ss)) s ∷ []
+  by_words_from-last w [] s = refl
+  by_words_from-last w (x ∷ ss) s = ap (λ xs. left_by by_word w x ∷ xs) (by_words_from-last (act_next m r d w (left_by by_word w x)) ss s)
+
+-- a world has followed one step more that a word says
+pub follows-word : {H S K D I A O M X W : Type 0} (f : RebootableFacts H S K I O M) (d : Disks K D A X) (by_word : D → W → X) (v after : ActView H S D I A O M X) (ss : List (ActStep I W)) (s : ActStep I W) →
+    after.handlers ≡ v.handlers →
+    ((w : ActWorld S I O M D A X) → ShowsAct v w → ShowsAct after (act_next (f.meaning v.handlers) (f.recovery v.handlers) d w (left_by by_word w s))) →
+    HasFollowedWords f d by_word v ss → HasFollowedWords f d by_word after (ss ++ s ∷ [])
+follows-word {H = H} f d by_word v after ss s same leads followed =
+    let m = f.meaning v.handlers in let r = f.recovery v.handlers in let xs = by_words m r d by_word ss in let w = acts_run m r d xs in
+    subst (λ (h : H). ShowsAct after (acts_run (f.meaning h) (f.recovery h) d (by_words (f.meaning h) (f.recovery h) d by_word (ss ++ s ∷ [])))) (sym same)
+    (subst (λ ys. ShowsAct after (acts_run m r d ys)) (sym (by_words_from-last m r d by_word (first_act_world m d) ss s))
+    (subst (ShowsAct after) (sym (acts_from-last m r d (first_act_world m d) xs (left_by by_word w s))) (leads w followed)))

@@ -6,6 +6,7 @@ pub mod Nodes
 pub mod ActViews
 pub mod Refusals
 pub mod Moves
+pub mod ByWords
 pub mod Following
 pub mod FollowingLaws
 pub mod Examples

@@ -16,6 +16,7 @@ pub fn first_nodes<H: Rebootable, D: SavesByActs<H>>(
     Vec<ActNode<H::State, D::Disk, H::Input, D::Act, H::Output, H::Msg, D::Left>>,
     AllocError,
 >
+    requires { D.serves disks.now handlers.now }
     ensures nodes { IfOk result (λ nodes. length nodes.items ≡ (H.meaning handlers.now).nodes) }
     ensures first { IfOk result (λ nodes. (n : ℕ) → n < (H.meaning handlers.now).nodes → slice_get nodes.items n
         ≡ Some (first_node (H.meaning handlers.now) D.disks n)) }
@@ -27,7 +28,7 @@ pub fn first_nodes<H: Rebootable, D: SavesByActs<H>>(
     for n in 0..count {
         let node = Node::new(n, count).unwrap();
         let state = handlers.init(alloc, node)?;
-        let disk = disks.fresh(alloc, node)?;
+        let disk = disks.fresh(alloc, handlers, node)?;
         nodes.push(ActNode {
             state,
             disk,

@@ -1,4 +1,4 @@
-ghost use Rattle.std.specs.Prelude.{◌≡◌, ℕ, ◌<◌, IfOk, IfSome, OnOk};
+ghost use Rattle.std.specs.Prelude.{◌≡◌, ℕ, ◌<◌, IfOk, IfSome, IsSome, OnOk};
 
 use act_network::{LeavesByWord, SavesStates};
 use handler_trait::Rebootable;
@@ -13,7 +13,9 @@ pub trait SavesByActs<H: Rebootable>: SavesStates<Kept = H::Kept, Disk: Drop, Ac
     ghost serves: { Self → H → Type 0 };
 
     /// The disk of a node after an opening of empty areas.
-    fn fresh(&self, alloc: Global, node: Node) -> Result<Self::Disk, AllocError>
+    fn fresh(&self, alloc: Global, handlers: &H, node: Node) -> Result<Self::Disk, AllocError>
+        requires serves { serves self.now handlers.now }
+        requires node { node < (H.meaning handlers.now).nodes }
         ensures { IfOk result (λ disk. disk ≡ Self.disks.fresh node) };
 
     /// The acts that save what is kept of a state, in their order.
@@ -61,19 +63,23 @@ pub trait SavesByActs<H: Rebootable>: SavesStates<Kept = H::Kept, Disk: Drop, Ac
         ensures found { IfOk result (λ found. found ≡ Self.disks.opens node left.now) }
         ensures fits { IfOk result (λ found. IfSome found (H.fits handlers.now)) };
 
-    /// The disk becomes the one after an opening of what is left.
+    /// The disk becomes the one after an opening of what is left, in which a state is found.
     fn reopen(
         &self,
         alloc: Global,
+        handlers: &H,
         node: Node,
         disk: &mut Self::Disk,
         left: Self::Left,
     ) -> Result<(), AllocError>
+        requires serves { serves self.now handlers.now }
+        requires node { node < (H.meaning handlers.now).nodes }
+        requires opens { IsSome (Self.disks.opens node left) }
         ensures { OnOk result (disk.new ≡ Self.disks.reopened node left) };
 }
 
 /// Disks of which a word says what a stop leaves.
-pub trait LeavesByActs<H: Rebootable>: SavesByActs<H> + LeavesByWord {
+pub trait LeavesByActs<H: Rebootable>: SavesByActs<H> + LeavesByWord<Word: Drop> {
     /// What the word leaves of a disk. It may be moved out of the disk, of which only what the node knows has to stay.
     fn leave(
         &self,

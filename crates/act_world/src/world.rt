@@ -33,13 +33,13 @@ use vst_base::{Node, Step, StepRefusal};
 /// stop and start again.
 #[derive(Drop)]
 pub struct ActWorld<H: Rebootable, D: SavesByActs<H>> {
-    alloc: Global,
+    pub(crate) alloc: Global,
     handlers: H,
-    disks: D,
-    nodes: Vec<ActNode<H::State, D::Disk, H::Input, D::Act, H::Output, H::Msg, D::Left>>,
+    pub(crate) disks: D,
+    pub(crate) nodes: Vec<ActNode<H::State, D::Disk, H::Input, D::Act, H::Output, H::Msg, D::Left>>,
     flights: Vec<Flight<H::Msg>>,
     notes: Notes<H::Input, H::Output>,
-    taken: u32,
+    pub(crate) taken: u32,
 }
 
 impl<H: Rebootable, D: SavesByActs<H>> Model for ActWorld<H, D> {
@@ -130,7 +130,7 @@ impl<H: Rebootable, D: SavesByActs<H>> ActWorld<H, D> {
     }
 }
 
-// Why a step is refused, or which node or packet it is of.
+// Why a step is refused, or which node or packet it is of; what happens at nodes, how their turns go on, and the kinds of step.
 impl<H: Rebootable, D: SavesByActs<H>> ActWorld<H, D> {
     // Whether node `n` is up.
     fn is_up(&self, n: Node) -> bool
@@ -207,7 +207,7 @@ impl<H: Rebootable, D: SavesByActs<H>> ActWorld<H, D> {
     }
 
     // The node that stops.
-    fn to_stop(&self, n: u32) -> Result<Node, StepRefusal>
+    pub(crate) fn to_stop(&self, n: u32) -> Result<Node, StepRefusal>
         requires { length self.now.nodes ≡ (H.meaning self.now.handlers).nodes }
         ensures { result ≡ to_stop (H.meaning self.now.handlers) self.now n }
     {
@@ -260,10 +260,7 @@ impl<H: Rebootable, D: SavesByActs<H>> ActWorld<H, D> {
         }
         Ok(k as usize)
     }
-}
 
-// What happens at nodes, how their turns go on, how they stop and start, and the kinds of step.
-impl<H: Rebootable, D: SavesByActs<H>> ActWorld<H, D> {
     // A client gives the node an input.
     fn input_event(
         &mut self,
@@ -609,7 +606,7 @@ impl<H: Rebootable, D: SavesByActs<H>> ActWorld<H, D> {
     }
 
     // The node stops, and this is left of its areas.
-    fn stop(&mut self, node: Node, left: D::Left) -> Result<(), AllocError>
+    pub(crate) fn stop(&mut self, node: Node, left: D::Left) -> Result<(), AllocError>
         requires sound { IsSoundActBy H.Rebootable self.old }
         requires node { node < (H.meaning self.old.handlers).nodes }
         requires steps { self.old.taken < MAX_STEPS }
@@ -640,6 +637,7 @@ impl<H: Rebootable, D: SavesByActs<H>> ActWorld<H, D> {
         requires node { node < length self.old.nodes }
         requires exists { node < (H.meaning self.old.handlers).nodes }
         requires down { IsSome (left_at (slice_get self.old.nodes node)) }
+        requires opens { IfSome (left_at (slice_get self.old.nodes node)) (λ left. D.disks.opens node left ≡ Some kept) }
         requires fits { H.fits self.old.handlers kept }
         ensures starts { OnOk result (IfSome (left_at (slice_get self.old.nodes node)) (λ left.
             self.new ≡ starts_from (H.recovery self.old.handlers) D.disks self.old node left (Some kept))) }
@@ -652,7 +650,8 @@ impl<H: Rebootable, D: SavesByActs<H>> ActWorld<H, D> {
         };
         let state = self.handlers.reboot(self.alloc, node, kept)?;
         at.state = state;
-        self.disks.reopen(self.alloc, node, &mut at.disk, left)?;
+        self.disks
+            .reopen(self.alloc, &self.handlers, node, &mut at.disk, left)?;
         self.notes.add(Step::Reboot(u32::from(node.index())))
     }
 
@@ -672,7 +671,7 @@ impl<H: Rebootable, D: SavesByActs<H>> ActWorld<H, D> {
         }
     }
 
-    fn take(&mut self, step: ActStep<H::Input, D::Left>) -> Result<(), StepFault>
+    pub(crate) fn take(&mut self, step: ActStep<H::Input, D::Left>) -> Result<(), StepFault>
         requires sound { IsSoundActBy H.Rebootable self.old }
         requires steps { self.old.taken < MAX_STEPS }
         ensures { AnswersActBy H.Rebootable D.disks step self.old self.new result }

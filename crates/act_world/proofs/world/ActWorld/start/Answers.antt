@@ -1,5 +1,7 @@
-use Rattle.std.proofs.Common.{refl}
-use Rattle.lists.specs.Options.{of_some}
+use Rattle.std.proofs.Common.{◌∙◌, refl, sym}
+use Rattle.std.specs.Prelude.{slice_get}
+use Rattle.lists.specs.Options.{if_some_weaker, of_some}
+use Rattle.act_world.specs.Refusals.{left_at}
 use Rattle.act_world.proofs.Delivering.{on_ok_two, starts-none, starts-some}
 use Rattle.act_world.proofs.world.ActWorld.start.Goals as goal
 
@@ -20,3 +22,7 @@ returns-in-None-clause-starts g c =
 
 pub start_from-requires-clause-fits : goal.start_from-requires-clause-fits
 start_from-requires-clause-fits g c = of_some (g.H.Rebootable.fits c.args.self.now.handlers) c.in_ok-found.found c.in-Some.kept c.in-Some.is c.in_ok-found.ensures.fits
+
+pub start_from-requires-clause-opens : goal.start_from-requires-clause-opens
+start_from-requires-clause-opens g c =
+    if_some_weaker (left_at (slice_get c.args.self.now.nodes c.args.node)) (λ left is. sym is ∙ c.in-Some.is) c.in_ok-found.ensures.found

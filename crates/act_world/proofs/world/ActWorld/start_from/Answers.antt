@@ -1,7 +1,7 @@
 use Rattle.std.proofs.Common.{◌≡◌, ◌<◌, Some, ap, length, refl, subst, sym, ◌∙◌}
-use Rattle.std.specs.Prelude.{slice_get}
+use Rattle.std.specs.Prelude.{IsSome, slice_get}
 use Rattle.std.proofs.lemmas.Result.{on_ok_weaker}
-use Rattle.lists.specs.Options.{some_holds}
+use Rattle.lists.specs.Options.{of_some, some_holds}
 use Rattle.vst_base.specs.declared.step.Step.TheVariants as step
 use Rattle.act_world.specs.Moves.{starts_from}
 use Rattle.act_world.specs.Nodes.{started}
@@ -31,3 +31,12 @@ returns-clause-sound g c =
     let handlers : c.self.inside.handlers ≡ v.handlers = ap (λ x. x.handlers) c.self.view_is in
     let state = c.in_ok-state.ensures.reboots ∙ ap (λ h. (g.H.Rebootable.recovery h).reboot n c.args.kept) handlers in
     on_ok_weaker c.add.result (λ _. subst (λ s. g.H.Handlers.sound v.handlers n s) state (subst (λ h. g.H.Handlers.sound h n c.in_ok-state.state) handlers c.in_ok-state.ensures.sound)) c.add.ensures
+
+pub reopen-requires-clause-opens : goal.reopen-requires-clause-opens
+reopen-requires-clause-opens g c =
+    let v = c.args.self.now in let i = c.self.inside in let node = c.index_mut-at.result.now in let n = c.args.node in let left = c.in-Some.left in
+    let below : n < length i.nodes.items = subst (λ x. n < length x.nodes) (sym c.self.view_is) c.requires.node in
+    let there = node-there i.handlers i.nodes.items i.flights.items i.notes i.taken v c.self.view_is n c.place.result node c.place.ensures below c.index_mut-at.ensures.value in
+    let was = sym c.take.ensures.value ∙ c.in-Some.is in
+    let opens = of_some (λ x. g.D.SavesStates.disks.opens n x ≡ Some c.args.kept) (left_at (slice_get v.nodes n)) left (ap left_at there ∙ was) c.requires.opens in
+    subst IsSome (sym opens) refl
