@@ -17,7 +17,7 @@ import time
 
 SCHEDULE = os.path.join(os.path.dirname(os.path.dirname(os.path.abspath(__file__))), "tools", "schedule")
 STACKS = ["lock", "lock/seq", "kv/pb", "kv/pb/seq", "kv/raft", "table/pb/seq", "table/raft", "mirror", "mirror/fifo"]
-STACKS += ["lock/seq/retry", "kv/pb/seq/retry"]
+STACKS += ["lock/seq/retry", "kv/pb/seq/retry", "kv/raft/read", "table/raft/read"]
 
 
 def run(program, words, text=b""):
@@ -33,7 +33,7 @@ def counts_of(steps, stack, trace_and_image):
     outputs = [line.split(b" ") for line in lines if line.startswith(b"out ")]
     no_replies = {b"redirect", b"notleader", b"full"} if "/" in stack and stack != "lock/seq" else set()
     replies = sum(words[2] not in no_replies for words in outputs)
-    image_lines = len(image.splitlines()) - (0 if stack.endswith("raft") else 1)
+    image_lines = len(image.splitlines()) - (0 if "/raft" in stack else 1)
     return [steps, inputs, len(outputs), replies, image_lines]
 
 

@@ -67,6 +67,14 @@ Before the rounds of `kv/raft`, on three nodes, node 0 is elected, and both othe
     deliver k + 2    the leader commits the entry, applies it and replies
     deliver k + 3    nothing more
 
+A round of `kv/raft/read` and `table/raft/read` is the same, and three of ten requests read. A read takes no entry of the log:
+
+    in 0 7 r get ..  packets k and k + 1 bring the round to the nodes 1 and 2
+    deliver k        node 1 acknowledges it: packet k + 2 goes back
+    deliver k + 1    node 2 acknowledges it: packet k + 3 goes back
+    deliver k + 2    the leader replies
+    deliver k + 3    nothing more
+
 A recovery is that of a cluster of one node which stops and starts again: it leads once more, and by the tick it applies its whole
 log and replies for each entry of it, in one event:
 
@@ -200,16 +208,37 @@ def retried_backed_round(turn, packet):
 ELECTION = ("tick 0", *(f"deliver {packet}" for packet in range(8)))
 
 
-def cluster_round(turn, packet):
-    """A request, which stands in the order once the leader has committed it."""
-    request = f"7 {turn + 1} {command(turn)}"
-    return (
-        (f"in 0 {request}", 1, None),
-        (f"deliver {packet}", 0, None),
-        (f"deliver {packet + 1}", 0, None),
-        (f"deliver {packet + 2}", 1, f"order {request}"),
-        (f"deliver {packet + 3}", 0, None),
-    )
+def is_read(turn):
+    """Whether a round reads: three of ten do."""
+    return turn % 10 in (2, 5, 8)
+
+
+def kv_reading(turn):
+    """The command of a round of the key-value machine where reads take no entry."""
+    key = f"key-{turn % 997}"
+    return f"get {key}" if is_read(turn) else f"put {key} value-{turn}"
+
+
+def table_reading(turn):
+    """The command of a round of the lock table where reads take no entry."""
+    name = f"lock-{turn % 997}"
+    return f"holder {name}" if is_read(turn) else f"{('acquire', 'release')[turn % 2]} {name} owner-{turn % 3}"
+
+
+def cluster_rounds(command_of):
+    """Rounds of a cluster: a request, which stands in the order once the leader has committed it, or its round is acknowledged."""
+
+    def one_round(turn, packet):
+        request = f"7 {turn + 1} {command_of(turn)}"
+        return (
+            (f"in 0 {request}", 1, None),
+            (f"deliver {packet}", 0, None),
+            (f"deliver {packet + 1}", 0, None),
+            (f"deliver {packet + 2}", 1, f"order {request}"),
+            (f"deliver {packet + 3}", 0, None),
+        )
+
+    return one_round
 
 
 # The header of the schedule, that of its image, if it has one, what comes before the rounds, a round, and its number of
@@ -224,7 +253,9 @@ STACKS = {
     "kv/pb": ("schedule 1 bag kv/pb 2", "schedule 1 one kv 1", (), backed_round, 2),
     "kv/pb/seq": ("schedule 1 dup kv/pb/seq 2", "schedule 1 one kv 1", (), copied_backed_round, 2),
     "kv/pb/seq/retry": ("schedule 1 loss kv/pb/seq/retry 2", "schedule 1 dup kv/pb/seq 2", (), retried_backed_round, 5),
-    "kv/raft": ("schedule 1 fail kv/raft 3", None, ELECTION, cluster_round, 4),
+    "kv/raft": ("schedule 1 fail kv/raft 3", None, ELECTION, cluster_rounds(command), 4),
+    "kv/raft/read": ("schedule 1 fail kv/raft/read 3", None, ELECTION, cluster_rounds(kv_reading), 4),
+    "table/raft/read": ("schedule 1 fail table/raft/read 3", None, ELECTION, cluster_rounds(table_reading), 4),
 }
 
 

@@ -17,7 +17,7 @@ import tempfile
 import replay
 
 SMALL, LARGE = replay.SIZES
-CHECKED = ("lock", "lock/seq/retry", "mirror", "kv", "kv/pb", "kv/pb/seq/retry", "kv/raft")
+CHECKED = ("lock", "lock/seq/retry", "mirror", "kv", "kv/pb", "kv/pb/seq/retry", "kv/raft", "kv/raft/read", "table/raft/read")
 
 
 def counted(program, room, words, text, answer):

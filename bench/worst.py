@@ -11,6 +11,10 @@ kinds:
                      (of `mirror/fifo` what comes early waits, and in both as many ticks follow, of which each gives one)
     sent again       all inputs, of which each packet is sent again by a tick, and comes as that
     acknowledged     all inputs and their packets, and then each acknowledgement, the last one first
+    reads first      all reads at a leader whose reads take no entry, and then each packet in the order of sending
+    reads at once    the same, where the last acknowledgement comes first, and answers all of them
+    late reads       all reads are acknowledged, the next leader takes as many requests, and then the first one answers, whose reads all stand
+                     before these in the order
     a follower down  node 2 of three is down while the others take the entries, and then takes them from the leader, eight at a time
     crashes          a node of a cluster of one with 20,000 entries crashes and reboots so many times
     keys             so many keys are put, and then deleted in another order
@@ -114,6 +118,47 @@ def cluster_inputs_first(count):
     yield from (f"deliver {packet}" for packet in range(first, first + 4 * count))
 
 
+def reads(count):
+    """So many reads at the leader of three nodes, with a packet to each other node, from the first packet on."""
+    yield replay.STACKS["kv/raft/read"][0]
+    yield from replay.ELECTION
+    yield from (f"in 0 7 {turn + 1} get key-{turn % 1000}" for turn in range(count))
+
+
+def reads_first(count):
+    """Then these packets and the acknowledgements, each of which answers a read."""
+    yield from reads(count)
+    first = len(replay.ELECTION) - 1
+    yield from (f"deliver {packet}" for packet in range(first, first + 4 * count))
+
+
+def reads_at_once(count):
+    """Then these packets, and the acknowledgements from the last one on."""
+    yield from reads(count)
+    first = len(replay.ELECTION) - 1
+    yield from (f"deliver {packet}" for packet in range(first, first + 2 * count))
+    yield from (f"deliver {packet}" for packet in reversed(range(first + 2 * count, first + 4 * count)))
+
+
+def late_reads(count):
+    """Then node 1 acknowledges all rounds, leads, and commits requests with node 2; and then node 0 hears of the acknowledgements."""
+    yield from reads(count)
+    first = len(replay.ELECTION) - 1
+    yield from (f"deliver {packet}" for packet in range(first, first + 2 * count, 2))
+    acknowledged = first + 2 * count
+    # what node 1 asks of node 2, the vote, the no-op to node 2, and its answer
+    asks = acknowledged + count
+    yield "tick 1"
+    yield from (f"deliver {asks + packet}" for packet in (1, 2, 4, 5))
+    packet = asks + 6
+    for turn in range(count):
+        yield f"in 1 8 {turn + 1} put key-{turn % 1000} value-{turn}"
+        yield f"deliver {packet + 1}"
+        yield f"deliver {packet + 2}"
+        packet += 3
+    yield from (f"deliver {packet}" for packet in range(acknowledged, acknowledged + count))
+
+
 def follower_down(count):
     """Three packets for each request while node 2 is down, and then two for each eight entries."""
     yield replay.STACKS["kv/raft"][0]
@@ -168,6 +213,9 @@ KINDS = {
     "at random, mirror/fifo": (at_random("mirror/fifo"), MANY, "inputs"),
     "sent again, lock/seq/retry": (sent_again, MANY, "inputs"),
     "acknowledged, lock/seq/retry": (acknowledged, MANY, "inputs"),
+    "reads first, kv/raft/read": (reads_first, SOME, "reads"),
+    "reads at once, kv/raft/read": (reads_at_once, SOME, "reads"),
+    "late reads, kv/raft/read": (late_reads, SOME, "reads"),
     "a follower down, kv/raft": (follower_down, SOME, "entries"),
     "crashes, kv/raft": (crashes, (200, 2_000), "crashes"),
     "keys, kv": (keys, SOME, "keys"),

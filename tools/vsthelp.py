@@ -61,6 +61,7 @@ WHYS = {
     "node up": "the node is up, so it can't start again",
     "no copy": "no copy of this packet is in flight: it was not sent yet, or it came, or was lost",
     "not first": "an earlier packet of the same node to the same node is in flight, and this network keeps their order",
+    "pair used": "its client has used this number before, and the one request or the other is a read: a read has a number of its own",
 }
 # of a claim, what differs
 CLAIM_WHYS = {

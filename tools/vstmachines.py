@@ -8,6 +8,8 @@ KEY = r"[!-~]{1,64}"
 VALUE = r"[!-~]{1,1024}"
 MAYBE_KEY = rf"(?:-|={KEY})"
 MAYBE_VALUE = rf"(?:-|={VALUE})"
+# the commands that leave a state as it is
+READS = ("get", "holder")
 
 
 class Machine(Protocol):
@@ -68,6 +70,11 @@ class Table:
 
 
 MACHINES: dict[str, type[Kv] | type[Table]] = {"kv": Kv, "table": Table}
+
+
+def is_read(command: str) -> bool:
+    """Whether a command leaves each state as it is."""
+    return command.partition(" ")[0] in READS
 
 
 def outputs_of(app: str, commands: list[str]) -> list[str]:

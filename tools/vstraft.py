@@ -1,13 +1,13 @@
-"""Raft's rules over a machine, as a model in Python: what an event makes of a node.
+"""Raft's rules over a machine, as a model in Python: what an event makes of a node, and of one whose reads take no entry of the log.
 
-It is written from the definitions of `raft_xform`, tested against the golden cases, and proves nothing: the tools use it where they have to know
-who leads and which packets are sent.
+It is written from the definitions of `raft_xform` and `raft_reads`, tested against the golden cases, and proves nothing: the tools use it where
+they have to know who leads and which packets are sent.
 """
 from __future__ import annotations
 
 from dataclasses import dataclass, field, replace
 
-from vstmachines import Machine
+from vstmachines import Machine, is_read
 
 FOLLOWER, CANDIDATE, LEADER = "follower", "candidate", "leader"
 MAX_BATCH = 8
@@ -56,22 +56,24 @@ class Vote:
 
 @dataclass(frozen=True)
 class Append:
-    """A leader sends entries."""
+    """A leader sends entries. Where reads take none, its round goes with them."""
 
     term: int
     prev_index: int
     prev_term: int
     commit: int
     entries: tuple[Entry, ...]
+    round: int = 0
 
 
 @dataclass(frozen=True)
 class Appended:
-    """Its answer."""
+    """Its answer. Where reads take no entries, it acknowledges the round that came, or 0."""
 
     term: int
     ok: bool
     index: int
+    round: int = 0
 
 
 Message = AskVote | Vote | Append | Appended
@@ -280,3 +282,82 @@ class Node:
         if isinstance(message, Append):
             return self.on_append(sender, message)
         return self.on_appended(sender, message)
+
+
+@dataclass(frozen=True)
+class Waiting:
+    """A read that waits at a leader: what was asked, the round that it began, and the leader's commit when it came, which is its read index."""
+
+    request: Request
+    round: int
+    read_index: int
+
+
+class ReadNode(Node):
+    """One node of a cluster whose reads take no entry of the log: each event is one of Raft, and what it does to reads."""
+
+    def start(self) -> None:
+        """It starts, with no reads."""
+        super().start()
+        # with the number of entries that it had applied, each read that the last event answered
+        self.answered: list[tuple[int, Request]] = []
+        self.drop_reads()
+
+    def drop_reads(self) -> None:
+        """What it knows of reads where it does not lead, or has just begun to: no round, none that another node acknowledged, none that waits."""
+        self.round, self.acked, self.waiting = 0, [0] * self.nodes, list[Waiting]()
+
+    def term_led(self) -> int | None:
+        """The term in which it leads, if it does."""
+        return self.term if self.role == LEADER else None
+
+    def waits(self, request: Request) -> bool:
+        """Whether a request is a read that takes no entry: at a leader that has committed an entry of its term."""
+        return is_read(request.command) and self.role == LEADER and self.term_at(self.commit) == self.term
+
+    def is_ready(self, read: Waiting) -> bool:
+        """Whether a read may be answered: most nodes are in its round, and all up to its read index is applied."""
+        in_round = 1 + sum(self.acked[node] >= read.round for node in self.others())
+        return self.is_majority(in_round) and read.read_index <= self.applied
+
+    def in_round(self, message: object, heard: object) -> object:
+        """A message that it sends: entries have its round, and an answer has that of what it heard, if that is of the answer's term."""
+        if isinstance(message, Append):
+            return replace(message, round=self.round)
+        if isinstance(message, Appended) and isinstance(heard, Append) and heard.term == message.term:
+            return replace(message, round=heard.round)
+        return message
+
+    def end(self, led: int | None, effect: Effect, heard: object = None) -> Effect:
+        """The end of an event of Raft, before which it led in this term, if it did: reads that may be answered are, and others go on waiting while
+        it leads in this term."""
+        if led is None or self.term_led() != led:
+            self.drop_reads()
+        ready = [read for read in self.waiting if self.is_ready(read)]
+        if ready:
+            self.waiting = [read for read in self.waiting if not self.is_ready(read)]
+        self.answered = [(self.applied, read.request) for read in ready]
+        asked = [read.request for read in ready]
+        replies = [f"reply {request.client} {request.number} {self.machine.apply(request.command)}" for request in asked]
+        return Effect(effect.outputs + replies, [(to, self.in_round(message, heard)) for to, message in effect.sends])
+
+    def tick(self) -> Effect:
+        """Its timer fires."""
+        led = self.term_led()
+        return self.end(led, super().tick())
+
+    def input(self, request: Request) -> Effect:
+        """A request comes. A read that takes no entry begins a round and waits, and the others are sent what the timer would send."""
+        led = self.term_led()
+        if not self.waits(request):
+            return self.end(led, super().input(request))
+        self.round += 1
+        self.waiting.append(Waiting(request, self.round, self.commit))
+        return self.end(led, super().tick())
+
+    def message(self, sender: int, message: object) -> Effect:
+        """A message comes. Of each node a leader keeps the greatest round that it acknowledged in the leader's term."""
+        led = self.term_led()
+        if isinstance(message, Appended) and message.term == led:
+            self.acked[sender] = max(self.acked[sender], message.round)
+        return self.end(led, super().message(sender, message), message)

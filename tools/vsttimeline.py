@@ -17,8 +17,8 @@ from dataclasses import dataclass, field
 from xml.sax.saxutils import escape
 
 from vstclaims import Claim, Verdict
+from vstmachines import is_read
 
-READS = ("get", "holder")
 TRACE, FAULTS, LINKS = ("in", "out"), ("kill", "restart", "pause", "wake"), ("cut", "mend")
 # places on the page, in pixels
 LEFT, RIGHT, TOP, LANE, BAR, LEGEND = 90, 24, 52, 26, 16, 34
@@ -242,7 +242,7 @@ class Picture:
     def draw_request(self, request: Request, until: float) -> None:
         """A request, whose client asks for the next at that time."""
         is_refused = (request.client, request.number) == self.refused
-        kind = "read" if request.command.split(" ")[0] in READS else "write"
+        kind = "read" if is_read(request.command) else "write"
         end = until if request.answered is None else request.answered
         when = f"asked at {request.asked:.3f} s" + (f", answered at {end:.3f} s" if request.answered is not None else "")
         hover = f"client {request.client}, request {request.number}: {request.text()}; {when}"

@@ -23,7 +23,7 @@ NAME_BYTES = 16
 NO_VOTE = 0xFF
 
 STACK_BYTES = {"lock": 1, "lock/seq": 2, "kv/pb": 3, "kv/pb/seq": 4, "kv/raft": 5, "table/pb/seq": 6, "table/raft": 7}
-STACK_BYTES |= {"mirror": 8, "mirror/fifo": 9, "lock/seq/retry": 10, "kv/pb/seq/retry": 11}
+STACK_BYTES |= {"mirror": 8, "mirror/fifo": 9, "lock/seq/retry": 10, "kv/pb/seq/retry": 11, "kv/raft/read": 13, "table/raft/read": 14}
 STACK_WORDS = {number: word for word, number in STACK_BYTES.items()}
 CLUSTER_STACKS = ("kv/raft", "table/raft")
 PEER, REQUEST, REPLY = 0, 1, 2
@@ -200,11 +200,19 @@ class Heading:
         return bytes((LETTER, VERSION, STACK_BYTES[self.stack], self.kind, self.sender, self.to)) + self.name
 
 
+def read_stack(reader: Reader) -> str:
+    """The stack whose byte comes."""
+    number = reader.number(1, 0, 255)
+    if number not in STACK_WORDS:
+        raise FormatError(f"no stack has the byte {number}")
+    return STACK_WORDS[number]
+
+
 def read_heading(reader: Reader) -> Heading:
     """The heading that comes."""
     reader.number(1, LETTER, LETTER)
     reader.number(1, VERSION, VERSION)
-    stack = STACK_WORDS[reader.number(1, 1, len(STACK_WORDS))]
+    stack = read_stack(reader)
     kind = reader.number(1, PEER, REPLY)
     if kind != PEER and stack not in CLUSTER_STACKS:
         raise FormatError("a client of a stack that has none")
@@ -345,7 +353,7 @@ def read_reply(data: bytes, stack: str, name: bytes) -> Reply | None:
 def may_be_of(data: bytes, name: bytes) -> bool:
     """Whether a datagram may be in the grammar with this cluster's name.
 
-    Of stacks without a cluster the heading alone is looked at, so that some that are not in the grammar count as well.
+    Of stacks that no node runs the heading alone is looked at, so that some that are not in the grammar count as well.
     """
     reader = Reader(data)
     try:
@@ -397,7 +405,7 @@ def read_owner(reader: Reader) -> tuple[Owner, int]:
     """Whose body it is, and its version."""
     reader.number(1, ord("S"), ord("S"))
     version = reader.number(1, 1, 2)
-    stack = STACK_WORDS[reader.number(1, 1, len(STACK_WORDS))]
+    stack = read_stack(reader)
     me = reader.number(1, 0, MAX_NODES - 1)
     nodes = reader.number(1, me + 1, 5 if version == 1 else MAX_NODES)
     return Owner(stack, me, nodes, reader.take(NAME_BYTES) if version == 2 else None), version

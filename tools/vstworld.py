@@ -11,8 +11,8 @@ from collections.abc import Iterable
 from dataclasses import dataclass, field
 from functools import cached_property
 
-from vstmachines import MACHINES, VALUE
-from vstraft import LEADER, Effect, Node, Request
+from vstmachines import MACHINES, VALUE, is_read
+from vstraft import LEADER, Effect, Node, ReadNode, Request
 
 MAX_LINE, MAX_LINES, MAX_EVENTS = 4_096, 2_000_000, 1_000_000
 MAX_NUMBER, MAX_REQUEST = 2**32 - 1, 2**64 - 1
@@ -51,6 +51,11 @@ class Stack:
         return self.word.split("/")[1] if "/" in self.word else "one"
 
     @cached_property
+    def has_reads(self) -> bool:
+        """Whether its reads take no entry of the log."""
+        return self.word.endswith("/read")
+
+    @cached_property
     def explained(self) -> str:
         """What its image is: the `order` of requests, the inputs that have `replies`, or a `schedule` that has the same trace."""
         if self.over == "raft":
@@ -70,6 +75,7 @@ STACKS = {
         Stack("kv/pb", "bag", 2, 2), Stack("kv/pb/seq", "dup", 2, 2), Stack("table/pb/seq", "dup", 2, 2),
         Stack("kv/raft", "fail", 1, 9), Stack("table/raft", "fail", 1, 9), Stack("mirror", "ord", 2, 9), Stack("mirror/fifo", "dup", 2, 9),
         Stack("lock/seq/retry", "loss", 2, 9), Stack("kv/pb/seq/retry", "loss", 2, 2),
+        Stack("kv/raft/read", "fail", 1, 9), Stack("table/raft/read", "fail", 1, 9),
     )
 }
 
@@ -147,6 +153,10 @@ class Alone:
     def is_input(self, text: str) -> bool:
         """Whether it is the text of an input."""
         return MACHINES[self.app].COMMAND.fullmatch(text) is not None
+
+    def is_used_again(self, _text: str) -> bool:
+        """Whether an input is refused because its client has used its number before. None is, but where reads take no entry of a log."""
+        return False
 
     def input(self, _node: int, text: str) -> Effect:
         """The machine answers."""
@@ -429,24 +439,33 @@ class Backed(Alone):
 
 
 class Cluster(Alone):
-    """A Raft cluster, with the longest list of entries that any node has applied."""
+    """A Raft cluster, with the requests of the longest list of entries that any node has applied."""
 
     def __init__(self, app: str, nodes: int) -> None:
         self.app = app
-        self.nodes = [Node(me, nodes, MACHINES[app]) for me in range(nodes)]
-        self.order: list[Request] = []
-        self.ordered = 0
+        self.nodes: list[Node] = [self.new_node(me, nodes) for me in range(nodes)]
+        # the requests that were executed, each with the index of its entry
+        self.executed: list[tuple[int, Request]] = []
+        self.listed = 0
         self.last: dict[int, int] = {}
+
+    def new_node(self, me: int, nodes: int) -> Node:
+        """A node of it."""
+        return Node(me, nodes, MACHINES[self.app])
+
+    def order(self) -> list[Request]:
+        """The requests in the order that explains what clients saw."""
+        return [request for _, request in self.executed]
 
     def follow(self, node: int, effect: Effect) -> Effect:
         """Notes what a node has applied that none had before."""
         here = self.nodes[node]
-        for entry in here.log[self.ordered : here.applied]:
-            request = entry.request
+        for index in range(self.listed + 1, here.applied + 1):
+            request = here.log[index - 1].request
             if request is not None and request.number > self.last.get(request.client, -1):
                 self.last[request.client] = request.number
-                self.order.append(request)
-        self.ordered = max(self.ordered, here.applied)
+                self.executed.append((index, request))
+        self.listed = max(self.listed, here.applied)
         return effect
 
     def is_input(self, text: str) -> bool:
@@ -472,9 +491,58 @@ class Cluster(Alone):
         return max((self.nodes[node] for node in up if self.nodes[node].role == LEADER), key=lambda node: node.term, default=None)
 
 
+class ReadCluster(Cluster):
+    """A Raft cluster whose reads take no entry of the log, with the reads that were answered and the pairs that clients used."""
+
+    def __init__(self, app: str, nodes: int) -> None:
+        super().__init__(app, nodes)
+        # the reads in the order of their answers, each with the number of entries that its node had applied
+        self.answered: list[tuple[int, Request]] = []
+        # each client and number that was put in, and whether a read was
+        self.used: dict[tuple[int, int], bool] = {}
+        # how many reads came that take no entry
+        self.begun = 0
+
+    def new_node(self, me: int, nodes: int) -> Node:
+        """A node of it."""
+        return ReadNode(me, nodes, MACHINES[self.app])
+
+    def order(self) -> list[Request]:
+        """Each read stands behind all that was executed and read at no greater place than its own."""
+        return [request for _, request in sorted([*self.executed, *self.answered], key=lambda placed: placed[0])]
+
+    def follow(self, node: int, effect: Effect) -> Effect:
+        """Notes the reads that a node has answered too."""
+        here = self.nodes[node]
+        assert isinstance(here, ReadNode)
+        self.answered += here.answered
+        return super().follow(node, effect)
+
+    def is_used_again(self, text: str) -> bool:
+        """Where its pair of client and number was put in before, and it or what was put in is a read."""
+        request = read_request(text, self.app)
+        assert request is not None
+        before = self.used.get((request.client, request.number))
+        return before is not None and (before or is_read(request.command))
+
+    def input(self, node: int, text: str) -> Effect:
+        """A request comes, and uses its pair."""
+        request, here = read_request(text, self.app), self.nodes[node]
+        assert request is not None and isinstance(here, ReadNode)
+        self.used[request.client, request.number] = is_read(request.command)
+        self.begun += here.waits(request)
+        return super().input(node, text)
+
+    def dropped(self) -> int:
+        """How many reads were dropped by a node that led no more, or stopped."""
+        wait = sum(len(node.waiting) for node in self.nodes if isinstance(node, ReadNode))
+        return self.begun - len(self.answered) - wait
+
+
 def handlers_of(stack: Stack, nodes: int) -> Alone:
     """The handlers of a stack."""
-    kinds: dict[str, type[Alone]] = {"one": Alone, "lock": Lock, "mirror": Mirror, "pb": Backed, "raft": Cluster}
+    cluster = ReadCluster if stack.has_reads else Cluster
+    kinds: dict[str, type[Alone]] = {"one": Alone, "lock": Lock, "mirror": Mirror, "pb": Backed, "raft": cluster}
     around: dict[str, type[Over]] = {"seq": Seq, "fifo": Fifo, "retry": Retry}
     found = kinds[stack.over](stack.app, nodes)
     for word in stack.word.split("/")[1:]:
@@ -539,6 +607,8 @@ class World:
             raise Refused("no copy")
         if step.kind not in OF_NODES and not self.is_first(step.number):
             raise Refused("not first")
+        if step.kind == "in" and self.handlers.is_used_again(step.text):
+            raise Refused("pair used")
 
     def is_first(self, packet: int) -> bool:
         """Whether no earlier packet of its source and destination is in flight, where the network keeps their order."""
@@ -606,7 +676,7 @@ class World:
         """The lines of the image, with its header if it has one."""
         below = STACKS[self.stack.below]
         if self.stack.explained == "order":
-            return [f"order {request.text()}" for request in self.cluster.order]
+            return [f"order {request.text()}" for request in self.cluster.order()]
         if self.stack.explained == "replies":
             inputs = [line.removeprefix("in 0 ") for line in self.trace if line.startswith("in 0 ")]
             replies = sum(line.startswith("out 0 ") for line in self.trace)

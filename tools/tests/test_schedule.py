@@ -6,15 +6,16 @@ from dataclasses import replace
 
 import vstworld
 from support import load, main_of, tool
-from vstworld import KINDS, STACKS, Stack
+from vstworld import STACKS, ReadCluster, Stack
 
 schedule = load("schedule")
 UNKIND = {"lose": 0.1, "copy": 0.1, "reorder": 0.2, "crash": 0.01, "reboot": 0.05, "elect": 0.01, "stray": 0.1}
+UNKIND |= dict.fromkeys(schedule.OF_READS, 0.0)
 
 
 def rates(stack: Stack, **others: float) -> dict[str, float]:
     """The usual rates, as far as the network has them, but for these."""
-    usual = {name: usual if schedule.NEEDS.get(name, "in") in KINDS[stack.net] else 0.0 for name, usual in schedule.RATES.items()}
+    usual = {name: usual if schedule.has_rate(stack, name) else 0.0 for name, usual in schedule.RATES.items()}
     return {**usual, **others}
 
 
@@ -42,6 +43,27 @@ class Made(unittest.TestCase):
         self.assertGreater(kind.counts["crash"], 5)
         self.assertGreater(len(kind.led), 3)
         self.assertGreater(len(kind.world.image()), 20)
+
+    def test_reads_are_answered_without_entries_or_dropped(self) -> None:
+        for stack in ("kv/raft/read", "table/raft/read"):
+            with self.subTest(stack):
+                kind = schedule.make(stack, 5, 1_500, 3, rates(STACKS[stack], crash=0.01, read=0.5))
+                cluster = kind.world.handlers
+                assert isinstance(cluster, ReadCluster)
+                self.assertGreater(len(cluster.answered), 10)
+                self.assertGreater(cluster.dropped(), 2)
+                self.assertGreater(kind.counts["reboot"], 3)
+                reads = sum(cluster.used.values()) / len(cluster.used)
+                self.assertTrue(0.3 < reads < 0.8, reads)
+
+    def test_reads_are_answered_late(self) -> None:
+        world, late, answered = vstworld.World(STACKS["kv/raft/read"], 5), 0, 0
+        for step in schedule.make("kv/raft/read", 5, 1_000, 3, rates(world.stack, late=0.1)).world.taken:
+            world.take(step)
+            assert isinstance(world.cluster, ReadCluster)
+            late += sum(place < world.cluster.listed for place, _ in world.cluster.answered[answered:])
+            answered = len(world.cluster.answered)
+        self.assertGreater(late, 2)
 
     def test_what_comes_early_is_given_by_ticks(self) -> None:
         world = schedule.make("mirror/fifo", 4, 300, 1, rates(STACKS["mirror/fifo"], reorder=0.5)).world
@@ -79,8 +101,9 @@ class Words(unittest.TestCase):
 
     def test_refusals(self) -> None:
         for words, part in (
-            (("--stack", "lock/seq", "--lose", 0.1), "--lose: the network dup of lock/seq has none of this"),
-            (("--stack", "lock/seq/retry", "--crash", 0.1), "--crash: the network loss of lock/seq/retry has none of this"),
+            (("--stack", "lock/seq", "--lose", 0.1), "--lose: on lock/seq the network dup has none of this"),
+            (("--stack", "lock/seq/retry", "--crash", 0.1), "--crash: on lock/seq/retry the network loss has none of this"),
+            (("--stack", "kv/raft", "--depose", 0.1), "--depose: on kv/raft no read goes without an entry"),
             (("--stack", "kv", "--nodes", 2), "kv has 1 to 1 nodes"),
             (("--stack", "kv/raft", "--crash", 2), "2 is not in 0 to 0.9"),
             ((), "--stack"),

@@ -17,7 +17,7 @@ mod saves_by_acts;
 mod turn;
 mod world;
 
-pub use examples::{worked_traces, worked_turns};
+pub use examples::{worked_stops, worked_traces, worked_turns, worked_words};
 pub use notes::ListedTurn;
 pub use saves_by_acts::{LeavesByActs, SavesByActs};
 pub use world::ActWorld;

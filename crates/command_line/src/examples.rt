@@ -53,6 +53,10 @@ pub fn worked()
         ≡ Some (Command.Check StackId.LockSeqRetry) }
     ensures check_kv_pb_seq_retry { command_of (codes "vst" ∷ codes "check" ∷ codes "--stack" ∷ codes "kv/pb/seq/retry" ∷ [])
         ≡ Some (Command.Check StackId.KvPbSeqRetry) }
+    ensures check_kv_raft_read { command_of (codes "vst" ∷ codes "check" ∷ codes "--stack" ∷ codes "kv/raft/read" ∷ [])
+        ≡ Some (Command.Check StackId.KvRaftRead) }
+    ensures check_table_raft_read { command_of (codes "vst" ∷ codes "check" ∷ codes "--stack" ∷ codes "table/raft/read" ∷ [])
+        ≡ Some (Command.Check StackId.TableRaftRead) }
     ensures attached { command_of (codes "vst" ∷ codes "check" ∷ codes "--stack=lock" ∷ []) ≡ Some (Command.Check StackId.Lock) }
     ensures check_end_of_options { command_of (codes "vst" ∷ codes "check" ∷ codes "--stack" ∷ codes "lock" ∷ codes "--" ∷ []) ≡ Some (Command.Check StackId.Lock) }
     ensures check_taken { takes_words (codes "vst" ∷ codes "check" ∷ codes "--stack" ∷ codes "lock" ∷ []) ≡ true }
@@ -105,7 +109,8 @@ pub fn worked()
 pub fn worked_schedules()
     // The stacks of which schedules can be made.
     ensures stacks { packet_stack_words ≡ codes "lock" ∷ codes "lock/seq" ∷ codes "kv/pb" ∷ codes "kv/pb/seq" ∷ codes "kv/raft"
-        ∷ codes "table/pb/seq" ∷ codes "table/raft" ∷ codes "mirror" ∷ codes "mirror/fifo" ∷ codes "lock/seq/retry" ∷ codes "kv/pb/seq/retry" ∷ [] }
+        ∷ codes "table/pb/seq" ∷ codes "table/raft" ∷ codes "mirror" ∷ codes "mirror/fifo" ∷ codes "lock/seq/retry" ∷ codes "kv/pb/seq/retry"
+        ∷ codes "kv/raft/read" ∷ codes "table/raft/read" ∷ [] }
 
     // In any order, and in each spelling that clap takes.
     ensures apart { command_of (codes "vst" ∷ codes "make" ∷ codes "--stack" ∷ codes "lock" ∷ codes "--seed" ∷ codes "5" ∷ codes "--steps" ∷ codes "3" ∷ [])

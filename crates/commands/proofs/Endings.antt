@@ -12,16 +12,16 @@ use Rattle.schedule_replay.specs.Replays.{replayed, replayed_so_far}
 use Rattle.vst_base.specs.declared.stack.StackId.{StackId}
 use Rattle.claim_verdicts.specs.declared.verdict.Verdict.{Verdict}
 use Rattle.claim_verdicts.specs.declared.verdict.Verdict.TheVariants as says
-use Rattle.stacks.specs.Checks.{checked, refused_so_far}
+use Rattle.stacks.specs.Checks.{IsNotPermitted, checked, refused_so_far}
 use Rattle.trace_check.specs.Outcomes as checks
 use Rattle.trace_check.specs.Outcomes.{LooksAhead}
 use Rattle.trace_check.specs.declared.fault.CheckFault.TheVariants as claim
 use Rattle.command_line.specs.declared.command.Command.TheVariants as command
-use Rattle.commands.specs.Answers.{answer_to_claim, permitted_line, refusal_status, refusal_text}
+use Rattle.commands.specs.Answers.{answer_to_claim, condition_line, permitted_line, refusal_status, refusal_text}
 use Rattle.commands.specs.Complaints.{HasCause}
 use Rattle.commands.specs.Seen.{CountsNothing, IsQuiet, Run}
 use Rattle.commands.specs.Runs.{BrokeOff, KeepsUp}
-use Rattle.commands.specs.Statuses.{IsLineRefused, WroteFront}
+use Rattle.commands.specs.Statuses.{IsDenied, IsLineRefused, WroteFront}
 use Rattle.commands.specs.declared.complaint.Complaint.TheVariants as complaint
 use Rattle.lists.specs.Options.{if_some_weaker}
 
@@ -170,6 +170,36 @@ pub denied-cause : (stack : StackId) (r : Run) (condition line : ℕ) → IfSome
     → HasCause (Some (command.Check stack)) r (complaint.Condition condition line)
 denied-cause stack r condition line told =
     (refl, if_some_weaker r.before.input.left (λ bytes t. record { status = ap (λ v. (answer_to_claim v).status) t.1; line = ap (λ v. (answer_to_claim v).err) t.1 }) told)
+
+-- it is denied, where a check says no of such claims alone whose images do not explain them
+as-second : (A : Type 0) {B : Type 0} (f : List ℕ → B) (b : B) (left : Option (List ℕ)) → IfSome left (λ bytes. A × (f bytes ≡ b)) → IfSome left (λ bytes. f bytes ≡ b)
+as-second A f b None told = tt
+as-second A f b (Some bytes) told = told.1
+
+as-first : (A : Type 0) (P : List ℕ → Type 0) (left : Option (List ℕ)) → IfSome left (λ bytes. A × P bytes) → IfSome left (λ bytes. A)
+as-first A P None told = tt
+as-first A P (Some bytes) told = told.0
+
+pub claim-denied : (stack : StackId) (r : Run) (condition line : ℕ)
+    → ((bytes : List ℕ) (condition line : ℕ) → checked stack bytes ≡ Ok (says.No condition line) → IsNotPermitted stack bytes)
+    → IfSome r.before.input.left (λ bytes. (r.after.input.left ≡ Some []) × (checked stack bytes ≡ Ok (says.No condition line)))
+    → r.after.input.faults ≡ r.before.input.faults → r.after.out ≡ r.before.out
+    → Gained r.before.err.written r.after.err.written (condition_line condition line) → CountsNothing r.before.err r.after.err → IsDenied (Some (command.Check stack)) r
+claim-denied stack r condition line refuted told unfailed same said kept =
+    let left = r.before.input.left in
+    let no = Ok (says.No condition line) in
+    let is = as-second (r.after.input.left ≡ Some []) (checked stack) no left told in
+    record {
+      condition = condition;
+      line = line;
+      ended = as-first (r.after.input.left ≡ Some []) (λ bytes. checked stack bytes ≡ no) left told;
+      status = as-told (checked stack) no left (λ v. (answer_to_claim v).status) is;
+      named = as-told (checked stack) no left (λ v. (answer_to_claim v).err) is;
+      out = same;
+      err = said;
+      refuted = if_some_weaker {P = λ bytes. checked stack bytes ≡ no} {Q = IsNotPermitted stack} left (λ bytes e. refuted bytes condition line e) is;
+      quiet = record { reads = unfailed; writes = record { out = record { faults = ap (λ sink. sink.faults) same; wants = ap (λ sink. sink.wants) same }; err = kept } };
+    }
 
 -- a claim that broke off
 claim-told : (stack : StackId) (r : Run) (left : Option (List ℕ)) → r.before.input.left ≡ left → r.after.out.written ≡ r.before.out.written

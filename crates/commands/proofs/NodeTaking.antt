@@ -32,6 +32,8 @@ refused_same stack.Mirror config at dir before = refl
 refused_same stack.MirrorFifo config at dir before = refl
 refused_same stack.LockSeqRetry config at dir before = refl
 refused_same stack.KvPbSeqRetry config at dir before = refl
+refused_same stack.KvRaftRead config at dir before = refl
+refused_same stack.TableRaftRead config at dir before = refl
 
 pub areas_begun : (config : Config) (at : Address) (dir : List ℕ) (answer : Result (Unit {0}) NodeFault) (old mid : Option Told) → Did old mid (Began at dir ∷ [])
     → IfSome mid (λ told. Meets (refused_areas config.stack config told) answer) → IfSome old (λ told. Meets (refused_areas config.stack config told) answer)

@@ -45,7 +45,7 @@ pub struct Arrow {
     pub packet: u32,
 }
 
-/// A packet that is still in flight when the steps end: where it was sent, the column of its destination, and its number.
+/// A packet no copy of which has come or is lost when the steps end: where it was sent, the column of its destination, and its number.
 #[derive(Clone, Copy)]
 pub struct Stub {
     pub from: Spot,
@@ -71,7 +71,7 @@ pub struct Bar {
     pub kind: BarKind,
 }
 
-/// A picture of a run: its title, how many nodes there are, its steps, the ways of packets, those that are still in flight, the bars, and
+/// A picture of a run: its title, how many nodes there are, its steps, the ways of packets, the packets of which none has come, the bars, and
 /// how many steps more are not drawn.
 #[derive(Drop)]
 pub struct Picture {

@@ -79,7 +79,7 @@ pub(crate) fn push_arrows(
     Ok(())
 }
 
-// The beginning of the way of a packet that is still in flight.
+// The beginning of the way of a packet no copy of which has come or is lost.
 fn push_stub(out: &mut Vec<u8>, nodes: u8, stub: &Stub) -> Result<(), AllocError> {
     let from = (x_of(nodes, stub.from.column), y_of(stub.from.row));
     let x = if stub.to < stub.from.column {
@@ -92,7 +92,7 @@ fn push_stub(out: &mut Vec<u8>, nodes: u8, stub: &Stub) -> Result<(), AllocError
     push_packet(out, stub.packet, to.0, to.1 + NUMBER_ABOVE * 3)
 }
 
-/// Adds the beginnings of the ways of the packets that are still in flight.
+/// Adds the beginnings of the ways of the packets no copy of which has come or is lost.
 pub(crate) fn push_stubs(out: &mut Vec<u8>, nodes: u8, stubs: &[Stub]) -> Result<(), AllocError> {
     for stub in stubs {
         push_stub(out, nodes, stub)?;

@@ -2,7 +2,8 @@ use crate::{Says, Telling};
 use handler_trait::Handlers;
 use net_semantics::FailWorld;
 use raft_xform::Raft;
-use vst_base::{Machine, Node};
+use read_xform::ReadRaft;
+use vst_base::{Machine, Node, Queries};
 use xform_stack::{Network, SteadyWorld};
 
 /// A network of which a node may lead.
@@ -29,6 +30,22 @@ where
         let state = self.state(node);
         if self.is_up(node) && raft.leads(state) {
             Some(state.term())
+        } else {
+            None
+        }
+    }
+}
+
+impl<M: Queries> Leads<Telling<ReadRaft<M>>> for FailWorld<Telling<ReadRaft<M>>>
+where
+    M::Cmd: Says,
+{
+    fn leads_in(&self, node: u8) -> Option<u64> {
+        let cluster = self.handlers().inner();
+        let node = Node::new(node, cluster.nodes())?;
+        let state = self.state(node);
+        if self.is_up(node) && cluster.leads(state) {
+            Some(state.raft().term())
         } else {
             None
         }

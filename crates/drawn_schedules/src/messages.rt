@@ -1,6 +1,6 @@
 use crate::Says;
 use crate::words::push_number;
-use raft_types::{Append, Appended, RaftMsg, RequestVote, Vote};
+use raft_types::{Append, Appended, RaftMsg, ReadMsg, RequestVote, Vote};
 use std::alloc::AllocError;
 use vst_base::{Entry, What};
 
@@ -85,5 +85,18 @@ impl<C: Says> Says for RaftMsg<C> {
             RaftMsg::Append(append) => append.say(out),
             RaftMsg::Appended(appended) => appended.say(out),
         }
+    }
+}
+
+// What the message of Raft says, and the round where it has one.
+impl<C: Says> Says for ReadMsg<C> {
+    fn say(&self, out: &mut Vec<u8>) -> Result<(), AllocError> {
+        self.raft().say(out)?;
+        if self.round() > 0 {
+            out.extend_from_slice(b" (round ")?;
+            push_number(out, self.round())?;
+            out.extend_from_slice(b")")?;
+        }
+        Ok(())
     }
 }

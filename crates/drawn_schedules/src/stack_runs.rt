@@ -15,12 +15,13 @@ use net_semantics::FailWorld;
 use primary_backup::PrimaryBackup;
 use raft_text::RaftText;
 use raft_xform::Raft;
+use read_xform::ReadRaft;
 use retry_xform::Retry;
 use schedule_text::Header;
 use seqnum_xform::SeqNum;
 use std::alloc::AllocError;
 use trace_maps::SingleNode;
-use vst_base::{MAX_NODES, Machine, Net, StackId};
+use vst_base::{MAX_NODES, Machine, Net, Queries, StackId};
 use xform_stack::SteadyWorld;
 
 impl Rest {
@@ -50,6 +51,19 @@ impl Rest {
         self.draw::<Telling<Raft<M>>, FailWorld<Telling<Raft<M>>>, RaftText<A>>(world)
     }
 
+    // On a cluster whose reads take no entry of the log.
+    fn on_reading_cluster<M, A>(self, machine: M, nodes: u8) -> Result<Picture, AllocError>
+    where
+        M: Queries,
+        M::Cmd: Says,
+        A: AppText<Input = M::Cmd, Output = M::Out>,
+    {
+        // A header of a cluster names no other number of nodes.
+        let cluster = ReadRaft::new(machine, nodes.max(1).min(MAX_NODES));
+        let world = FailWorld::new(self.alloc, Telling::new(cluster))?;
+        self.draw::<Telling<ReadRaft<M>>, FailWorld<Telling<ReadRaft<M>>>, RaftText<A>>(world)
+    }
+
     /// The picture of the steps after a header, by its stack.
     pub(crate) fn draw_stack(self, header: &Header) -> Result<Picture, AllocError> {
         let net = header.stack.row().net;
@@ -66,6 +80,8 @@ impl Rest {
             StackId::TablePbSeq => self.on::<_, PbText<TableText>>(net, SeqNum::new(table)),
             StackId::KvRaft => self.on_cluster::<_, KvText>(KvMachine, n),
             StackId::TableRaft => self.on_cluster::<_, TableText>(TableMachine, n),
+            StackId::KvRaftRead => self.on_reading_cluster::<_, KvText>(KvMachine, n),
+            StackId::TableRaftRead => self.on_reading_cluster::<_, TableText>(TableMachine, n),
             StackId::Kv => self.on::<_, KvText>(net, SingleNode::new(KvMachine)),
             StackId::Table => self.on::<_, TableText>(net, SingleNode::new(TableMachine)),
             StackId::Mirror => self.on::<_, MirrorText>(net, mirror),

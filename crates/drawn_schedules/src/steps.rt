@@ -101,7 +101,7 @@ impl Gathered {
         Ok(())
     }
 
-    /// The picture, where the bars that are left end in the last row, with the packets that are still in flight.
+    /// The picture, where the bars that are left end in the last row, with the packets no copy of which has come or is lost.
     pub(crate) fn finish(mut self) -> Result<Picture, AllocError> {
         let last = self.row();
         let mut node = 0u8;

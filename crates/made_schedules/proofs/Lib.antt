@@ -6,6 +6,7 @@ pub mod StepLines
 pub mod Texts
 pub mod KindLines
 pub mod StacksMake
+pub mod ReadsMake
 pub mod Allowed
 pub mod Openings
 pub mod ReadBack

@@ -3,6 +3,8 @@ use Rattle.app_text.specs.KvTextLaws as kv_text
 use Rattle.app_text.specs.LockTextLaws as lock_text
 use Rattle.app_text.specs.MirrorTextLaws as mirror_text
 use Rattle.app_text.specs.TableTextLaws as table_text
+use Rattle.kv_machine.specs.Kv as store_cmd
+use Rattle.lock_table.specs.Table as table_cmd
 use Rattle.schedule_make.specs.Inputs.{kv_input, lock_input, mirror_input, table_input}
 use Rattle.std.specs.Prelude.{◌+◌, ◌≤◌}
 use Rattle.std.proofs.Common.{arith, refl}
@@ -19,6 +21,7 @@ use Rattle.vst_base.specs.declared.stack.StackId.TheVariants as stack
 use Rattle.made_schedules.specs.Makes.{ClusterMakes, KeepsFew, KindMakes, LayersMake, MachineMakes, OwnMakes, SteadyMakes, most_sends}
 use Rattle.made_schedules.proofs.KindLines.{by-spelling}
 use Rattle.made_schedules.proofs.RaftSends.{raft-few}
+use Rattle.made_schedules.proofs.ReadsMake.{reads-make}
 use Rattle.made_schedules.proofs.Sends.{at-most-more, fifo-few, lock-few, mirror-few, numbered-few, retried-few}
 use Rattle.made_schedules.proofs.Texts as texts
 
@@ -63,6 +66,8 @@ stacks-make stack.LockSeq = steady-makes _ (numbering-keeps _, locks-make) (omeg
 stacks-make stack.KvPb = steady-makes _ store-makes (omega arith)
 stacks-make stack.KvPbSeq = steady-makes _ (numbering-keeps _, store-makes) (omega arith)
 stacks-make stack.KvRaft = raft-makes _ store-makes
+stacks-make stack.KvRaftRead = reads-make _ store_cmd.is_read store-makes
+stacks-make stack.TableRaftRead = reads-make _ table_cmd.is_read table-makes
 stacks-make stack.TablePbSeq = steady-makes _ (numbering-keeps _, table-makes) (omega arith)
 stacks-make stack.TableRaft = raft-makes _ table-makes
 stacks-make stack.Kv = steady-makes _ store-makes (omega arith)

@@ -5,7 +5,7 @@ ghost use Rattle.made_schedules.specs.MadeTexts.{made_counts, made_header, made_
 
 /// On how many nodes schedules of each stack are made, the texts of some, and the counts of their replays.
 pub fn worked()
-    ensures nodes { map (λ i. (made_header i).nodes) stacks ≡ 4 ∷ 4 ∷ 2 ∷ 2 ∷ 5 ∷ 2 ∷ 5 ∷ 1 ∷ 1 ∷ 4 ∷ 4 ∷ 4 ∷ 2 ∷ [] }
+    ensures nodes { map (λ i. (made_header i).nodes) stacks ≡ 4 ∷ 4 ∷ 2 ∷ 2 ∷ 5 ∷ 2 ∷ 5 ∷ 1 ∷ 1 ∷ 4 ∷ 4 ∷ 4 ∷ 2 ∷ 5 ∷ 5 ∷ [] }
     ensures no_step { made_text StackId.KvRaft 5 0 ≡ codes "schedule 1 fail kv/raft 5\n" }
     ensures one_step { made_text StackId.Lock 0 1 ≡ codes "schedule 1 bag lock 4\ntick 1\n" }
     ensures ten_steps { made_text StackId.KvPb 3 10

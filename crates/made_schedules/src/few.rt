@@ -1,10 +1,11 @@
-ghost use Rattle.std.specs.Prelude.{ℕ, ◌+◌, ◌*◌, ◌≤◌, List, length};
+ghost use Rattle.std.specs.Prelude.{ℕ, ◌+◌, ◌*◌, ◌≤◌, Bool, List, length};
 ghost use Rattle.fifo_xform.specs.Fifo.{fifo};
 ghost use Rattle.handler_trait.specs.Handling.{Meaning, Recovery};
 ghost use Rattle.lock_server.specs.Locks.{lock_server};
 ghost use Rattle.mirror.specs.Mirroring.{mirror};
 ghost use Rattle.net_semantics.specs.Runs.{run};
 ghost use Rattle.primary_backup.specs.Backup.{primary_backup};
+ghost use Rattle.raft_reads.specs.ReadRaft.{read_raft};
 ghost use Rattle.raft_xform.specs.Raft.{raft};
 ghost use Rattle.retry_xform.specs.Retransmission.{retrying};
 ghost use Rattle.seqnum_xform.specs.Numbering.{sequence_numbered};
@@ -22,6 +23,7 @@ pub fn events_send_few<S: Drop, I: Drop, O: Drop, M: Drop>()
     ensures mirror { (nodes : ℕ) → SendsAtMost own_sends (mirror nodes) }
     ensures backup { (m : MachineMeaning S I O) → SendsAtMost own_sends (primary_backup m) }
     ensures raft { (nodes : ℕ) (m : MachineMeaning S I O) → nodes ≤ MAX_NODES → SendsFew (raft nodes m) }
+    ensures reads { (nodes : ℕ) (m : MachineMeaning S I O) (is_read : I → Bool) → nodes ≤ MAX_NODES → SendsFew (read_raft nodes m is_read) }
     ensures numbered { (most : ℕ) (m : Meaning S I O M) → SendsAtMost most m → SendsAtMost most (sequence_numbered m) }
     ensures ordered { (most : ℕ) (m : Meaning S I O M) → SendsAtMost most m → SendsAtMost most (fifo m) }
     ensures retried { (most : ℕ) (m : Meaning S I O M) → SendsAtMost most m → SendsAtMost (most + 1) (retrying m) }

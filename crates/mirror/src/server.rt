@@ -42,6 +42,7 @@ impl Mirror {
         requires { from < self.now }
         ensures { result ≡ from }
     {
+        // The number is read so that the prover knows the bound of the type on it.
         let _few = self.nodes;
         Sender::new(from)
     }

@@ -1,9 +1,10 @@
 -- The bytes of a node's state: a mark with the version, whose state it is, and what the node keeps.
-use Rattle.std.specs.Prelude.{◌≡◌, ℕ, ◌<◌, ◌==◌, nat_lt, Bool, true, List, [], ◌∷◌, length, Option, None, Some, if◌then◌else◌}
+use Rattle.std.specs.Prelude.{◌≡◌, ℕ, ◌<◌, ◌==◌, ◌&&◌, nat_lt, Bool, true, false, List, [], ◌∷◌, length, Option, None, Some, if◌then◌else◌}
 use Rattle.raft_types.specs.Messages.{KeptView}
 use Rattle.vst_base.specs.Entries.{EntryView}
 use Rattle.vst_base.specs.declared.node.TheConstants.{MAX_NODES}
 use Rattle.vst_base.specs.declared.stack.StackId.{StackId}
+use Rattle.vst_base.specs.declared.stack.StackId.TheVariants as stack
 use Rattle.wire_codec.specs.Headings.{stack_byte}
 use Rattle.wire_fields.specs.Formats.{linked}
 use Rattle.wire_fields.specs.Fields.{name, number}
@@ -56,12 +57,19 @@ abbrev pub label : Version → Format (Option (List ℕ))
 label One = no_name
 label Two = a_name
 
+-- the stacks that have bodies of version 1
+abbrev pub is_spelled_in : Version → StackId → Bool
+is_spelled_in Two s = true
+is_spelled_in One stack.KvRaft = true
+is_spelled_in One stack.TableRaft = true
+is_spelled_in One s = false
+
 -- whose state it is: the stack, the node, which is one of so many, and the name
 abbrev pub owner_as : StackId → ℕ → ℕ → Option (List ℕ) → Owner
 owner_as stack me nodes name = record { stack = stack; me = me; nodes = nodes; name = name }
 
 abbrev pub owner : StackId → Version → Format Owner
-owner s v = tested (λ o. nat_lt o.me o.nodes)
+owner s v = tested (λ o. is_spelled_in v s && nat_lt o.me o.nodes)
     (mapped (λ p. owner_as p.0 p.1.0 p.1.1.0 p.1.1.1) (λ o. (o.stack, (o.me, (o.nodes, o.name))))
     (pair (sign (stack_byte s) s) (pair (number 1 0 255) (pair (number 1 1 (most_nodes v)) (label v)))))
 

@@ -1,5 +1,5 @@
 -- Each body has one spelling.
-use Rattle.std.proofs.Common.{◌≡◌, ℕ, ◌<◌, ◌≤◌, ◌^◌, nat_lt, Bool, true, false, List, [], ◌∷◌, ◌++◌, length, Option, None, Some, if◌then◌else◌, refl, sym, ap, subst, ◌∙◌, arith, append-nil, lit<}
+use Rattle.std.proofs.Common.{◌≡◌, ℕ, ◌<◌, ◌≤◌, ◌^◌, ◌&&◌, nat_lt, Bool, true, false, List, [], ◌∷◌, ◌++◌, length, Option, None, Some, if◌then◌else◌, refl, sym, ap, subst, ◌∙◌, arith, append-nil, lit<}
 use Rattle.std.proofs.lemmas.Bool.{eq-eqb, ne_eqb, lt-ltb, ltb-true}
 use Rattle.raft_types.specs.Messages.{KeptView}
 use Rattle.vst_base.specs.Entries.{EntryView}
@@ -18,7 +18,7 @@ use Rattle.wire_messages.specs.EntryBytes.{entry}
 use Rattle.wire_messages.specs.RaftByteLaws.{any_term_is_format, log_index_is_format}
 use Rattle.wire_messages.specs.RaftBytes.{any_term, log_index}
 use Rattle.wire_messages.specs.Wires.{if_none_left, read_whole, whole}
-use Rattle.node_body.specs.Bodies.{version_byte, read_mark, mark, read_sign, sign, most_nodes, no_name, a_name, label, owner_as, owner, VoteFits, spell_vote, read_vote, any_vote, is_among, VoteAmong, vote, log, entry_in, kept_as, kept, body_as, body, owner_of, body_of, who_of, with_name, if_named, read_body, IsBodyOf}
+use Rattle.node_body.specs.Bodies.{version_byte, read_mark, mark, read_sign, sign, most_nodes, no_name, a_name, label, is_spelled_in, owner_as, owner, VoteFits, spell_vote, read_vote, any_vote, is_among, VoteAmong, vote, log, entry_in, kept_as, kept, body_as, body, owner_of, body_of, who_of, with_name, if_named, read_body, IsBodyOf}
 use Rattle.node_body.specs.declared.body.Body.{Body}
 use Rattle.node_body.specs.declared.version.Version.{Version}
 use Rattle.node_body.specs.declared.version.Version.TheVariants.{One, Two}
@@ -87,7 +87,7 @@ owner_is_format s v =
     pair_is_format (sign (stack_byte s) s) (pair (number 1 0 255) (pair (number 1 1 (most_nodes v)) (label v))) (sign_is_format (stack_byte s) s)
     (pair_is_format (number 1 0 255) (pair (number 1 1 (most_nodes v)) (label v)) (number_is_format 1 0 255 (lit< tt))
     (pair_is_format (number 1 1 (most_nodes v)) (label v) (number_is_format 1 1 (most_nodes v) (nodes_fit v)) (label_is_format v))) in
-    tested_is_format (λ o. nat_lt o.me o.nodes)
+    tested_is_format (λ o. is_spelled_in v s && nat_lt o.me o.nodes)
     (mapped (λ p. owner_as p.0 p.1.0 p.1.1.0 p.1.1.1) (λ o. (o.stack, (o.me, (o.nodes, o.name)))) parts)
     (mapped_is_format (λ p. owner_as p.0 p.1.0 p.1.1.0 p.1.1.1) (λ o. (o.stack, (o.me, (o.nodes, o.name)))) parts (λ o. refl) (λ p. refl) are_parts)
 

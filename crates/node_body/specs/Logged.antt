@@ -19,4 +19,6 @@ abbrev pub logged_stacks : List Logged
 logged_stacks =
     logged stack.KvRaft kv_command
     ∷ logged stack.TableRaft table_command
+    ∷ logged stack.KvRaftRead kv_command
+    ∷ logged stack.TableRaftRead table_command
     ∷ []

@@ -27,7 +27,7 @@ AreFormats [] = Unit {0}
 AreFormats (l ∷ ls) = IsFormat l.format × AreFormats ls
 
 pub logged_are_formats : AreFormats logged_stacks
-logged_are_formats = (kv_command_is_format, (table_command_is_format, tt))
+logged_are_formats = (kv_command_is_format, (table_command_is_format, (kv_command_is_format, (table_command_is_format, tt))))
 
 -- none of these stacks has this byte
 abbrev pub NoneHasByte : ℕ → List Logged → Type 0
@@ -48,10 +48,10 @@ abbrev pub IsLogged : {C : Type 0} → StackId → Format C → Type 0
 IsLogged s f = IsOneOf s f logged_stacks
 
 pub kv_is_logged : IsLogged stack.KvRaft kv_command
-kv_is_logged = inl ((λ bs. refl), ((λ e. cc), tt))
+kv_is_logged = inl ((λ bs. refl), ((λ e. cc), ((λ e. cc), ((λ e. cc), tt))))
 
 pub table_is_logged : IsLogged stack.TableRaft table_command
-table_is_logged = inr ((λ e. cc), inl ((λ bs. refl), tt))
+table_is_logged = inr ((λ e. cc), inl ((λ bs. refl), ((λ e. cc), ((λ e. cc), tt))))
 
 -- all of these bytes are a body of none of these stacks
 abbrev pub NoneHasBody : List Logged → List ℕ → Type 0

@@ -57,7 +57,7 @@ fn read_owner(input: &mut Input<'_>, stack: StackId, version: Version) -> Option
     let me = input.u8(0, 255)?;
     let nodes = input.u8(1, version.most_nodes())?;
     let name = read_label(input, version)?;
-    if me >= nodes {
+    if !version.spells(stack) || me >= nodes {
         return None;
     }
     Some(Owner {

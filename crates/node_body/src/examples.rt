@@ -184,6 +184,9 @@ pub fn worked_refusals()
 pub fn worked_stacks()
     ensures key_value_store { stack_of_slot (first_slot ++ 0 ∷ []) ≡ Ok 5 }
     ensures lock_table { stack_of_slot (slot 48 (old_body 7 0 3 (one_entry table_put))) ≡ Ok 7 }
+    ensures store_with_reads { stack_of_slot (slot 34 (new_body 13 0 3 first_state)) ≡ Ok 13 }
+    ensures table_with_reads { stack_of_slot (slot 34 (new_body 14 0 3 first_state)) ≡ Ok 14 }
+    ensures none_of_version_one { stack_of_slot (slot 18 (old_body 13 0 3 first_state)) ≡ Err why.Body }
     ensures of_packets { stack_of_slot (slot 18 (old_body 4 0 3 first_state)) ≡ Err why.Body }
     ensures with_other_commands { stack_of_slot (slot 49 (old_body 7 0 3 (one_entry old_put))) ≡ Err why.Body }
     ensures no_record { stack_of_slot (slot 34 (new_body 7 0 3 first_state) ++ 1 ∷ []) ≡ Err why.Journal }

@@ -7,8 +7,10 @@ use crate::{Commands, Journal, Owner, Version, Who, Why, read_journal, take_any_
 use kv_machine::KvCmd;
 use lock_table::TableCmd;
 use std::alloc::{AllocError, Global};
+use vst_base::StackId;
 use wire_codec::stack_byte;
 use wire_fields::Input;
+use wire_messages::Wire;
 
 /// What a slot holds: whose state it is, the version that it is spelled in, and the state after its records.
 #[derive(Debug, Drop)]
@@ -32,17 +34,18 @@ fn split(bytes: &[u8]) -> Option<(&[u8], &[u8])>
     Some((&rest[..len], &rest[len..]))
 }
 
-/// What a slot of the stack of these commands holds, or the first why of `Slot`, `Body` and `Journal` that applies.
-pub fn read_slot<C: Commands>(
+/// What a slot of a stack with these commands holds, or the first why of `Slot`, `Body` and `Journal` that applies.
+pub fn read_slot<C: Wire>(
     alloc: Global,
+    stack: StackId,
     bytes: &[u8],
 ) -> Result<Result<Held<C>, Why>, AllocError>
-    ensures { IfOk result (λ slot. slot ≡ read_slot C.stack C.format bytes.now) }
+    ensures { IfOk result (λ slot. slot ≡ read_slot stack C.format bytes.now) }
 {
     let Some((body, rest)) = split(bytes) else {
         return Ok(Err(Why::Slot));
     };
-    let Some(body) = take_any_body::<C>(alloc, C::stack(), body)? else {
+    let Some(body) = take_any_body::<C>(alloc, stack, body)? else {
         return Ok(Err(Why::Body));
     };
     let version = body.version;
@@ -82,26 +85,31 @@ fn difference(who: &Who, owner: &Owner) -> Option<Why>
     }
 }
 
-// The byte of the stack of these commands where the bytes are a slot of it, or the first why.
-fn slot_byte<C: Commands>(alloc: Global, bytes: &[u8]) -> Result<Result<u8, Why>, AllocError>
-    ensures { IfOk result (λ found. found ≡ slot_byte C.stack C.format bytes.now) }
+// The byte of a stack with these commands where the bytes are a slot of it, or the first why.
+fn slot_byte<C: Wire>(
+    alloc: Global,
+    stack: StackId,
+    bytes: &[u8],
+) -> Result<Result<u8, Why>, AllocError>
+    ensures { IfOk result (λ found. found ≡ slot_byte stack C.format bytes.now) }
 {
-    match read_slot::<C>(alloc, bytes)? {
-        Ok(_held) => Ok(Ok(stack_byte(C::stack()))),
+    match read_slot::<C>(alloc, stack, bytes)? {
+        Ok(_held) => Ok(Ok(stack_byte(stack))),
         Err(why) => Ok(Err(why)),
     }
 }
 
-// What was found, or, where no body was, what is found for the stack of these commands.
-fn or_next<C: Commands>(
+// What was found, or, where no body was, what is found for a stack with these commands.
+fn or_next<C: Wire>(
     alloc: Global,
+    stack: StackId,
     bytes: &[u8],
     found: Result<u8, Why>,
 ) -> Result<Result<u8, Why>, AllocError>
-    ensures { IfOk result (λ next. next ≡ or_next found (slot_byte C.stack C.format bytes.now)) }
+    ensures { IfOk result (λ next. next ≡ or_next found (slot_byte stack C.format bytes.now)) }
 {
     match found {
-        Err(Why::Body) => slot_byte::<C>(alloc, bytes),
+        Err(Why::Body) => slot_byte::<C>(alloc, stack, bytes),
         Ok(_) | Err(_) => Ok(found),
     }
 }
@@ -113,8 +121,10 @@ pub fn stack_of_slot(alloc: Global, bytes: &[u8]) -> Result<Result<u8, Why>, All
 {
     let found = Err(Why::Body);
     // A line for each stack.
-    let found = or_next::<KvCmd>(alloc, bytes, found)?;
-    let found = or_next::<TableCmd>(alloc, bytes, found)?;
+    let found = or_next::<KvCmd>(alloc, StackId::KvRaft, bytes, found)?;
+    let found = or_next::<TableCmd>(alloc, StackId::TableRaft, bytes, found)?;
+    let found = or_next::<KvCmd>(alloc, StackId::KvRaftRead, bytes, found)?;
+    let found = or_next::<TableCmd>(alloc, StackId::TableRaftRead, bytes, found)?;
     Ok(found)
 }
 
@@ -126,7 +136,7 @@ fn slot_for<C: Commands>(
 ) -> Result<Result<Held<C>, Why>, AllocError>
     ensures { IfOk result (λ slot. slot ≡ slot_found C.stack C.format who.now bytes.now) }
 {
-    match read_slot::<C>(alloc, bytes)? {
+    match read_slot::<C>(alloc, C::stack(), bytes)? {
         Ok(held) => match difference(who, &held.owner) {
             None => Ok(Ok(held)),
             Some(why) => Ok(Err(why)),

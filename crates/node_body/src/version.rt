@@ -1,7 +1,7 @@
 ghost use Rattle.std.specs.Prelude.{◌≡◌};
-ghost use Rattle.node_body.specs.Bodies.{most_nodes};
+ghost use Rattle.node_body.specs.Bodies.{is_spelled_in, most_nodes};
 
-use vst_base::MAX_NODES;
+use vst_base::{MAX_NODES, StackId};
 
 /// How a body is spelled.
 #[derive(Clone, Copy, Debug, PartialEq, Eq)]
@@ -20,6 +20,16 @@ impl Version {
         match self {
             Version::One => 5,
             Version::Two => MAX_NODES,
+        }
+    }
+
+    /// Whether a stack has bodies of this version: those of the first came before some stacks.
+    pub fn spells(self, stack: StackId) -> bool
+        ensures { result ≡ is_spelled_in self stack }
+    {
+        match self {
+            Version::One => matches!(stack, StackId::KvRaft | StackId::TableRaft),
+            Version::Two => true,
         }
     }
 }

@@ -48,6 +48,9 @@ module _ {C : Type 0} (s : StackId) (f : Format C) (store : StoreView) (kept : K
   known true e = held_known e
   known false e = new_known (nat_eq store.left 0)
 
+  pub after_known : Knows (store_after s f store kept) kept
+  after_known = known (is_held store kept) refl
+
   pub remembers_any : {T E : Type 0} (r : Result T E) (new : StoreView) → OnOk r (new ≡ store_after s f store kept) → OnOk r (Knows new kept)
-  remembers_any (Ok x) new e = subst (λ (v : StoreView). Knows v kept) (sym e) (known (is_held store kept) refl)
+  remembers_any (Ok x) new e = subst (λ (v : StoreView). Knows v kept) (sym e) after_known
   remembers_any (Err x) new e = tt

@@ -1,5 +1,5 @@
 -- Node 0 of three on areas that were worked out by hand, and what is said of its openings and saves.
-use Rattle.std.specs.Prelude.{ℕ, List, [], ◌∷◌, ◌++◌, take, Some}
+use Rattle.std.specs.Prelude.{ℕ, List, [], ◌∷◌, ◌++◌, take, Option, Some}
 use Rattle.disk.specs.Acts.{Act}
 use Rattle.disk.specs.Images.{image_by_word}
 use Rattle.raft_types.specs.Messages.{KeptView}
@@ -13,6 +13,7 @@ use Rattle.node_acts.specs.StateActs.{first_kept, state_acts}
 use Rattle.node_acts.specs.Stores.{StoreView}
 use Rattle.slots.specs.Opening.{Opening}
 use Rattle.node_state.specs.Answers.{Answers, FoundSo, OpenedSo}
+use Rattle.node_state.specs.Changes.{ChangeView, change_to}
 use Rattle.node_state.specs.Crashes.{IsHeldBefore, LeavesEither, LeavesFound, Saves}
 use Rattle.node_state.specs.Ends.{new_end, renewed_end}
 use Rattle.node_state.specs.declared.opening.Opened.{Opened}
@@ -40,6 +41,13 @@ goes_on end keep kept = new_end stack.KvRaft kv_command who end keep kept
 
 abbrev pub renewed : Version → JournalEnd → KeptView Command → JournalEnd
 renewed version found kept = renewed_end stack.KvRaft kv_command who version found kept
+
+-- what is known anew after the save of a state
+abbrev pub changes : StoreView → KeptView Command → ChangeView
+changes store kept = change_to stack.KvRaft kv_command store kept
+
+abbrev pub change_of : JournalEnd → ℕ → Option ℕ → ℕ → List ℕ → ChangeView
+change_of end term voted keep added = record { end = end; term = term; voted = voted; keep = keep; added = added }
 
 -- what is answered to areas that open so
 abbrev pub answers : Opened Command → Opening (KeptView Command) → Type 0

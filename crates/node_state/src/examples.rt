@@ -1,4 +1,4 @@
-ghost use Rattle.std.specs.Prelude.{◌≡◌, [], ◌∷◌, ◌++◌, Err, Ok, Some, take};
+ghost use Rattle.std.specs.Prelude.{◌≡◌, [], ◌∷◌, ◌++◌, Err, Ok, None, Some, take};
 ghost use Rattle.disk.specs.Acts.{StoreFailed, Sync, Synced, Wrote};
 ghost use Rattle.node_acts.specs.Examples.{knowing, state, three_syncs, who, whole};
 ghost use Rattle.node_acts.specs.StateActs.{first_kept, store_at_base};
@@ -6,7 +6,8 @@ ghost use Rattle.node_body.specs.Examples.{first_slot, no_op, number_of_eight, n
 ghost use Rattle.node_device.specs.Examples.{counts};
 ghost use Rattle.node_state.specs.Answers.{IfRefused, OpenCounts, OpenGrowsFirst};
 ghost use Rattle.node_state.specs.Calls.{DeviceWants, GrowsFirst, StateCounts};
-ghost use Rattle.node_state.specs.Examples.{answers, empty, end_at, first_save, found_so, goes_on, held, is_held_before, known, leaves_either, leaves_found, next_save, opened_so, renewed, saves, slot_left, told_at};
+ghost use Rattle.node_state.specs.Changes.{changed_by};
+ghost use Rattle.node_state.specs.Examples.{answers, change_of, changes, empty, end_at, first_save, found_so, goes_on, held, is_held_before, known, leaves_either, leaves_found, next_save, opened_so, renewed, saves, slot_left, told_at};
 ghost use Rattle.slots.specs.Opening.{BadSelector, BadSlot, Fresh, Held, Refused};
 ghost use Rattle.wire_messages.specs.KvBytes.{kv_command};
 
@@ -55,6 +56,18 @@ pub fn worked_ends()
     ensures after_a_base { goes_on (end_at 255 0 0) 0 (state 1 (Some 1) []) ≡ end_at 0 38 1000 }
     ensures renewed { renewed Version.One (end_at 4 22 7) first_kept ≡ end_at 5 38 1000 }
     ensures as_found { renewed Version.Two (end_at 4 38 7) first_kept ≡ end_at 4 38 7 }
+{}
+
+/// What is known anew after a save: of a vote, of an entry in the place of two, and of what is held. Then what is known after a change.
+#[tactic(auto, unfolding(wire_fields::specs::Bytes::number_bytes))]
+pub fn worked_changes()
+    ensures a_vote { changes known (state 1 (Some 1) []) ≡ change_of (end_at 0 56 999) 1 (Some 1) 0 [] }
+    ensures an_entry { changes (knowing 0 38 0 (state 2 None (1 ∷ 1 ∷ 2 ∷ []))) (state 3 None (1 ∷ 3 ∷ []))
+        ≡ change_of (end_at 1 56 1000) 3 None 1 (3 ∷ []) }
+    ensures held { changes (knowing 0 38 7 (state 2 None (1 ∷ 2 ∷ []))) (state 2 None (1 ∷ 2 ∷ []))
+        ≡ change_of (end_at 0 38 7) 2 None 2 [] }
+    ensures after_it { changed_by (knowing 0 38 7 (state 2 None (1 ∷ 1 ∷ 2 ∷ []))) (change_of (end_at 1 56 1000) 3 (Some 1) 1 (3 ∷ []))
+        ≡ knowing 1 56 1000 (state 3 (Some 1) (1 ∷ 3 ∷ [])) }
 {}
 
 /// Areas that were opened so: as fresh ones, with the first state, and with one of version 1, which is a base then.

@@ -2,6 +2,7 @@
 //! What a crash leaves at any moment of these is the state from before the call or the one after it.
 #![tactic(auto)]
 
+mod change;
 mod common;
 mod examples;
 mod faults;
@@ -13,8 +14,10 @@ mod saving;
 mod store;
 mod writing;
 
+pub use change::{SavePlan, StoreChange};
 pub use examples::{
-    worked_answers, worked_counts, worked_crashes, worked_ends, worked_first_save, worked_openings,
+    worked_answers, worked_changes, worked_counts, worked_crashes, worked_ends, worked_first_save,
+    worked_openings,
 };
 pub use faults::StateFault;
 pub use finding::find_in_area;

@@ -9,6 +9,7 @@ ghost use Rattle.node_body.specs.declared.bases.TheConstants.{MAX_BASE_LEN, MAX_
 ghost use Rattle.node_body.specs.declared.journal.TheConstants.{MAX_RECORDS};
 ghost use Rattle.node_device.specs.Telling.{Did, StoppedIn, WhereTold};
 ghost use Rattle.node_state.specs.Calls.{GrowsFirst, IsNodeOf, StateCounts};
+ghost use Rattle.node_state.specs.Changes.{change_to, changed_by};
 ghost use Rattle.node_state.specs.Crashes.{IsHeldBefore, LeavesEither, Saves};
 ghost use Rattle.node_state.specs.Ends.{NewFits, new_acts, new_end};
 ghost use Rattle.raft_types.specs.Messages.{IsIndex, IsTerm};
@@ -19,7 +20,7 @@ ghost use Rattle.vst_base.specs.declared.node.TheConstants.{MAX_NODES};
 ghost use Rattle.wire_messages.specs.EntryBytes.{entry};
 
 use crate::store::JournalEnd;
-use crate::{StateFault, Store};
+use crate::{SavePlan, StateFault, Store, StoreChange};
 use node_body::{Commands, MAX_RECORDS, Who, make_base_of, make_record};
 use node_device::Device;
 use raft_types::Kept;
@@ -218,31 +219,40 @@ pub fn save<D: Device, C: Commands>(
     )
 }
 
-/// The acts that `save` makes, in their order. There are none where the state is held.
+/// What `save` does with the term, the vote and the log of a state, of which the first `same` entries have the terms of those that are
+/// held: its acts, none where the state is held, and what the node knows once all of them were made. It costs as much as the entries that
+/// follow these, but for a base, and no device.
 pub fn save_acts<C: Commands>(
     alloc: Global,
     store: &Store,
-    kept: &Kept<C>,
-) -> Result<Vec<StoreAct>, AllocError>
+    term: u64,
+    voted: Option<Node>,
+    log: &[Entry<C>],
+    same: usize,
+) -> Result<SavePlan, AllocError>
     requires who { IsNodeOf C.stack store.now.who }
-    requires voted { VoteAmong store.now.who.nodes kept.now.voted }
-    ensures acts { IfOk result (λ acts. acts_of acts.items ≡ state_acts C.stack C.format store.now kept.now) }
-    ensures fits { OnOk result (is_held store.now kept.now ≡ false → HasBytes C.stack C.format store.now kept.now) }
+    requires term { IsTerm term }
+    requires voted { VoteAmong store.now.who.nodes voted }
+    requires log { IsIndex (length log.now) }
+    requires same { same ≤ common store.now.terms log.now }
+    ensures acts { IfOk result (λ plan. acts_of plan.acts.items ≡ state_acts C.stack C.format store.now (kept_as term voted log.now)) }
+    ensures fits { OnOk result (is_held store.now (kept_as term voted log.now) ≡ false
+        → HasBytes C.stack C.format store.now (kept_as term voted log.now)) }
+
+    // What the node knows after the change is what it knows after the save.
+    ensures change { IfOk result (λ plan. plan.change ≡ change_to C.stack C.format store.now (kept_as term voted log.now)) }
+    ensures knows { IfOk result (λ plan. changed_by store.now plan.change
+        ≡ store_after C.stack C.format store.now (kept_as term voted log.now)) }
+    ensures remembers { IfOk result (λ plan. Knows (changed_by store.now plan.change) (kept_as term voted log.now)) }
 {
-    store.acts(alloc, kept.term(), kept.voted(), kept.log())
+    store.plan(alloc, term, voted, log, same)
 }
 
-/// What the node knows once all of these acts were made. An `Err` leaves the store as it was.
-pub fn advance<C: Commands>(
-    alloc: Global,
-    store: &mut Store,
-    kept: &Kept<C>,
-) -> Result<(), AllocError>
-    requires who { IsNodeOf C.stack store.old.who }
-    requires voted { VoteAmong store.old.who.nodes kept.now.voted }
-    ensures knows { OnOk result (store.new ≡ store_after C.stack C.format store.old kept.now) }
-    ensures remembers { OnOk result (Knows store.new kept.now) }
+/// What the node knows once all acts of a save were made: that of before them, changed so. It costs as much as the entries that are new:
+/// nothing is spelled anew, and the log is not looked at. An `Err` leaves the store as it was.
+pub fn advance(store: &mut Store, change: StoreChange) -> Result<(), AllocError>
+    ensures knows { OnOk result (store.new ≡ changed_by store.old change) }
     ensures unchanged { OnErr result (store.new ≡ store.old) }
 {
-    store.advance(alloc, kept.term(), kept.voted(), kept.log())
+    store.advance(change)
 }

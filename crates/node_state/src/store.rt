@@ -6,6 +6,7 @@ ghost use Rattle.node_body.specs.Bodies.{VoteAmong, kept_as};
 ghost use Rattle.node_body.specs.declared.bases.TheConstants.{MAX_RECORD_LEN};
 ghost use Rattle.node_device.specs.Telling.{Did};
 ghost use Rattle.node_state.specs.Calls.{GrowsFirst, IsNodeOf, StateCounts};
+ghost use Rattle.node_state.specs.Changes.{change_to, changed_by, no_change};
 ghost use Rattle.node_state.specs.Crashes.{StoppedWith};
 ghost use Rattle.node_state.specs.Ends.{NewFits, end_of, new_acts, new_end};
 ghost use Rattle.raft_types.specs.Messages.{IsIndex, IsTerm};
@@ -13,13 +14,12 @@ ghost use Rattle.store_acts.specs.StoreActs.{acts_of};
 
 use crate::common::{common, terms_of};
 use crate::saving::{Saving, saved_anew};
-use crate::{StateFault, make_acts};
+use crate::{SavePlan, StateFault, StoreChange, make_acts};
 use node_body::{Commands, Who};
 use node_device::Device;
 use raft_types::Kept;
 use std::alloc::{AllocError, Global};
 use std::marker::Model;
-use store_acts::StoreAct;
 use vst_base::{Entry, Node};
 
 /// Where the journal of the named slot goes on: the selector, the place of the last gate, and how many records more may follow. Where
@@ -160,62 +160,67 @@ impl Store {
         saved_anew(alloc, &self.who, &self.end, term, *voted, keep, log)
     }
 
-    // The acts that save a state.
-    pub(crate) fn acts<C: Commands>(
+    // What is known where a state is saved that is held.
+    fn unchanged(&self, alloc: Global) -> StoreChange
+        ensures { result ≡ no_change self.now }
+    {
+        let keep = self.terms.len();
+        StoreChange::new(self.end, self.term, self.voted, keep, Vec::new(alloc))
+    }
+
+    // What saves a state, of whose log the first `same` entries have the terms of those that are held.
+    pub(crate) fn plan<C: Commands>(
         &self,
         alloc: Global,
         term: u64,
         voted: Option<Node>,
         log: &[Entry<C>],
-    ) -> Result<Vec<StoreAct>, AllocError>
+        same: usize,
+    ) -> Result<SavePlan, AllocError>
         requires who { IsNodeOf C.stack self.now.who }
         requires term { IsTerm term }
         requires voted { VoteAmong self.now.who.nodes voted }
         requires log { IsIndex (length log.now) }
-        ensures acts { IfOk result (λ acts. acts_of acts.items
+        requires same { same ≤ common self.now.terms log.now }
+        ensures acts { IfOk result (λ plan. acts_of plan.acts.items
             ≡ state_acts C.stack C.format self.now (kept_as term voted log.now)) }
         ensures fits { OnOk result (is_held self.now (kept_as term voted log.now) ≡ false
             → HasBytes C.stack C.format self.now (kept_as term voted log.now)) }
+        ensures change { IfOk result (λ plan. plan.change
+            ≡ change_to C.stack C.format self.now (kept_as term voted log.now)) }
     {
-        let keep = common(&self.terms, log, 0);
+        let keep = common(&self.terms, log, same);
         if self.has(term, &voted, keep, log.len()) {
-            return Ok(Vec::new(alloc));
+            return Ok(SavePlan {
+                acts: Vec::new(alloc),
+                change: self.unchanged(alloc),
+            });
         }
+        let added = terms_of(alloc, &log[keep..])?;
         let saving = self.saved_anew::<C>(alloc, term, &voted, keep as u32, log)?;
-        Ok(saving.acts)
+        Ok(SavePlan {
+            acts: saving.acts,
+            change: StoreChange::new(saving.end, term, voted, keep, added),
+        })
     }
 
     // Knows a state once the acts that save it were made.
-    pub(crate) fn advance<C: Commands>(
-        &mut self,
-        alloc: Global,
-        term: u64,
-        voted: Option<Node>,
-        log: &[Entry<C>],
-    ) -> Result<(), AllocError>
-        requires who { IsNodeOf C.stack self.old.who }
-        requires term { IsTerm term }
-        requires voted { VoteAmong self.old.who.nodes voted }
-        requires log { IsIndex (length log.now) }
-        ensures knows { OnOk result (self.new ≡ store_after C.stack C.format self.old (kept_as term voted log.now)) }
+    pub(crate) fn advance(&mut self, change: StoreChange) -> Result<(), AllocError>
+        ensures knows { OnOk result (self.new ≡ changed_by self.old change) }
         ensures unchanged { OnErr result (self.new ≡ self.old) }
     {
-        let keep = common(&self.terms, log, 0);
-        if self.has(term, &voted, keep, log.len()) {
-            return Ok(());
-        }
-        let mut added = terms_of(alloc, &log[keep..])?;
+        let (end, term, voted, keep, mut added) = change.into_parts();
         self.terms.reserve(added.len())?;
-        let saving = self.saved_anew::<C>(alloc, term, &voted, keep as u32, log)?;
         self.terms.truncate(keep);
         self.terms.append(&mut added)?;
-        self.end = saving.end;
+        self.end = end;
         self.term = term;
         self.voted = voted;
         Ok(())
     }
 
-    // Makes the acts that save a state, whose log keeps at least so many of the entries that are held. It first makes all its growths.
+    // Makes the acts that save a state, of whose log the first `same` entries have the terms of those that are held. It first makes all
+    // its growths.
     pub(crate) fn write<D: Device, C: Commands>(
         &mut self,
         alloc: Global,
@@ -244,17 +249,13 @@ impl Store {
         ensures wants { GrowsFirst (D.told device.new ≡ D.told device.old) (D.wants device.old) (D.wants device.new) result }
         ensures begun { D.begun device.new ≡ true }
     {
-        let keep = common(&self.terms, log, same);
-        if self.has(term, &voted, keep, log.len()) {
-            return Ok(());
-        }
-        let mut added = terms_of(alloc, &log[keep..])?;
+        let SavePlan { acts, change } = self.plan::<C>(alloc, term, voted, log, same)?;
+        let (end, term, voted, keep, mut added) = change.into_parts();
         self.terms.reserve(added.len())?;
-        let saving = self.saved_anew::<C>(alloc, term, &voted, keep as u32, log)?;
-        make_acts(device, &saving.acts)?;
+        make_acts(device, &acts)?;
         self.terms.truncate(keep);
         self.terms.append(&mut added)?;
-        self.end = saving.end;
+        self.end = end;
         self.term = term;
         self.voted = voted;
         Ok(())

@@ -52,6 +52,7 @@ impl<H: OnDisk> OnBytesAlone for Wired<Saved<H>> {
 }
 
 // A cluster of these handlers, carried on bytes of a stack alone.
+#[tactic(auto, using(crate::proofs::Owned::owned, crate::proofs::Owned::within))]
 fn on_bytes<H: OnDisk>(handlers: H, stack: StackId) -> Wired<Saved<H>>
     requires size { IsClusterSize (H.meaning handlers).nodes }
     requires packets { HasByte stack }
@@ -61,10 +62,8 @@ fn on_bytes<H: OnDisk>(handlers: H, stack: StackId) -> Wired<Saved<H>>
     ensures stack { result.stack ≡ stack }
     ensures own { IsOwnCluster H.Msg.format H.longest H.meaning result }
 {
-    let cluster = Cluster {
-        stack,
-        name: no_name(),
-    };
+    let name = no_name();
+    let cluster = Cluster { stack, name };
     Wired::new(Saved::new(handlers, cluster), cluster)
 }
 

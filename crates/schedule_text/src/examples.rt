@@ -87,6 +87,14 @@ pub fn worked_headers()
         × (header_of (codes "schedule 1 loss kv/pb/seq/retry 3") ≡ None) }
     ensures retried_elsewhere { (header_of (codes "schedule 1 dup lock/seq/retry 2") ≡ None)
         × (header_of (codes "schedule 1 fail kv/pb/seq/retry 2") ≡ None) }
+    ensures least_reading { header_of (codes "schedule 1 fail kv/raft/read 1")
+        ≡ Some (record { net = Net.Fail; stack = StackId.KvRaftRead; nodes = 1 }) }
+    ensures most_reading { header_of (codes "schedule 1 fail table/raft/read 9")
+        ≡ Some (record { net = Net.Fail; stack = StackId.TableRaftRead; nodes = 9 }) }
+    ensures beyond_reading { (header_of (codes "schedule 1 fail kv/raft/read 0") ≡ None)
+        × (header_of (codes "schedule 1 fail kv/raft/read 10") ≡ None) }
+    ensures reading_elsewhere { (header_of (codes "schedule 1 dup kv/raft/read 3") ≡ None)
+        × (header_of (codes "schedule 1 fail kv/read 3") ≡ None) }
     ensures other_stacks_losing { (header_of (codes "schedule 1 loss lock/seq 2") ≡ None) × (header_of (codes "schedule 1 loss lock/retry 2") ≡ None) }
     ensures other_stacks_in_order { header_of (codes "schedule 1 ord lock 2") ≡ None }
     ensures network_without_a_stack { header_of (codes "schedule 1 acts kv/raft 1") ≡ None }
@@ -98,6 +106,8 @@ pub fn worked_headers()
         ≡ codes "schedule 1 dup mirror/fifo 4" }
     ensures retried_text { header_text (record { net = Net.Loss; stack = StackId.KvPbSeqRetry; nodes = 2 })
         ≡ codes "schedule 1 loss kv/pb/seq/retry 2" }
+    ensures reading_text { header_text (record { net = Net.Fail; stack = StackId.TableRaftRead; nodes = 3 })
+        ≡ codes "schedule 1 fail table/raft/read 3" }
     ensures opens_empty { opening 2000000 1 [] ≡ EndedAt 1 }
     ensures opens_without_header { opening 2000000 1 (codes "# none" ∷ []) ≡ EndedAt 2 }
     ensures opens_after_comment { opening 2000000 1 (codes "# a lock" ∷ codes "schedule 1 bag lock 2" ∷ codes "tick 0" ∷ []) ≡ Opened (record { net = Net.Bag; stack = StackId.Lock; nodes = 2 }) 3 (codes "tick 0" ∷ []) }

@@ -1,5 +1,6 @@
 pub mod Found
 pub mod Clusters
+pub mod ReadActs
 pub mod Fitting
 pub mod Explaining
 pub mod Playing

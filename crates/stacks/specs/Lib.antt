@@ -2,6 +2,7 @@ pub mod Plays
 pub mod ClaimTexts
 pub mod Clusters
 pub mod Kinds
+pub mod Reads
 pub mod Fits
 pub mod Explained
 pub mod Table
@@ -10,3 +11,4 @@ pub mod Made
 pub mod Stack
 pub mod Checks
 pub mod Examples
+pub mod ClusterExamples

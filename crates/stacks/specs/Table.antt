@@ -10,10 +10,12 @@ use Rattle.app_text.specs.KvTexts as kv_text
 use Rattle.app_text.specs.LockTexts as lock_text
 use Rattle.app_text.specs.MirrorTexts as mirror_text
 use Rattle.app_text.specs.TableTexts as table_text
+use Rattle.kv_machine.specs.Kv as store_cmd
 use Rattle.kv_machine.specs.Kv.{kv}
 use Rattle.kv_machine.specs.declared.cmd.KvCmd.{KvCmd}
 use Rattle.kv_machine.specs.declared.out.KvOut.{KvOut}
 use Rattle.lock_server.specs.Locks.{lock_server}
+use Rattle.lock_table.specs.Table as table_cmd
 use Rattle.lock_table.specs.Table.{table}
 use Rattle.lock_table.specs.declared.cmd.TableCmd.{TableCmd}
 use Rattle.lock_table.specs.declared.out.TableOut.{TableOut}
@@ -27,6 +29,7 @@ use Rattle.transformers.specs.Numbering.{numbering}
 use Rattle.transformers.specs.Retransmission.{retransmission}
 use Rattle.stacks.specs.Plays.{Found, Here, Nowhere, found_map, AnyPlay, Texts, texts_of}
 use Rattle.stacks.specs.Kinds.{Alone, Application, Backed, Clustered, Itself, Kind, Layers, Own, OwnHandlers, Steady, Through, application, own_handlers, plays, raft_of}
+use Rattle.stacks.specs.Reads.{reads_of}
 
 abbrev pub lock_texts : Texts LockInput LockOutput
 lock_texts = texts_of lock_text.input_of lock_text.input_text lock_text.output_of lock_text.output_text (λ _. true)
@@ -71,6 +74,8 @@ kind_at net.Fail stack.KvRaft = Here (Clustered (raft_of store))
 kind_at net.One stack.Table = Here (Steady (Alone lock_table))
 kind_at net.Dup stack.TablePbSeq = Here (Steady (Through numbering (Backed lock_table)))
 kind_at net.Fail stack.TableRaft = Here (Clustered (raft_of lock_table))
+kind_at net.Fail stack.KvRaftRead = Here (Clustered (reads_of store store_cmd.is_read))
+kind_at net.Fail stack.TableRaftRead = Here (Clustered (reads_of lock_table table_cmd.is_read))
 kind_at net.Ord stack.Mirror = Here (Steady (Own mirrors))
 kind_at net.Dup stack.MirrorFifo = Here (Steady (Through ordering (Own mirrors)))
 kind_at net.Loss stack.LockSeqRetry = Here (Steady (Through retransmission (Itself stack.LockSeq numbered_locks)))

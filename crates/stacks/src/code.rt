@@ -1,7 +1,7 @@
-ghost use Rattle.std.specs.Prelude.{◌≡◌, ◌≤◌, ◌+◌, ℕ, List, [], IfOk, length, option_map};
+ghost use Rattle.std.specs.Prelude.{◌≡◌, ◌≤◌, ◌+◌, ℕ, List, [], None, IfOk, length, option_map};
 ghost use Rattle.check_text.specs.Claims.{Claim as SpecClaim};
 ghost use Rattle.check_text.specs.ImageLines.{IsHeaded};
-ghost use Rattle.net_semantics.specs.Runs.{first_refused};
+ghost use Rattle.net_semantics.specs.Runs.{IsAllowed};
 ghost use Rattle.stacks.specs.Claimed.{Claimed};
 ghost use Rattle.stacks.specs.Made.{made_on};
 ghost use Rattle.stacks.specs.Plays.{Play, image_of, play_of, texts_of};
@@ -109,8 +109,8 @@ pub trait StackCode: Judged {
             HasTaken (Self.Network.system network) Self.Network.follows Self.Network.progress [] network) }
         ensures sound { IfOk result Self.Network.sound }
         ensures made { IfOk result (λ network. made nodes ≡ made_on (Self.Network.system network) Self.Inputs.inputs) }
-        ensures refused { IfOk result (λ network. (Self.play nodes).refused ≡ first_refused (Self.Network.system network).net
-            (Self.Network.system network).meaning (Self.Network.system network).recovery) }
+        ensures allowed { IfOk result (λ network. (ss : List (Step Self.Input)) → (Self.play nodes).refused ss ≡ None
+            → IsAllowed (Self.Network.system network).net (Self.Network.system network).meaning (Self.Network.system network).recovery ss) }
         ensures texts { IfOk result (λ network. (Self.play nodes).texts
             ≡ texts_of Self.Text.input_of Self.Text.input_text Self.Text.output_of Self.Text.output_text Self.Text.replies) }
         ensures few_nodes { IfOk result (λ network. (Self.Network.system network).meaning.nodes ≤ MAX_NODES) };

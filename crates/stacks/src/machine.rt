@@ -19,12 +19,12 @@ use schedule_text::Header;
 use std::alloc::{AllocError, Global};
 use std::marker::PhantomData;
 use trace_maps::SingleNode;
-use vst_base::{Machine, Net, PbOut, StackId, Step};
+use vst_base::{Net, PbOut, Queries, StackId, Step};
 use wired::AlwaysFits;
 use xform_stack::{Itself, Mapped, RepliedTo, Running, SteadyWorld};
 
-/// A machine with its texts, which alone is a stack.
-pub trait Application: Machine {
+/// A machine with its texts, which alone is a stack, and which tells which of its commands read.
+pub trait Application: Queries {
     /// How its commands and outputs are spelled.
     type Text: MachineText<Input = Self::Cmd, Output = Self::Out>;
 

@@ -4,10 +4,10 @@ ghost use Rattle.stacks.specs.Plays.{IfFound};
 ghost use Rattle.stacks.specs.Stack.{IsOneOf, stack_at};
 ghost use Rattle.vst_base.specs.declared.stack.StackId.TheVariants as id;
 
-use crate::on_layers::{on_layers, on_numbered, on_retried};
+use crate::on_layers::{on_clustered, on_layers, on_numbered, on_reading, on_retried};
 use crate::{
-    Alone, Application, AsOwn, Backed, Clustered, Numbered, NumberedBackup, NumberedStack, OnStack,
-    Ordered, Own, OwnStack,
+    Alone, Application, AsOwn, Backed, Numbered, NumberedBackup, NumberedStack, OnStack, Ordered,
+    Own, OwnStack,
 };
 use app_text::{KvText, LockText, MirrorText, TableText};
 use kv_machine::KvMachine;
@@ -130,7 +130,7 @@ fn on_locks<A, B, V: OnStack<A, B>>(header: &Header, command: V, a: &mut A, b: &
 // Does a command on the code of a stack of the key-value machine.
 fn on_store<A, B, V: OnStack<A, B>>(header: &Header, command: V, a: &mut A, b: &mut B) -> V::Said
     requires known { IsHeader header.now }
-    requires stack { IsOneOf (id.Kv ∷ id.KvPb ∷ id.KvPbSeq ∷ id.KvPbSeqRetry ∷ id.KvRaft ∷ []) header.now.stack }
+    requires stack { IsOneOf (id.Kv ∷ id.KvPb ∷ id.KvPbSeq ∷ id.KvPbSeqRetry ∷ id.KvRaft ∷ id.KvRaftRead ∷ []) header.now.stack }
     requires ready { IfFound (stack_at header.now) (λ s. V.ready command s a.old b.old) }
     ensures { IfFound (stack_at header.now) (λ s. V.Does command s a.old b.old a.new b.new result) }
 {
@@ -143,7 +143,8 @@ fn on_store<A, B, V: OnStack<A, B>>(header: &Header, command: V, a: &mut A, b: &
         StackId::KvPbSeqRetry => on_retried::<AsOwn<Numbered<Backed<KvMachine>>>, A, B, V>(
             command, i, n, a, b,
         ),
-        StackId::KvRaft => command.on::<Clustered<KvMachine>>(i, n, a, b),
+        StackId::KvRaft => on_clustered::<KvMachine, A, B, V>(command, i, n, a, b),
+        StackId::KvRaftRead => on_reading::<KvMachine, A, B, V>(command, i, n, a, b),
         _ => unreachable!(),
     }
 }
@@ -151,7 +152,7 @@ fn on_store<A, B, V: OnStack<A, B>>(header: &Header, command: V, a: &mut A, b: &
 // Does a command on the code of a stack of the table of named locks.
 fn on_table<A, B, V: OnStack<A, B>>(header: &Header, command: V, a: &mut A, b: &mut B) -> V::Said
     requires known { IsHeader header.now }
-    requires stack { IsOneOf (id.Table ∷ id.TablePbSeq ∷ id.TableRaft ∷ []) header.now.stack }
+    requires stack { IsOneOf (id.Table ∷ id.TablePbSeq ∷ id.TableRaft ∷ id.TableRaftRead ∷ []) header.now.stack }
     requires ready { IfFound (stack_at header.now) (λ s. V.ready command s a.old b.old) }
     ensures { IfFound (stack_at header.now) (λ s. V.Does command s a.old b.old a.new b.new result) }
 {
@@ -160,7 +161,8 @@ fn on_table<A, B, V: OnStack<A, B>>(header: &Header, command: V, a: &mut A, b: &
     match i {
         StackId::Table => command.on::<Alone<TableMachine>>(i, n, a, b),
         StackId::TablePbSeq => on_numbered::<Backed<TableMachine>, A, B, V>(command, i, n, a, b),
-        StackId::TableRaft => command.on::<Clustered<TableMachine>>(i, n, a, b),
+        StackId::TableRaft => on_clustered::<TableMachine, A, B, V>(command, i, n, a, b),
+        StackId::TableRaftRead => on_reading::<TableMachine, A, B, V>(command, i, n, a, b),
         _ => unreachable!(),
     }
 }
@@ -194,9 +196,13 @@ pub fn on_stack<A, B, V: OnStack<A, B>>(
 {
     match header.stack {
         StackId::Lock | StackId::LockSeq | StackId::LockSeqRetry => on_locks(header, command, a, b),
-        StackId::Kv | StackId::KvPb | StackId::KvPbSeq | StackId::KvPbSeqRetry | StackId::KvRaft =>
-            on_store(header, command, a, b),
-        StackId::Table | StackId::TablePbSeq | StackId::TableRaft => {
+        StackId::Kv
+        | StackId::KvPb
+        | StackId::KvPbSeq
+        | StackId::KvPbSeqRetry
+        | StackId::KvRaft
+        | StackId::KvRaftRead => on_store(header, command, a, b),
+        StackId::Table | StackId::TablePbSeq | StackId::TableRaft | StackId::TableRaftRead => {
             on_table(header, command, a, b)
         }
         StackId::Mirror | StackId::MirrorFifo => on_mirrors(header, command, a, b),

@@ -18,6 +18,7 @@ pub mod TraceReading
 pub mod Lengths
 pub mod Sights
 pub mod ReadClaims
+pub mod FoundClaims
 pub mod ImageSteps
 pub mod Verdicts
 pub mod ScheduleClaims
@@ -38,6 +39,7 @@ pub mod Requests
 pub mod RaftApplying
 pub mod RaftRuns
 pub mod Clusters
+pub mod ReadRuns
 pub mod ItselfReplays
 pub mod BackedReplays
 pub mod ClusterReplays

@@ -11,6 +11,8 @@ pub fn worked_clusters()
     ensures told_in_another_order { checked StackId.KvRaft (codes "in 0 7 1 put a x\nin 0 8 1 get a\nout 0 reply 8 1 a =x =x\nout 0 reply 7 1 a =x -\nbelow\norder 7 1 put a x\norder 8 1 get a\n") ≡ Ok Verdict.Yes }
     ensures a_table { checked StackId.TableRaft (codes "in 0 1 0 acquire l bob\nout 0 reply 1 0 l =bob yes\nin 0 1 1 acquire l al\nout 0 reply 1 1 l =bob no\nbelow\norder 1 0 acquire l bob\norder 1 1 acquire l al\n") ≡ Ok Verdict.Yes }
     ensures both_told_yes { checked StackId.TableRaft (codes "in 0 1 0 acquire l bob\nout 0 reply 1 0 l =bob yes\nin 0 1 1 acquire l al\nout 0 reply 1 1 l =al yes\nbelow\norder 1 0 acquire l bob\norder 1 1 acquire l al\n") ≡ Ok (Verdict.No 2 4) }
+    ensures a_read_without_an_entry { checked StackId.KvRaftRead (codes "in 0 7 1 put a x\nout 0 reply 7 1 a =x -\nin 0 7 2 get a\nout 0 reply 7 2 a =x =x\nbelow\norder 7 1 put a x\norder 7 2 get a\n") ≡ Ok Verdict.Yes }
+    ensures a_stale_read { checked StackId.KvRaftRead (codes "in 0 7 1 put a x\nout 0 reply 7 1 a =x -\nin 0 8 1 get a\nout 0 reply 8 1 a - -\nbelow\norder 8 1 get a\norder 7 1 put a x\n") ≡ Ok (Verdict.No 3 6) }
     ensures a_pair_twice { checked StackId.KvRaft (codes "in 0 7 1 put a x\nbelow\norder 7 1 put a x\norder 7 1 put a x\n") ≡ Ok (Verdict.No 1 4) }
     ensures never_put_in { checked StackId.KvRaft (codes "below\norder 7 1 put a x\n") ≡ Ok (Verdict.No 1 2) }
     ensures another_command { checked StackId.KvRaft (codes "in 0 7 1 put a y\nbelow\norder 7 1 put a x\n") ≡ Ok (Verdict.No 1 3) }

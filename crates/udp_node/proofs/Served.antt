@@ -267,3 +267,5 @@ runs_kv stack.Mirror is not = cc
 runs_kv stack.MirrorFifo is not = cc
 runs_kv stack.LockSeqRetry is not = cc
 runs_kv stack.KvPbSeqRetry is not = cc
+runs_kv stack.KvRaftRead is not = cc
+runs_kv stack.TableRaftRead is not = cc

@@ -21,6 +21,8 @@ stack_word stack.Mirror = codes "mirror"
 stack_word stack.MirrorFifo = codes "mirror/fifo"
 stack_word stack.LockSeqRetry = codes "lock/seq/retry"
 stack_word stack.KvPbSeqRetry = codes "kv/pb/seq/retry"
+stack_word stack.KvRaftRead = codes "kv/raft/read"
+stack_word stack.TableRaftRead = codes "table/raft/read"
 
 abbrev pub row_of : StackId → StackRow
 row_of stack.Lock = record { stack = stack.Lock; net = net.Bag; least = 2; most = 9 }
@@ -36,11 +38,13 @@ row_of stack.Mirror = record { stack = stack.Mirror; net = net.Ord; least = 2; m
 row_of stack.MirrorFifo = record { stack = stack.MirrorFifo; net = net.Dup; least = 2; most = 9 }
 row_of stack.LockSeqRetry = record { stack = stack.LockSeqRetry; net = net.Loss; least = 2; most = 9 }
 row_of stack.KvPbSeqRetry = record { stack = stack.KvPbSeqRetry; net = net.Loss; least = 2; most = 2 }
+row_of stack.KvRaftRead = record { stack = stack.KvRaftRead; net = net.Fail; least = 1; most = MAX_NODES }
+row_of stack.TableRaftRead = record { stack = stack.TableRaftRead; net = net.Fail; least = 1; most = MAX_NODES }
 
 abbrev pub stacks : List StackId
 stacks =
     stack.Lock ∷ stack.LockSeq ∷ stack.KvPb ∷ stack.KvPbSeq ∷ stack.KvRaft ∷ stack.TablePbSeq ∷ stack.TableRaft ∷ stack.Kv ∷ stack.Table
-    ∷ stack.Mirror ∷ stack.MirrorFifo ∷ stack.LockSeqRetry ∷ stack.KvPbSeqRetry ∷ []
+    ∷ stack.Mirror ∷ stack.MirrorFifo ∷ stack.LockSeqRetry ∷ stack.KvPbSeqRetry ∷ stack.KvRaftRead ∷ stack.TableRaftRead ∷ []
 
 abbrev pub rows : List StackRow
 rows = map row_of stacks

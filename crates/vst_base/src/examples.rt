@@ -36,9 +36,9 @@ pub fn worked()
 
 /// Stacks: their words, their networks and their numbers of nodes.
 pub fn worked_stacks()
-    ensures as_many { length rows ≡ 13 }
+    ensures as_many { length rows ≡ 15 }
     ensures word { stack_word StackId.KvPbSeq ≡ codes "kv/pb/seq" }
-    ensures own_row { map (λ r. r.stack) rows ≡ StackId.Lock ∷ StackId.LockSeq ∷ StackId.KvPb ∷ StackId.KvPbSeq ∷ StackId.KvRaft ∷ StackId.TablePbSeq ∷ StackId.TableRaft ∷ StackId.Kv ∷ StackId.Table ∷ StackId.Mirror ∷ StackId.MirrorFifo ∷ StackId.LockSeqRetry ∷ StackId.KvPbSeqRetry ∷ [] }
+    ensures own_row { map (λ r. r.stack) rows ≡ StackId.Lock ∷ StackId.LockSeq ∷ StackId.KvPb ∷ StackId.KvPbSeq ∷ StackId.KvRaft ∷ StackId.TablePbSeq ∷ StackId.TableRaft ∷ StackId.Kv ∷ StackId.Table ∷ StackId.Mirror ∷ StackId.MirrorFifo ∷ StackId.LockSeqRetry ∷ StackId.KvPbSeqRetry ∷ StackId.KvRaftRead ∷ StackId.TableRaftRead ∷ [] }
     ensures lock_nodes { row_of StackId.Lock ≡ record { stack = StackId.Lock; net = Net.Bag; least = 2; most = 9 } }
     ensures backup_nodes { row_of StackId.KvPbSeq ≡ record { stack = StackId.KvPbSeq; net = Net.Dup; least = 2; most = 2 } }
     ensures cluster_nodes { row_of StackId.KvRaft ≡ record { stack = StackId.KvRaft; net = Net.Fail; least = 1; most = 9 } }
@@ -48,6 +48,8 @@ pub fn worked_stacks()
     ensures fifo_nodes { (stack_word StackId.MirrorFifo ≡ codes "mirror/fifo") × (row_of StackId.MirrorFifo ≡ record { stack = StackId.MirrorFifo; net = Net.Dup; least = 2; most = 9 }) }
     ensures retried_lock_nodes { (stack_word StackId.LockSeqRetry ≡ codes "lock/seq/retry") × (row_of StackId.LockSeqRetry ≡ record { stack = StackId.LockSeqRetry; net = Net.Loss; least = 2; most = 9 }) }
     ensures retried_backup_nodes { (stack_word StackId.KvPbSeqRetry ≡ codes "kv/pb/seq/retry") × (row_of StackId.KvPbSeqRetry ≡ record { stack = StackId.KvPbSeqRetry; net = Net.Loss; least = 2; most = 2 }) }
+    ensures reading_cluster_nodes { (stack_word StackId.KvRaftRead ≡ codes "kv/raft/read") × (row_of StackId.KvRaftRead ≡ record { stack = StackId.KvRaftRead; net = Net.Fail; least = 1; most = 9 }) }
+    ensures reading_table_nodes { (stack_word StackId.TableRaftRead ≡ codes "table/raft/read") × (row_of StackId.TableRaftRead ≡ record { stack = StackId.TableRaftRead; net = Net.Fail; least = 1; most = 9 }) }
     ensures table_alone { (stack_word StackId.Table ≡ codes "table") × (row_of StackId.Table ≡ record { stack = StackId.Table; net = Net.One; least = 1; most = 1 }) }
 {}
 

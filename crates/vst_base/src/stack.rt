@@ -32,6 +32,10 @@ pub enum StackId {
     LockSeqRetry,
     /// The key-value store under primary-backup, sequence numbering and retransmission.
     KvPbSeqRetry,
+    /// The key-value store under Raft, with reads that take no entry of the log.
+    KvRaftRead,
+    /// The table of named locks under Raft, with reads that take no entry of the log.
+    TableRaftRead,
 }
 
 /// A stack on its network, with the least and the greatest number of nodes that it runs on.
@@ -137,6 +141,20 @@ const KV_PB_SEQ_RETRY: StackRow = StackRow {
     most: 2,
 };
 
+const KV_RAFT_READ: StackRow = StackRow {
+    stack: StackId::KvRaftRead,
+    net: Net::Fail,
+    least: 1,
+    most: MAX_NODES,
+};
+
+const TABLE_RAFT_READ: StackRow = StackRow {
+    stack: StackId::TableRaftRead,
+    net: Net::Fail,
+    least: 1,
+    most: MAX_NODES,
+};
+
 const ROWS: &[StackRow] = &[
     LOCK,
     LOCK_SEQ,
@@ -151,6 +169,8 @@ const ROWS: &[StackRow] = &[
     MIRROR_FIFO,
     LOCK_SEQ_RETRY,
     KV_PB_SEQ_RETRY,
+    KV_RAFT_READ,
+    TABLE_RAFT_READ,
 ];
 
 impl StackRow {
@@ -200,6 +220,8 @@ impl StackId {
             StackId::MirrorFifo => "mirror/fifo",
             StackId::LockSeqRetry => "lock/seq/retry",
             StackId::KvPbSeqRetry => "kv/pb/seq/retry",
+            StackId::KvRaftRead => "kv/raft/read",
+            StackId::TableRaftRead => "table/raft/read",
         }
     }
 
@@ -221,6 +243,8 @@ impl StackId {
             StackId::MirrorFifo => MIRROR_FIFO,
             StackId::LockSeqRetry => LOCK_SEQ_RETRY,
             StackId::KvPbSeqRetry => KV_PB_SEQ_RETRY,
+            StackId::KvRaftRead => KV_RAFT_READ,
+            StackId::TableRaftRead => TABLE_RAFT_READ,
         }
     }
 }

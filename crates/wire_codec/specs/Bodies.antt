@@ -9,6 +9,7 @@ use Rattle.wire_messages.specs.ClientBytes.{client_reply, client_request}
 use Rattle.wire_messages.specs.KvBytes.{kv_command, kv_output}
 use Rattle.wire_messages.specs.PeerBytes.{backup_message, lock_message, mirror_message, numbered, retried}
 use Rattle.wire_messages.specs.RaftBytes.{raft_message}
+use Rattle.wire_messages.specs.ReadBytes.{read_message}
 use Rattle.wire_messages.specs.TableBytes.{table_command, table_output}
 use Rattle.wire_messages.specs.Wires.{read_whole}
 
@@ -25,6 +26,8 @@ is_message stack.Mirror kind.Peer bs = is_spelling mirror_message bs
 is_message stack.MirrorFifo kind.Peer bs = is_spelling (numbered mirror_message) bs
 is_message stack.LockSeqRetry kind.Peer bs = is_spelling (retried (numbered lock_message)) bs
 is_message stack.KvPbSeqRetry kind.Peer bs = is_spelling (retried (numbered (backup_message kv_command))) bs
+is_message stack.KvRaftRead kind.Peer bs = is_spelling (read_message kv_command) bs
+is_message stack.TableRaftRead kind.Peer bs = is_spelling (read_message table_command) bs
 is_message stack.KvRaft kind.Peer bs = is_spelling (raft_message kv_command) bs
 is_message stack.KvRaft kind.Request bs = is_spelling (client_request kv_command) bs
 is_message stack.KvRaft kind.Reply bs = is_spelling (client_reply kv_output) bs

@@ -42,7 +42,7 @@ among_one (u ∷ more) have b bs s rest e =
 
 stack_one : (bs : List ℕ) (s : StackId) (rest : List ℕ) → read_stack bs ≡ Some (s, rest) → IsSpelled stack_field bs s rest
 stack_one [] s rest e = cc
-stack_one (b ∷ bs) s rest e = among_one named_stacks (tt, (tt, (tt, (tt, (tt, (tt, (tt, (tt, (tt, (tt, (tt, tt))))))))))) b bs s rest e
+stack_one (b ∷ bs) s rest e = among_one named_stacks (tt, (tt, (tt, (tt, (tt, (tt, (tt, (tt, (tt, (tt, (tt, (tt, (tt, tt))))))))))))) b bs s rest e
 
 stack_back : (s : StackId) (rest : List ℕ) → HasByte s → read_stack (stack_byte s ∷ [] ++ rest) ≡ Some (s, rest)
 stack_back stack.Lock rest fits = refl
@@ -56,6 +56,8 @@ stack_back stack.Mirror rest fits = refl
 stack_back stack.MirrorFifo rest fits = refl
 stack_back stack.LockSeqRetry rest fits = refl
 stack_back stack.KvPbSeqRetry rest fits = refl
+stack_back stack.KvRaftRead rest fits = refl
+stack_back stack.TableRaftRead rest fits = refl
 stack_back stack.Kv rest fits = absurd fits
 stack_back stack.Table rest fits = absurd fits
 

@@ -35,6 +35,8 @@ stack_byte stack.Mirror = 8
 stack_byte stack.MirrorFifo = 9
 stack_byte stack.LockSeqRetry = 10
 stack_byte stack.KvPbSeqRetry = 11
+stack_byte stack.KvRaftRead = 13
+stack_byte stack.TableRaftRead = 14
 stack_byte stack.Kv = 0
 stack_byte stack.Table = 0
 
@@ -42,7 +44,7 @@ stack_byte stack.Table = 0
 abbrev pub named_stacks : List StackId
 named_stacks =
     stack.Lock ∷ stack.LockSeq ∷ stack.KvPb ∷ stack.KvPbSeq ∷ stack.KvRaft ∷ stack.TablePbSeq ∷ stack.TableRaft ∷ stack.Mirror
-    ∷ stack.MirrorFifo ∷ stack.LockSeqRetry ∷ stack.KvPbSeqRetry ∷ []
+    ∷ stack.MirrorFifo ∷ stack.LockSeqRetry ∷ stack.KvPbSeqRetry ∷ stack.KvRaftRead ∷ stack.TableRaftRead ∷ []
 
 -- the one among these that has the byte
 abbrev pub stack_among : List StackId → ℕ → List ℕ → Option (StackId × List ℕ)

@@ -18,6 +18,7 @@ ghost use Rattle.wire_messages.specs.EntryBytes.{entry, entry_of, old_entry};
 ghost use Rattle.wire_messages.specs.KvBytes.{kv_command, kv_output};
 ghost use Rattle.wire_messages.specs.PeerBytes.{backup_message, lock_message, mirror_message, numbered, retried};
 ghost use Rattle.wire_messages.specs.RaftBytes.{append_of, raft_message};
+ghost use Rattle.wire_messages.specs.ReadBytes.{read_message};
 ghost use Rattle.wire_messages.specs.TableBytes.{table_command, table_output};
 ghost use Rattle.wire_messages.specs.declared.client.Answer.TheVariants as answer;
 
@@ -70,6 +71,9 @@ pub fn worked_stacks()
     ensures mirror_fifo { AreMessagesOf stack.MirrorFifo kind.Peer (numbered mirror_message) }
     ensures lock_seq_retry { AreMessagesOf stack.LockSeqRetry kind.Peer (retried (numbered lock_message)) }
     ensures kv_pb_seq_retry { AreMessagesOf stack.KvPbSeqRetry kind.Peer (retried (numbered (backup_message kv_command))) }
+    ensures kv_raft_read { AreMessagesOf stack.KvRaftRead kind.Peer (read_message kv_command) }
+    ensures table_raft_read { AreMessagesOf stack.TableRaftRead kind.Peer (read_message table_command) }
+    ensures none_asked_of_nodes_with_reads { AreMessagesOf stack.KvRaftRead kind.Request (client_request kv_command) → ⊥ }
     ensures kv_raft { AreMessagesOf stack.KvRaft kind.Peer (raft_message kv_command) }
     ensures kv_requests { AreMessagesOf stack.KvRaft kind.Request (client_request kv_command) }
     ensures kv_replies { AreMessagesOf stack.KvRaft kind.Reply (client_reply kv_output) }
@@ -218,6 +222,8 @@ pub fn worked_headings()
     ensures mirror_fifo { stack_field.spell stack.MirrorFifo ≡ 9 ∷ [] }
     ensures lock_seq_retry { stack_field.spell stack.LockSeqRetry ≡ 10 ∷ [] }
     ensures kv_pb_seq_retry { stack_field.spell stack.KvPbSeqRetry ≡ 11 ∷ [] }
+    ensures kv_raft_read { stack_field.spell stack.KvRaftRead ≡ 13 ∷ [] }
+    ensures table_raft_read { stack_field.spell stack.TableRaftRead ≡ 14 ∷ [] }
     ensures a_machine_alone_has_none { (stack_field.Fits stack.Kv → ⊥) × (stack_field.Fits stack.Table → ⊥) }
     ensures no_stack_0 { stack_field.read (0 ∷ []) ≡ None }
     ensures no_stack_12 { stack_field.read (12 ∷ []) ≡ None }
@@ -250,6 +256,8 @@ pub fn refused_datagrams()
     ensures a_client_past_the_last { read_datagram (framed 5 1 255 0 requests_put) ≡ None }
     ensures a_request_for_a_mirror { read_datagram (framed 9 1 1 0 puts_a_as_packet_1) ≡ None }
     ensures a_request_where_packets_are_lost { read_datagram (framed 10 1 1 0 asks_as_data_1) ≡ None }
-    ensures a_twelfth_stack { read_datagram (framed 12 0 1 0 asks_for_a_vote) ≡ None }
+    ensures no_stack_of_byte_12 { read_datagram (framed 12 0 1 0 asks_for_a_vote) ≡ None }
+    ensures a_fifteenth_stack { read_datagram (framed 15 0 1 0 asks_for_a_vote) ≡ None }
+    ensures a_request_where_reads_take_no_entry { read_datagram (framed 13 1 1 0 requests_put) ≡ None }
     ensures a_machine_alone { read_datagram (framed 0 0 1 0 asks_for_a_vote) ≡ None }
 {}

@@ -48,6 +48,8 @@ fn read_stack(input: &mut Input<'_>) -> Option<StackId>
         9 => Some(StackId::MirrorFifo),
         10 => Some(StackId::LockSeqRetry),
         11 => Some(StackId::KvPbSeqRetry),
+        13 => Some(StackId::KvRaftRead),
+        14 => Some(StackId::TableRaftRead),
         _ => None,
     }
 }
@@ -109,6 +111,8 @@ pub fn stack_byte(stack: StackId) -> u8
         StackId::MirrorFifo => 9,
         StackId::LockSeqRetry => 10,
         StackId::KvPbSeqRetry => 11,
+        StackId::KvRaftRead => 13,
+        StackId::TableRaftRead => 14,
         StackId::Kv | StackId::Table => 0,
     }
 }

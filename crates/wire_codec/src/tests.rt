@@ -1,7 +1,7 @@
 use crate::{Datagram, Heading, Kind, decode, encode_into};
 use kv_machine::{KvCmd, KvOut};
 use lock_table::{TableCmd, TableOut};
-use raft_types::RaftMsg;
+use raft_types::{RaftMsg, ReadMsg};
 use std::alloc::{AllocError, Global};
 use std::process::Abort;
 use std::test::Fail;
@@ -86,6 +86,8 @@ fn put_peer_again(alloc: Global, datagram: &Datagram<'_>) -> Result<Option<Vec<u
         StackId::LockSeqRetry => put_again::<RetryMsg<SeqMsg<LockMsg>>>(alloc, datagram),
         StackId::KvPbSeqRetry => put_again::<RetryMsg<SeqMsg<PbMsg<KvCmd>>>>(alloc, datagram),
         StackId::KvRaft => put_again::<RaftMsg<KvCmd>>(alloc, datagram),
+        StackId::KvRaftRead => put_again::<ReadMsg<KvCmd>>(alloc, datagram),
+        StackId::TableRaftRead => put_again::<ReadMsg<TableCmd>>(alloc, datagram),
         StackId::TablePbSeq => put_again::<SeqMsg<PbMsg<TableCmd>>>(alloc, datagram),
         StackId::TableRaft => put_again::<RaftMsg<TableCmd>>(alloc, datagram),
         StackId::Kv | StackId::Table => Ok(None),
@@ -298,11 +300,11 @@ fn one_byte_changed(rt: HostRuntime) -> Result<(), Fail> {
     let alloc = rt.alloc();
     assert_eq!(rt;
         how_many_are_read(&rt, alloc, &mut { ASKS_FOR_A_VOTE })?,
-        8488
+        8490
     );
     assert_eq!(rt;
         how_many_are_read(&rt, alloc, &mut { GRANTS_A_VOTE })?,
-        6041
+        6043
     );
     assert_eq!(rt;
         how_many_are_read(&rt, alloc, &mut { ASKS_FOR_THE_LOCK })?,

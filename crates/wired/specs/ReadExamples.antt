@@ -21,16 +21,16 @@ use Rattle.wired.specs.Wiring.{no_name, wired}
 abbrev pub Reader : Type 0
 Reader = ReadView ℕ ℕ ℕ
 
--- nodes whose packets are bytes, under the byte of kv/raft
+-- nodes whose packets are bytes, under the byte of kv/raft/read
 abbrev pub wired_readers : ℕ → Meaning Reader (RaftInput ℕ) (RaftOut ℕ) (List ℕ)
-wired_readers nodes = wired (read_message any_number) stack.KvRaft no_name (counting nodes)
+wired_readers nodes = wired (read_message any_number) stack.KvRaftRead no_name (counting nodes)
 
 -- and that keep bytes
 abbrev pub reader_saving : ℕ → Saving (KeptView ℕ)
-reader_saving nodes = raft_saving stack.KvRaft any_number nodes no_name
+reader_saving nodes = raft_saving stack.KvRaftRead any_number nodes no_name
 
 abbrev pub saved_readers : ℕ → Meaning (Seated Reader) (RaftInput ℕ) (RaftOut ℕ) (List ℕ)
-saved_readers nodes = wired (read_message any_number) stack.KvRaft no_name (saved (counting nodes))
+saved_readers nodes = wired (read_message any_number) stack.KvRaftRead no_name (saved (counting nodes))
 
 abbrev pub readers_recovery : ℕ → Recovery (Seated Reader) (List ℕ)
 readers_recovery nodes = saved_recovery (reader_saving nodes) (counting nodes) (read_recovery nodes counter)
@@ -44,7 +44,7 @@ in_eight n = 0 ∷ 0 ∷ 0 ∷ 0 ∷ in_four n
 
 -- the packet of these bytes from one node to another
 abbrev pub between : ℕ → ℕ → List ℕ → List ℕ
-between from to body = 86 ∷ 2 ∷ 5 ∷ 0 ∷ from ∷ to ∷ (no_name ++ body)
+between from to body = 86 ∷ 2 ∷ 13 ∷ 0 ∷ from ∷ to ∷ (no_name ++ body)
 
 -- AppendEntries of term 1 with commit 1: the index and the term before the entries, the round, and the entries after their number
 abbrev pub entries_after : ℕ → ℕ → ℕ → List ℕ → List ℕ

@@ -11,9 +11,7 @@ ghost use Rattle.raft_xform.specs.Raft.{raft, raft_recovery};
 ghost use Rattle.retry_xform.specs.Retransmission.{retrying};
 ghost use Rattle.seqnum_xform.specs.Numbering.{sequence_numbered};
 ghost use Rattle.vst_base.specs.Machines.{MachineMeaning};
-ghost use Rattle.vst_base.specs.declared.stack.StackId.{StackId};
 ghost use Rattle.vst_base.specs.declared.stack.StackId.TheVariants as stack;
-ghost use Rattle.wire_codec.specs.Headings.{HasByte};
 ghost use Rattle.wire_messages.specs.KvBytes.{kv_command};
 ghost use Rattle.wire_messages.specs.PeerBytes.{backup_message, lock_message, mirror_message, numbered, retried};
 ghost use Rattle.wire_messages.specs.RaftBytes.{raft_message};
@@ -22,7 +20,6 @@ ghost use Rattle.wire_messages.specs.TableBytes.{table_command};
 ghost use Rattle.wired.specs.RaftSaving.{IsAsked, raft_saving};
 ghost use Rattle.wired.specs.Sending.{HasPut};
 ghost use Rattle.wired.specs.StackRuns.{RunsAsBytes, RunsOnBytesAlone};
-ghost use Rattle.wired.specs.WiredRuns.{IsFormatOf};
 
 use crate::runs_as_bytes;
 use fifo_xform::Fifo;
@@ -61,7 +58,7 @@ pub fn worked_stacks<S, O>()
 
 /// The stacks whose nodes stop and start again: on bytes alone, in packets and in what is kept, each refuses what it refuses with
 /// messages and states, and clients see the same. The commands that clients give are to have bytes, and the numbers of clients and
-/// requests eight at most. So it is where reads take no entry of the log, in each stack whose messages have rounds.
+/// requests eight at most.
 pub fn worked_cluster_stacks<S, O>()
     ensures kv_raft { (nodes : ℕ) (m : MachineMeaning S SpecKvCmd O) → IsClusterSize nodes
         → RunsOnBytesAlone (raft_message kv_command) stack.KvRaft (raft_saving stack.KvRaft kv_command nodes)
@@ -69,8 +66,10 @@ pub fn worked_cluster_stacks<S, O>()
     ensures table_raft { (nodes : ℕ) (m : MachineMeaning S SpecTableCmd O) → IsClusterSize nodes
         → RunsOnBytesAlone (raft_message table_command) stack.TableRaft (raft_saving stack.TableRaft table_command nodes)
         (IsAsked table_command) (raft nodes m) (raft_recovery m) }
-    ensures kv_reads { (stack : StackId) (nodes : ℕ) (m : MachineMeaning S SpecKvCmd O) (is_read : SpecKvCmd → Bool) → HasByte stack
-        → IsFormatOf stack (read_message kv_command) → IsClusterSize nodes
-        → RunsOnBytesAlone (read_message kv_command) stack (raft_saving stack kv_command nodes)
+    ensures kv_raft_read { (nodes : ℕ) (m : MachineMeaning S SpecKvCmd O) (is_read : SpecKvCmd → Bool) → IsClusterSize nodes
+        → RunsOnBytesAlone (read_message kv_command) stack.KvRaftRead (raft_saving stack.KvRaftRead kv_command nodes)
         (IsAsked kv_command) (read_raft nodes m is_read) (read_recovery nodes m) }
+    ensures table_raft_read { (nodes : ℕ) (m : MachineMeaning S SpecTableCmd O) (is_read : SpecTableCmd → Bool) → IsClusterSize nodes
+        → RunsOnBytesAlone (read_message table_command) stack.TableRaftRead (raft_saving stack.TableRaftRead table_command nodes)
+        (IsAsked table_command) (read_raft nodes m is_read) (read_recovery nodes m) }
 {}

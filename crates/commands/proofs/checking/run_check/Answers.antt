@@ -1,10 +1,10 @@
-use Rattle.std.proofs.Common.{Err, ap, refl, rules, arith}
+use Rattle.std.proofs.Common.{Err, ap, refl, arith}
 use Rattle.command_line.specs.declared.command.Command.TheVariants as command
 use Rattle.commands.specs.Seen.{ran}
 use Rattle.commands.specs.declared.complaint.Complaint.TheVariants as complaint
 use Rattle.commands.proofs.Answering.{complained, wanted_memory}
 use Rattle.commands.proofs.Complained.{memory-told, none-hidden, read-told, unwritten}
-use Rattle.commands.proofs.Endings.{claim-broke, claim-cause, claim-refused, denied-cause, permitted-front}
+use Rattle.commands.proofs.Endings.{claim-broke, claim-cause, claim-denied, claim-refused, denied-cause, permitted-front}
 use Rattle.commands.proofs.checking.run_check.Goals as goal
 
 pub returns-in-Err-Memory-write_all : goal.returns-in-Err-Memory-write_all
@@ -26,7 +26,7 @@ returns-in-Ok-No g c =
     complained (command.Check c.args.stack) (complaint.Condition found.condition found.line) run _ c.tell-in-Ok-No.ensures.told
     (denied-cause c.args.stack run found.condition found.line told) hides (unwritten _ run tt refl)
     (record { reads = c.check.ensures.counts; writes = omega arith; complains = c.tell-in-Ok-No.ensures.counts })
-    (λ line kept. search rules)
+    (λ line kept. claim-denied c.args.stack run found.condition found.line (c.permitted_claims_are_explained.ensures.refuted c.args.stack) told unread refl line kept)
 
 pub returns-in-Err-Read : goal.returns-in-Err-Read
 returns-in-Err-Read g c =

@@ -1,4 +1,5 @@
 use Rattle.made_schedules.proofs.RaftSends.{raft-few}
+use Rattle.made_schedules.proofs.ReadsMake.{read-few}
 use Rattle.made_schedules.proofs.Sends.{backup-few, fifo-few, lock-few, mirror-few, numbered-few, retried-few}
 use Rattle.made_schedules.proofs.few.events_send_few.Goals as goal
 
@@ -22,3 +23,6 @@ returns-clause-ordered g c = λ most m few. fifo-few most m few
 
 pub returns-clause-retried : goal.returns-clause-retried
 returns-clause-retried g c = λ most m few. retried-few most m few
+
+pub returns-clause-reads : goal.returns-clause-reads
+returns-clause-reads g c = λ nodes m is_read most. read-few nodes m is_read most

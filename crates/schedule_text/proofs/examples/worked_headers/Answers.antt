@@ -26,3 +26,7 @@ returns-clause-fifo_text c = refl
 pub returns-clause-retried_text : goal.returns-clause-retried_text
 unfolding digits
 returns-clause-retried_text c = refl
+
+pub returns-clause-reading_text : goal.returns-clause-reading_text
+unfolding digits
+returns-clause-reading_text c = refl

@@ -38,3 +38,11 @@ returns-clause-a_table c = simp lookups
 pub returns-clause-both_told_yes : goal.returns-clause-both_told_yes
 unfolding digits
 returns-clause-both_told_yes c = simp lookups
+
+pub returns-clause-a_read_without_an_entry : goal.returns-clause-a_read_without_an_entry
+unfolding digits
+returns-clause-a_read_without_an_entry c = simp lookups
+
+pub returns-clause-a_stale_read : goal.returns-clause-a_stale_read
+unfolding digits
+returns-clause-a_stale_read c = simp lookups

@@ -66,3 +66,12 @@ returns-clause-not_of_the_other_machine c = λ h. cc (h requests_put, asks_of_a_
 
 pub returns-clause-none_asked_of_primary_backup : goal.returns-clause-none_asked_of_primary_backup
 returns-clause-none_asked_of_primary_backup c = λ h. cc (h requests_put, asks_of_a_store)
+
+pub returns-clause-kv_raft_read : goal.returns-clause-kv_raft_read
+returns-clause-kv_raft_read c = λ bytes. refl
+
+pub returns-clause-table_raft_read : goal.returns-clause-table_raft_read
+returns-clause-table_raft_read c = λ bytes. refl
+
+pub returns-clause-none_asked_of_nodes_with_reads : goal.returns-clause-none_asked_of_nodes_with_reads
+returns-clause-none_asked_of_nodes_with_reads c = λ h. cc (h requests_put, asks_of_a_store)

@@ -14,5 +14,8 @@ returns-clause-kv_raft g c = λ nodes m size. raft_alone kv_command kv_command_i
 pub returns-clause-table_raft : goal.returns-clause-table_raft
 returns-clause-table_raft g c = λ nodes m size. raft_alone table_command table_command_is_format table_length stack.TableRaft tt nodes size m (λ bytes. refl)
 
-pub returns-clause-kv_reads : goal.returns-clause-kv_reads
-returns-clause-kv_reads g c = λ stack nodes m is_read has is size. readers_alone kv_command kv_command_is_format kv_length stack has nodes size m is_read is
+pub returns-clause-kv_raft_read : goal.returns-clause-kv_raft_read
+returns-clause-kv_raft_read g c = λ nodes m is_read size. readers_alone kv_command kv_command_is_format kv_length stack.KvRaftRead tt nodes size m is_read (λ bytes. refl)
+
+pub returns-clause-table_raft_read : goal.returns-clause-table_raft_read
+returns-clause-table_raft_read g c = λ nodes m is_read size. readers_alone table_command table_command_is_format table_length stack.TableRaftRead tt nodes size m is_read (λ bytes. refl)

@@ -1,0 +1,4 @@
+pub mod Names
+pub mod TrailDisks
+pub mod NodeTrails
+pub mod Examples

@@ -1,0 +1,4 @@
+pub mod Lives
+pub mod LifeDeeds
+pub mod LifeLaws
+pub mod Examples
